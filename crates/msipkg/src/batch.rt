@@ -1,6 +1,6 @@
 //! `batch`: commands of a text, a line each.
 
-use crate::commands::run;
+use crate::commands::{run, unwritten_status};
 use msipkg_output::{Output, System};
 use msipkg_words::words_of;
 use std::io;
@@ -20,8 +20,13 @@ fn run_text(rt: HostRuntime, text: &str) -> u8 {
     let system = System {
         rt,
         is_shown: false,
+        input: None,
     };
-    run_each(&system, text, &mut Output::to_output(rt)).unwrap_or(1)
+    let mut output = Output::to_output(rt);
+    match run_each(&system, text, &mut output) {
+        Ok(status) => status,
+        Err(_) => unwritten_status(&output),
+    }
 }
 
 /// Runs the commands of a text, until the output fails.

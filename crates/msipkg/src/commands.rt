@@ -11,8 +11,12 @@ use msipkg_packages::{PackageFile, Purpose};
 use msipkg_texts::{Shown, Style};
 use msipkg_words::{Verb, matches_of, verb_named};
 
+/// The exit status where the reader of the output has gone away: that of a program which the signal for it ended.
+const CLOSED: u8 = 141;
+
 /// Runs a command over its arguments. What it prints is written when this returns. Returns the exit status: 0 on
-/// success; 1 on an error, which is written to `errors`; 2 with a hint there, if the arguments match no command.
+/// success; 1 on an error, which is written to `errors`; 2 with a hint there, if the arguments match no command; and
+/// 141 without a word if the reader of the output has gone away.
 pub(crate) fn run(
     rt: &System,
     words: &[String],
@@ -35,8 +39,13 @@ fn show_parse(error: &clap::Error, output: &mut Output, errors: &mut Output) -> 
     write!(output, "{error}");
     match output.end() {
         Ok(()) => 0,
-        Err(_) => 1,
+        Err(_) => unwritten_status(output),
     }
+}
+
+/// The exit status where the output couldn't be written.
+pub(crate) fn unwritten_status(output: &Output) -> u8 {
+    if output.is_closed() { CLOSED } else { 1 }
 }
 
 /// The exit status for words that gave no command: memory may have run out, too.
@@ -60,6 +69,7 @@ fn run_matched(
     };
     match carry_out(rt, &asked, output, errors) {
         Ok(is_well) => u8::from(!is_well),
+        Err(_) if output.is_closed() => CLOSED,
         Err(failure) => {
             report(asked.file(), &failure, errors);
             failure_status(asked.verb)
@@ -191,6 +201,27 @@ fn obey(
         changing::change(rt, asked, output, errors)?;
         return Ok(true);
     }
+    look_or_compare(&with_input(rt, asked)?, asked, output, errors)
+}
+
+/// The system for a command that looks at packages: in one that names `-`, standard input is read.
+fn with_input(rt: &System, asked: &Asked<'_, '_>) -> Result<System, Failure> {
+    let has_input = |id: &str| asked.texts(id).contains(&"-");
+    let is_named = has_input("FILE") || has_input("OTHER") || is_each(asked) && has_input("TABLE");
+    if is_named {
+        Ok(rt.with_input()?)
+    } else {
+        Ok(*rt)
+    }
+}
+
+/// Prints what is asked for, and returns whether all is well.
+fn look_or_compare(
+    rt: &System,
+    asked: &Asked<'_, '_>,
+    output: &mut Output,
+    errors: &mut Output,
+) -> Result<bool, Failure> {
     match asked.verb {
         Verb::Info | Verb::Check => Ok(print_each(rt, asked, output, errors)),
         Verb::Export if is_each(asked) => Ok(print_each(rt, asked, output, errors)),

@@ -30,11 +30,11 @@ pub(crate) fn export_asked(
     export(rt, file, asked.texts("TABLE"), &target, output, errors)
 }
 
-/// What an export goes to.
+/// What an export goes to: `-` is the output.
 fn target_of<'a>(asked: &Asked<'a, '_>) -> Target<'a> {
     Target {
         format: FileFormat::of_name(asked.text("format")).unwrap_or(FileFormat::Json),
-        path: asked.given.get_str("output"),
+        path: asked.given.get_str("output").filter(|path| *path != "-"),
         is_forced: asked.given.get_flag("force"),
         style: asked.style,
     }

@@ -35,6 +35,7 @@ fn run_command(rt: HostRuntime, arguments: &[String]) -> u8 {
     let system = System {
         rt,
         is_shown: rt.stderr().is_terminal(),
+        input: None,
     };
     commands::run(
         &system,

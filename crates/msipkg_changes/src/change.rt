@@ -11,7 +11,7 @@ use crate::streams::{add_streams, remove_parts};
 use crate::validation::Before;
 use msipkg_packages::msi::Package;
 use msipkg_packages::output::{Failure, Opened, Output, System};
-use msipkg_packages::{FileState, PackageFile, open_to_change};
+use msipkg_packages::{Claim, FileState, PackageFile, open_to_change};
 use msipkg_texts::Style;
 use std::alloc::Global;
 
@@ -52,13 +52,13 @@ pub struct Manner {
     pub style: Style,
 }
 
-/// Changes the package of a file: all of the change, or none of it. Statements are read before the file is. `notes`
-/// gets lines that say what else the change does to the file, and then what each statement did; as JSON that goes to
-/// `output`.
+/// Changes the package of a file: all of the change, or none of it. Statements are read before the file is, and it is
+/// locked from before it is read until it is replaced. `notes` gets lines that say what else the change does to the
+/// file, and then what each statement did; as JSON that goes to `output`.
 ///
 /// # Errors
-/// Fails at the first text that is no statement, and as `open_package`, the change, `bytes_to_write` and the calls of
-/// the system do. Then the file is as it was.
+/// Fails at the first text that is no statement, and as `Claim::take`, `open_package`, the change, `bytes_to_write` and
+/// the calls of the system do. Then the file is as it was.
 pub fn change_file(
     rt: &System,
     file: &PackageFile<'_>,
@@ -68,9 +68,10 @@ pub fn change_file(
     notes: &mut Output,
 ) -> Result<(), Failure> {
     check_words(rt.alloc(), change)?;
+    let claim = Claim::take(rt, file.path)?;
     let mut outcome = Outcome::new(rt.alloc());
     let (package, state) = changed_package(rt, file, change, manner, &mut outcome, notes)?;
-    store(rt, file.path, package, state, manner, notes)?;
+    store(rt, file.path, &claim, package, state, manner, notes)?;
     outcome.note_mended(file.path, notes);
     if manner.is_json {
         outcome.print(rt.alloc(), manner.style, file.path, output);

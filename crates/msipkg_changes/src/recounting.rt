@@ -6,7 +6,7 @@ use crate::pages::recode;
 use crate::storing::store;
 use msipkg_packages::msi::{ErrorKind, Package};
 use msipkg_packages::output::{Failure, Opened, Output, System};
-use msipkg_packages::{PackageFile, open_to_change};
+use msipkg_packages::{Claim, PackageFile, open_to_change};
 
 /// A table that is never dropped: the package says so, unless its counts are too low, which it says first.
 const KEPT_TABLE: &str = "_Tables";
@@ -15,14 +15,15 @@ const KEPT_TABLE: &str = "_Tables";
 /// says how many.
 ///
 /// # Errors
-/// Fails as `open_package`, `Package::recount`, `bytes_to_write` and the calls of the system do. Then the file is as it
-/// was.
+/// Fails as `Claim::take`, `open_package`, `Package::recount`, `bytes_to_write` and the calls of the system do. Then the
+/// file is as it was.
 pub fn mend_counts(
     rt: &System,
     file: &PackageFile<'_>,
     manner: Manner,
     notes: &mut Output,
 ) -> Result<(), Failure> {
+    let claim = Claim::take(rt, file.path)?;
     let mut outcome = Outcome::new(rt.alloc());
     let (mut package, state) = open_to_change(rt, file, notes)?;
     match package.recount()? {
@@ -30,7 +31,7 @@ pub fn mend_counts(
         changed => {
             outcome.add_mended(changed);
             recode(&mut package, file.purpose, manner, &mut outcome)?;
-            store(rt, file.path, package, state, manner, notes)?;
+            store(rt, file.path, &claim, package, state, manner, notes)?;
             outcome.note_mended(file.path, notes);
             Ok(())
         }

@@ -5,13 +5,14 @@ use crate::lost_texts::refusal;
 use msipkg_packages::msi::Package;
 use msipkg_packages::output::{Failure, Opened, Output, System};
 use msipkg_packages::{
-    FileBytes, FileState, bytes_to_write, named_page, replace_package, verified,
+    Claim, FileBytes, FileState, bytes_to_write, named_page, replace_package, verified,
 };
 use msipkg_texts::Shown;
 use std::alloc::Global;
 
 /// Replaces a file by a package that was changed, and leaves the file alone if nothing was. If a package that was
-/// changed is signed, `errors` gets a line that says that the signature is no longer valid.
+/// changed is signed, `errors` gets a line that says that the signature is no longer valid, and one if the file has
+/// other names, which keep the old package.
 ///
 /// # Errors
 /// Fails as `bytes_to_write` does, at the place of a text that its page can't hold, and as `verified` and the calls of
@@ -19,6 +20,7 @@ use std::alloc::Global;
 pub(crate) fn store(
     rt: &System,
     file: &str,
+    claim: &Claim,
     package: Package<Opened>,
     state: FileState,
     manner: Manner,
@@ -28,7 +30,8 @@ pub(crate) fn store(
     let Some(bytes) = new_bytes(rt.alloc(), package, state)? else {
         return Ok(());
     };
-    replace_by(rt, file, bytes, state, manner, errors)?;
+    replace_by(rt, file, claim, bytes, state, manner, errors)?;
+    claim.note_names(file, errors);
     if is_signed {
         note(file, "its digital signature is no longer valid", errors);
     }
@@ -51,6 +54,7 @@ fn new_bytes(
 fn replace_by(
     rt: &System,
     file: &str,
+    claim: &Claim,
     bytes: FileBytes,
     state: FileState,
     manner: Manner,
@@ -64,7 +68,7 @@ fn replace_by(
     if state.has_page_zero && !matches!(named_page(rt.alloc(), &bytes)?, Some(0)) {
         note(file, "page 0 becomes page 65001, which is UTF-8", errors);
     }
-    replace_package(rt, file, &bytes)
+    replace_package(rt, claim, &bytes)
 }
 
 /// Writes a line about a file.

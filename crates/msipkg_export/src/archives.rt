@@ -9,7 +9,7 @@ use crate::other_archives::{
 use crate::table_archives::{StreamFile, TableArchive};
 use msipkg_packages::msi::{Package, Table};
 use msipkg_packages::output::{Failure, Opened, Output, System, at_file};
-use msipkg_packages::{Folder, chosen_tables, open_new, settle};
+use msipkg_packages::{Folder, chosen_tables, open_new};
 use msipkg_texts::{Ending, SafeName, SafeNames, safe_name};
 use std::alloc::{AllocError, Global};
 use std::collections::BTreeSet;
@@ -68,9 +68,36 @@ pub(crate) fn export_archives(
     folder: &Folder<'_>,
 ) -> Result<(), Failure> {
     let tables = chosen_tables(rt.alloc(), package, names, false)?;
+    check_archives(rt, tables.as_slice(), folder)?;
+    if names.is_empty() {
+        check_others(rt, folder)?;
+    }
     make_folder(rt, folder.path)?;
     let mut exported = Exported::new(rt.alloc())?;
     export_chosen(rt, package, names, tables.as_slice(), folder, &mut exported)
+}
+
+/// Fails if something is in the way of a table's archive.
+fn check_archives(rt: &System, tables: &[&Table], folder: &Folder<'_>) -> Result<(), Failure> {
+    let mut exported = Exported::new(rt.alloc())?;
+    for table in tables {
+        let name = exported.given.give(table.name())?;
+        folder.check(rt, &name.with_ending(Ending::Idt)?)?;
+    }
+    Ok(())
+}
+
+/// Fails if something is in the way of the archives of the code page and the summary.
+fn check_others(rt: &System, folder: &Folder<'_>) -> Result<(), Failure> {
+    for archive in [PAGE, SUMMARY] {
+        folder.check(rt, &archive_name(rt.alloc(), archive)?)?;
+    }
+    Ok(())
+}
+
+/// The name of the file of an archive that is no table's.
+fn archive_name(alloc: Global, archive: &str) -> Result<SafeName, AllocError> {
+    safe_name(alloc, archive)?.with_ending(Ending::Idt)
 }
 
 /// Writes the tables that are chosen by these names, and what isn't in a table where there is no name.
@@ -152,11 +179,10 @@ fn write_file(
     path: &str,
     is_forced: bool,
 ) -> Result<(), Failure> {
-    let (made, new) = open_new(rt, path, is_forced)?;
-    let mut output = Output::to_file(rt.alloc(), new);
+    let (new, bytes) = open_new(rt, path, is_forced)?;
+    let mut output = Output::to_file(rt.alloc(), bytes);
     let written = write_synced(archive, &mut output);
-    drop(output);
-    settle(rt, written, made.as_str(), path)
+    new.settle(rt, written, path)
 }
 
 /// Writes the archive of a table, and waits until the disk has it.
@@ -219,7 +245,7 @@ fn write_text(
     text: &StoredText,
     folder: &Folder<'_>,
 ) -> Result<(), Failure> {
-    let name = safe_name(rt.alloc(), archive)?.with_ending(Ending::Idt)?;
+    let name = archive_name(rt.alloc(), archive)?;
     match text.encoded(rt.alloc()) {
         Ok(bytes) => folder.write(rt, &name, bytes.as_slice()),
         Err(error) => at_file(rt.alloc(), name.as_str(), Err(Failure::from(error))),

@@ -4,16 +4,16 @@ use crate::exporting::BARE;
 use crate::folders::make_folder;
 use msipkg_packages::msi::{Package, Rows, Table};
 use msipkg_packages::output::{Failure, Opened, Output, RowFormat, System, at_file, write_rows};
-use msipkg_packages::{Folder, chosen_tables, open_new, rows_of, settle};
-use msipkg_texts::{Ending, SafeNames, Style};
+use msipkg_packages::{Folder, chosen_tables, open_new, rows_of};
+use msipkg_texts::{Ending, SafeName, SafeNames, Style};
 use std::alloc::{AllocError, Global};
 
 /// Writes each of the tables to a file of a folder, which is named after the table. The folder is made where it isn't
 /// there.
 ///
 /// # Errors
-/// Fails if a table isn't there or can't be read, if a file is there already and isn't to be replaced, and as the calls
-/// of the system do. The files of earlier tables stay.
+/// Fails if a table isn't there, or if a file is there already and isn't to be replaced, and then nothing is written; if
+/// a table can't be read, and as the calls of the system do. The files of earlier tables stay.
 pub(crate) fn export_csv(
     rt: &System,
     package: &Package<Opened>,
@@ -24,17 +24,27 @@ pub(crate) fn export_csv(
     export_tables(rt, package, tables.as_slice(), folder)
 }
 
-/// Makes the folder, and writes tables to files of it.
+/// Makes the folder, and writes tables to files of it, if nothing is in the way of one.
 fn export_tables(
     rt: &System,
     package: &Package<Opened>,
     tables: &[&Table],
     folder: &Folder<'_>,
 ) -> Result<(), Failure> {
+    check_files(rt, tables, folder)?;
     make_folder(rt, folder.path)?;
     let mut given = SafeNames::new(rt.alloc());
     for table in tables {
         export_table(rt, package, table, folder, &mut given)?;
+    }
+    Ok(())
+}
+
+/// Fails if something is in the way of a table's file.
+fn check_files(rt: &System, tables: &[&Table], folder: &Folder<'_>) -> Result<(), Failure> {
+    let mut given = SafeNames::new(rt.alloc());
+    for table in tables {
+        folder.check(rt, &file_name(table, &mut given)?)?;
     }
     Ok(())
 }
@@ -48,29 +58,22 @@ fn export_table(
     given: &mut SafeNames,
 ) -> Result<(), Failure> {
     let rows = rows_of(rt.alloc(), package, table.name())?;
-    let path = file_path(rt.alloc(), table, folder, given)?;
+    let path = folder.path_of(rt.alloc(), &file_name(table, given)?)?;
     let written = write_file(rt, path.as_str(), folder.is_forced, rows);
     at_file(rt.alloc(), path.as_str(), written)
 }
 
-/// The path of a table's file.
-fn file_path(
-    alloc: Global,
-    table: &Table,
-    folder: &Folder<'_>,
-    given: &mut SafeNames,
-) -> Result<String, AllocError> {
-    let name = given.give(table.name())?.with_ending(Ending::Csv)?;
-    folder.path_of(alloc, &name)
+/// The name of a table's file.
+fn file_name(table: &Table, given: &mut SafeNames) -> Result<SafeName, AllocError> {
+    given.give(table.name())?.with_ending(Ending::Csv)
 }
 
 /// Writes rows to a file, piece by piece.
 fn write_file(rt: &System, path: &str, is_forced: bool, rows: Rows<'_>) -> Result<(), Failure> {
-    let (made, new) = open_new(rt, path, is_forced)?;
-    let mut output = Output::to_file(rt.alloc(), new);
+    let (new, bytes) = open_new(rt, path, is_forced)?;
+    let mut output = Output::to_file(rt.alloc(), bytes);
     let written = write_synced(rt.alloc(), rows, &mut output);
-    drop(output);
-    settle(rt, written, made.as_str(), path)
+    new.settle(rt, written, path)
 }
 
 /// Writes rows to a file, and waits until the disk has them.

@@ -7,7 +7,7 @@ use crate::table_archives::print_archive;
 use msipkg_packages::msi::{Package, Table};
 use msipkg_packages::output::{Failure, Opened, Output, System, at_file};
 use msipkg_packages::{
-    Folder, PackageFile, is_list, open_new, open_package, rows_of, settle, table_named,
+    Folder, PackageFile, is_list, open_output, open_package, rows_of, table_named,
 };
 use msipkg_texts::{Shown, Style};
 use std::alloc::Global;
@@ -161,11 +161,10 @@ fn write_json(
     names: &[&str],
     target: &Folder<'_>,
 ) -> Result<(), Failure> {
-    let (made, new) = open_new(rt, target.path, target.is_forced)?;
-    let mut output = Output::to_file(rt.alloc(), new);
+    let (new, bytes) = open_output(rt, target.path, target.is_forced)?;
+    let mut output = Output::to_file(rt.alloc(), bytes);
     let written = write_synced(rt.alloc(), file, package, names, &mut output);
-    drop(output);
-    settle(rt, written, made.as_str(), target.path)
+    new.settle(rt, written, target.path)
 }
 
 /// Writes a package as JSON to a file, and waits until the disk has it.

@@ -1,5 +1,6 @@
 //! Packages with texts in a page that packages aren't read in: they are recoded to UTF-8 first.
 
+use crate::kinds::check_kind;
 use crate::named_pages::{NamedPages, database_page, has_utf8_texts};
 use msi_container::compound::{self, Contents, StreamMap};
 use msi_recode::{TextPage, recode_contents};
@@ -97,11 +98,13 @@ impl Recoded {
 }
 
 /// Returns a package's bytes with its texts in UTF-8 if a page is given and the package has texts to be recoded. Such a
-/// package isn't tried as it is, since it would be read as UTF-8, in which no bytes are refused.
+/// package isn't tried as it is, since it would be read as UTF-8, in which no bytes are refused. What no package can be
+/// is refused here, before it is opened.
 ///
 /// # Errors
-/// Fails as `recode_file` does.
+/// Fails as `check_kind` and `recode_file` do.
 pub fn recoded_by_page(rt: &System, file: &PackageFile<'_>) -> Result<Option<Recoded>, Failure> {
+    check_kind(rt, file.path)?;
     match file.page {
         Some(_) => recode_file(rt, file),
         None => Ok(None),

@@ -4,9 +4,15 @@
 use msipkg_packages::msi::Package;
 use msipkg_packages::output::{Failure, Opened, Output, System};
 use msipkg_packages::{Folder, StoredStreams, stored_streams, stream_bytes};
-use msipkg_texts::{SafeNames, Shown};
+use msipkg_texts::{SafeNames, Shown, Style};
 use std::collections::BTreeSet;
 use std::fs;
+
+/// The refusal of several streams on standard output.
+const SEVERAL: &str = "one stream goes to standard output: name it, or give a folder";
+
+/// The refusal of a stream on a terminal.
+const TERMINAL: &str = "the bytes of a stream aren't printed on a terminal";
 
 /// What streams are taken from, and where their files go.
 #[derive(Clone, Copy)]
@@ -15,6 +21,8 @@ struct Extraction<'a> {
     package: &'a Package<Opened>,
     stored: Option<&'a StoredStreams>,
     folder: Folder<'a>,
+    /// Whether nothing is written, and it is only looked whether all could be.
+    is_trial: bool,
 }
 
 /// Writes streams of a file's package to files of a folder, or all streams where none is named. Where a stream's name
@@ -22,8 +30,8 @@ struct Extraction<'a> {
 /// named twice is written once.
 ///
 /// # Errors
-/// Fails if a stream that is named isn't there, if a file is there already and isn't to be replaced, and as the calls
-/// of the system do. The files of earlier streams stay.
+/// Fails if a stream that is named isn't there, and if a file is there already and isn't to be replaced, and then
+/// nothing is written; and as the calls of the system do. The files of earlier streams stay.
 pub(crate) fn extract_streams(
     rt: &System,
     file: &str,
@@ -36,7 +44,35 @@ pub(crate) fn extract_streams(
     extract(rt, package, streams.as_ref(), folder, names, notes)
 }
 
-/// Makes the folder, and writes streams to it.
+/// Prints the bytes of the one stream that is named.
+///
+/// # Errors
+/// Fails if it isn't one that is named, if the stream isn't there, and on a terminal.
+pub(crate) fn print_stream(
+    rt: &System,
+    style: Style,
+    file: &str,
+    package: &Package<Opened>,
+    names: &[&str],
+    output: &mut Output,
+) -> Result<(), Failure> {
+    let [name] = names else {
+        return Err(Failure::rule(SEVERAL));
+    };
+    if style.is_terminal {
+        return Err(Failure::rule(TERMINAL));
+    }
+    let streams = stored_streams(rt, file, package)?;
+    match stream_bytes(package, streams.as_ref(), name) {
+        Ok(bytes) => {
+            output.push_bytes(bytes);
+            Ok(())
+        }
+        Err(error) => Err(Failure::from(error).at(rt.alloc(), "stream", name)),
+    }
+}
+
+/// Makes the folder, and writes streams to it, if all of them can be.
 fn extract<'a>(
     rt: &'a System,
     package: &'a Package<Opened>,
@@ -45,18 +81,30 @@ fn extract<'a>(
     names: &[&str],
     notes: &mut Output,
 ) -> Result<(), Failure> {
-    fs::create_dir_all(&rt.rt, folder.path)?;
-    let extraction = Extraction {
+    let mut extraction = Extraction {
         rt,
         package,
         stored,
         folder,
+        is_trial: true,
     };
-    let mut given = SafeNames::new(rt.alloc());
+    extract_chosen(&extraction, names, notes)?;
+    fs::create_dir_all(&rt.rt, folder.path)?;
+    extraction.is_trial = false;
+    extract_chosen(&extraction, names, notes)
+}
+
+/// Writes the streams of these names, or all where there is none.
+fn extract_chosen(
+    extraction: &Extraction<'_>,
+    names: &[&str],
+    notes: &mut Output,
+) -> Result<(), Failure> {
+    let mut given = SafeNames::new(extraction.rt.alloc());
     if names.is_empty() {
-        extract_all(&extraction, &mut given, notes)
+        extract_all(extraction, &mut given, notes)
     } else {
-        extract_named(&extraction, names, &mut given, notes)
+        extract_named(extraction, names, &mut given, notes)
     }
 }
 
@@ -88,7 +136,7 @@ fn extract_named(
     Ok(())
 }
 
-/// Writes a stream.
+/// Writes a stream, or looks whether that can be done.
 fn extract_one(
     extraction: &Extraction<'_>,
     name: &str,
@@ -97,6 +145,9 @@ fn extract_one(
 ) -> Result<(), Failure> {
     let bytes = bytes_of(extraction, name)?;
     let safe = given.give(name)?;
+    if extraction.is_trial {
+        return extraction.folder.check(extraction.rt, &safe);
+    }
     note_file(name, safe.as_str(), notes);
     extraction.folder.write(extraction.rt, &safe, bytes)
 }

@@ -1,6 +1,6 @@
 //! The commands that look at a package: each is lent the one that is opened here.
 
-use crate::extract::extract_streams;
+use crate::extract::{extract_streams, print_stream};
 use crate::info::print_info;
 use crate::query::{Format, check_query, print_query};
 use crate::schema::{Form, print_schema};
@@ -34,7 +34,7 @@ pub enum Look<'a, 'b> {
     },
     /// Its streams.
     Streams,
-    /// The streams of these names, or all where there is none, which go to files of a folder.
+    /// The streams of these names, or all where there is none, which go to files of a folder, or one to the output.
     Extract {
         names: &'b [&'a str],
         folder: Folder<'a>,
@@ -86,6 +86,9 @@ fn print_or_write(
     match look {
         Look::Info { is_json } => print_info(rt, style, file, package, is_json, output),
         Look::Streams => print_streams(rt, style, file, package, output),
+        Look::Extract { names, folder } if folder.is_output() => {
+            print_stream(rt, style, file, package, names, output)
+        }
         Look::Extract { names, folder } => extract_streams(rt, file, package, names, folder, notes),
         _ => print_parts(rt.alloc(), style, file, package, look, output),
     }

@@ -16,7 +16,7 @@ pub mod values;
 pub use columns::{ColumnTypeText, put_columns};
 pub use failure::{Cause, Failure, at_file, failure_json};
 pub use json_rows::JsonRow;
-pub use msipkg_system::{Carrier, Opened, Origin, Output, System, SystemFile, path_in};
+pub use msipkg_system::{Carrier, Identity, Opened, Origin, Output, System, SystemFile, path_in};
 pub use pages::Pages;
 pub use properties::PROPERTIES;
 pub use rows::{RowFormat, write_rows};

@@ -8,7 +8,7 @@ ghost use Rattle.msi.specs.Steps.{image_of};
 use crate::reasons;
 use msi::{Error, ErrorKind, Memory, Package};
 use msipkg_files::output::{Failure, Opened, System};
-use msipkg_files::{page_in, replace_file, write_file};
+use msipkg_files::{Claim, page_in, replace_file, write_file};
 use std::alloc::Global;
 use std::marker::Model;
 
@@ -103,12 +103,12 @@ fn unopened(error: Error) -> Failure {
     }
 }
 
-/// Replaces the file of a package, as `replace_file` does.
+/// Replaces the file of a package that is claimed, as `replace_file` does.
 ///
 /// # Errors
 /// Fails as `replace_file` does. Then the old file is as it was.
-pub fn replace_package(rt: &System, path: &str, bytes: &FileBytes) -> Result<(), Failure> {
-    replace_file(rt, path, bytes.bytes.as_slice())
+pub fn replace_package(rt: &System, claim: &Claim, bytes: &FileBytes) -> Result<(), Failure> {
+    replace_file(rt, claim, bytes.bytes.as_slice())
 }
 
 /// Makes the file of a package, as `write_file` does.

@@ -14,7 +14,10 @@ pub use file_bytes::{
     FileBytes, bytes_to_write, named_page, replace_package, verified, write_package,
 };
 pub use msi;
-pub use msipkg_files::{Folder, PackageFile, Purpose, file_page, open_new, output, settle};
+pub use msipkg_files::{
+    Claim, Folder, NewFile, PackageFile, Purpose, check_kind, check_way, file_page, open_new,
+    open_output, output,
+};
 pub use opening::{FileState, kind_name, new_package, open_package, open_to_change};
 pub use stored::{StoredStreams, stored_streams, stream_bytes};
 pub use summary_texts::{property_text, uuid_text};

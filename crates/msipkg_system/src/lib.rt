@@ -2,10 +2,12 @@
 #![tactic(auto)]
 
 pub mod carrier;
+pub mod identity;
 mod meter;
 pub mod output;
 pub mod system;
 
 pub use carrier::{Carrier, Opened, Origin};
+pub use identity::Identity;
 pub use output::Output;
 pub use system::{System, SystemFile, path_in};

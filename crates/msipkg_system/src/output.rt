@@ -3,7 +3,7 @@
 use crate::system::SystemFile;
 use std::alloc::{AllocError, Global};
 use std::fmt::Display;
-use std::io::{self, Write};
+use std::io::{self, ErrorKind, Write};
 use std::mem;
 use std::rt::{Stderr, Stdout};
 
@@ -30,6 +30,8 @@ pub struct Output {
     bytes: Vec<u8>,
     sink: Sink,
     failure: Option<io::Error>,
+    /// Whether the reader of standard output has gone away.
+    is_closed: bool,
 }
 
 /// Written out, so that a function that owns one calls one drop, and its proof doesn't go through those of the parts.
@@ -39,6 +41,7 @@ impl Drop for Output {
             bytes: _,
             sink: _,
             failure: _,
+            is_closed: _,
         } = self;
     }
 }
@@ -49,6 +52,7 @@ impl Output {
             bytes: Vec::new(alloc),
             sink,
             failure: None,
+            is_closed: false,
         }
     }
 
@@ -101,6 +105,11 @@ impl Output {
         self.failure.is_some()
     }
 
+    /// Returns whether the reader of standard output has gone away, as `head` does.
+    pub fn is_closed(&self) -> bool {
+        self.is_closed
+    }
+
     /// Returns what was printed and isn't written: all of it, if it is printed to memory.
     pub fn as_bytes(&self) -> &[u8] {
         self.bytes.as_slice()
@@ -116,6 +125,7 @@ impl Output {
             bytes,
             sink: _,
             failure: _,
+            is_closed: _,
         } = self;
         Ok(bytes)
     }
@@ -182,6 +192,7 @@ impl Output {
         }
         if self.failure.is_none() {
             let done = self.written();
+            self.is_closed |= is_broken(&self.sink, &done);
             self.keep(done);
         }
         self.bytes.clear();
@@ -195,6 +206,16 @@ impl Output {
             Sink::Messages(messages) => messages.write_all(bytes),
             Sink::File(file) => file.write_all(bytes),
             Sink::Memory => Ok(()),
+        }
+    }
+}
+
+/// Whether writing failed since the reader of standard output has gone away.
+fn is_broken(sink: &Sink, done: &io::Result<()>) -> bool {
+    match done {
+        Ok(()) => false,
+        Err(error) => {
+            matches!(sink, Sink::Output(_)) && matches!(error.kind(), ErrorKind::BrokenPipe)
         }
     }
 }

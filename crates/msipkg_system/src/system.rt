@@ -1,18 +1,30 @@
 //! The system's files, with a line on standard error that says how far reading or writing one is.
 
+use crate::identity::Identity;
 use crate::meter::Meter;
 use std::alloc::{AllocError, Global};
-use std::fs::{self, File, OpenFile, OpenOptions, Permissions};
-use std::io::{self, Read, Write};
+use std::fs::{self, File, Metadata, OpenFile, OpenOptions, Permissions, TryLockError};
+use std::io::{self, ErrorKind, Read, Write};
+use std::os::unix::fs::{MetadataExt, PermissionsExt, fchown};
+use std::thread;
+use std::time::Duration;
 
 /// How many bytes are read or written between two looks at the clock.
 const PIECE: usize = 1024 * 1024;
+
+/// The bit of permissions with which a file runs as its owner.
+const SET_USER: u32 = 0o4000;
+
+/// The bit of permissions with which a file runs as its group.
+const SET_GROUP: u32 = 0o2000;
 
 /// The system, whose files are watched where `is_shown` says so.
 #[derive(Clone, Copy)]
 pub struct System {
     pub rt: HostRuntime,
     pub is_shown: bool,
+    /// The bytes of standard input, which have the path `-` once they are read.
+    pub input: Option<&'static [u8]>,
 }
 
 impl System {
@@ -21,11 +33,36 @@ impl System {
         self.rt.alloc()
     }
 
+    /// Returns the system in which the path `-` leads to the bytes of standard input. They are read here, whole.
+    ///
+    /// # Errors
+    /// Fails as the calls of the system do, and if memory is refused.
+    pub fn with_input(&self) -> io::Result<System> {
+        let mut bytes = Vec::new(self.alloc());
+        self.rt.stdin().read_to_end(&mut bytes)?;
+        Ok(System {
+            rt: self.rt,
+            is_shown: self.is_shown,
+            input: Some(bytes.leak()),
+        })
+    }
+
+    /// Returns the bytes of standard input, if that is what a path leads to.
+    pub fn input_at(&self, path: &str) -> Option<&'static [u8]> {
+        if path == "-" { self.input } else { None }
+    }
+
     /// Opens a file to read it.
     ///
     /// # Errors
     /// Fails as the call of the system does.
     pub fn open(&self, path: &str) -> io::Result<SystemFile> {
+        if let Some(bytes) = self.input_at(path) {
+            return Ok(SystemFile {
+                source: Source::Input(bytes),
+                meter: None,
+            });
+        }
         let file = fs::open(&self.rt, path)?;
         Ok(self.watched(file))
     }
@@ -51,6 +88,28 @@ impl System {
         Ok(self.watched(file))
     }
 
+    /// Opens what is there to write to it as it is: a device or a pipe.
+    ///
+    /// # Errors
+    /// Fails as the call of the system does.
+    pub fn open_to_write(&self, path: &str) -> io::Result<SystemFile> {
+        let file = OpenOptions::new().write(true).open(&self.rt, path)?;
+        Ok(self.watched(file))
+    }
+
+    /// Returns which file a path leads to.
+    ///
+    /// # Errors
+    /// Fails as the call of the system does.
+    pub fn identity(&self, path: &str) -> io::Result<Identity> {
+        Ok(Identity::of(&fs::metadata(&self.rt, path)?))
+    }
+
+    /// Waits for so many milliseconds.
+    pub fn wait(&self, milliseconds: u64) {
+        thread::sleep(&self.rt, Duration::from_millis(milliseconds));
+    }
+
     /// A file that was opened just now, watched where that is asked for and the system tells the time.
     fn watched(&self, file: File) -> SystemFile {
         let meter = if self.is_shown {
@@ -58,7 +117,10 @@ impl System {
         } else {
             None
         };
-        SystemFile { file, meter }
+        SystemFile {
+            source: Source::File(file),
+            meter,
+        }
     }
 }
 
@@ -71,16 +133,49 @@ pub fn path_in(alloc: Global, folder: &str, name: &str) -> Result<String, AllocE
     format!(in alloc; "{folder}/{name}")
 }
 
+/// Gives a file the owner and the group of another one, or the group alone, where the user may.
+fn take_owner(file: &File, other: &Metadata) -> io::Result<()> {
+    let own = file.metadata()?;
+    if own.uid() == other.uid() && own.gid() == other.gid() {
+        return Ok(());
+    }
+    if fchown(file, Some(other.uid()), Some(other.gid())).is_err() {
+        let _ = fchown(file, None, Some(other.gid()));
+    }
+    Ok(())
+}
+
+/// The bits of permissions that a file may take over from another one.
+fn kept_bits(own: &Metadata, other: &Metadata) -> u32 {
+    let mut bits = 0o7777;
+    if own.uid() != other.uid() {
+        bits &= !SET_USER;
+    }
+    if own.gid() != other.gid() {
+        bits &= !SET_GROUP;
+    }
+    bits
+}
+
+/// What a file's bytes are.
+#[derive(Drop)]
+enum Source {
+    /// Those of a file.
+    File(File),
+    /// Those of standard input, which were read: the rest of them.
+    Input(&'static [u8]),
+}
+
 /// A file of the system, which is watched or not.
 pub struct SystemFile {
-    file: File,
+    source: Source,
     meter: Option<Meter>,
 }
 
 /// Clears the line, too.
 impl Drop for SystemFile {
     fn drop(self) {
-        let SystemFile { file: _, meter } = self;
+        let SystemFile { source: _, meter } = self;
         if let Some(mut meter) = meter {
             meter.end();
         }
@@ -95,27 +190,70 @@ impl SystemFile {
         }
     }
 
-    /// Gives the file these permissions.
+    /// The file, if it isn't standard input.
+    fn file(&self) -> io::Result<&File> {
+        match &self.source {
+            Source::File(file) => Ok(file),
+            Source::Input(_) => Err(io::Error::from(ErrorKind::Unsupported)),
+        }
+    }
+
+    /// The file, to write to it, if it isn't standard input.
+    fn file_mut(&mut self) -> io::Result<&mut File> {
+        match &mut self.source {
+            Source::File(file) => Ok(file),
+            Source::Input(_) => Err(io::Error::from(ErrorKind::Unsupported)),
+        }
+    }
+
+    /// Returns what the system says of the file.
     ///
     /// # Errors
     /// Fails as the call of the system does.
-    pub fn set_permissions(&self, permissions: Permissions) -> io::Result<()> {
-        self.file.set_permissions(permissions)
+    pub fn metadata(&self) -> io::Result<Metadata> {
+        self.file()?.metadata()
     }
 
-    /// Waits until the disk has what was written.
+    /// Locks the file until it is closed, and returns whether that is done: not where another program has it locked.
+    /// On a file system without locks it is taken to be done.
+    pub fn lock(&self) -> bool {
+        match self.file() {
+            Ok(file) => !matches!(file.try_lock(), Err(TryLockError::WouldBlock)),
+            Err(_) => false,
+        }
+    }
+
+    /// Gives the file the owner, the group and the permissions of another one, as far as the user may. Where the owner
+    /// or the group can't be kept, nor is the bit with which it runs as that.
+    ///
+    /// # Errors
+    /// Fails as the calls of the system do.
+    pub fn take_after(&self, other: &Metadata) -> io::Result<()> {
+        let file = self.file()?;
+        take_owner(file, other)?;
+        let mode = other.permissions().mode() & kept_bits(&file.metadata()?, other);
+        file.set_permissions(Permissions::from_mode(mode))
+    }
+
+    /// Waits until the disk has what was written. What isn't on a disk, as a pipe, isn't waited for.
     ///
     /// # Errors
     /// Fails as the call of the system does.
     pub fn sync_all(&self) -> io::Result<()> {
-        self.file.sync_all()
+        match self.file()?.sync_all() {
+            Err(error) if error.kind() == ErrorKind::InvalidInput => Ok(()),
+            synced => synced,
+        }
     }
 }
 
 impl Read for SystemFile {
     fn read(&mut self, buf: &mut [u8]) -> io::Result<usize> {
         let length = buf.len().min(PIECE);
-        let read = self.file.read(&mut buf[..length])?;
+        let read = match &mut self.source {
+            Source::File(file) => file.read(&mut buf[..length])?,
+            Source::Input(bytes) => bytes.read(buf)?,
+        };
         self.count(read, "read");
         Ok(read)
     }
@@ -123,13 +261,13 @@ impl Read for SystemFile {
 
 impl Write for SystemFile {
     fn write(&mut self, buf: &[u8]) -> io::Result<usize> {
-        let written = self.file.write(buf)?;
+        let written = self.file_mut()?.write(buf)?;
         self.count(written, "written");
         Ok(written)
     }
 
     fn flush(&mut self) -> io::Result<()> {
-        self.file.flush()
+        self.file_mut()?.flush()
     }
 
     fn write_all(&mut self, buf: &[u8]) -> io::Result<()> {
@@ -137,7 +275,7 @@ impl Write for SystemFile {
             meter.expect(buf.len());
         }
         for piece in buf.chunks(PIECE) {
-            self.file.write_all(piece)?;
+            self.file_mut()?.write_all(piece)?;
             self.count(piece.len(), "written");
         }
         Ok(())

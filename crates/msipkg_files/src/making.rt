@@ -1,0 +1,205 @@
+//! Making a file whole: its bytes are written beside the path that it is to have, and it gets that once the disk has
+//! them, so that an interrupt or a full disk leaves no part of it there.
+
+use crate::claim::is_at;
+use crate::kinds::{check_way, is_written_to};
+use msipkg_output::{Failure, System, SystemFile};
+use std::alloc::{AllocError, Global};
+use std::fs;
+use std::io::{ErrorKind, Write};
+
+/// How many names beside a file are tried for its new bytes.
+const TRIES: u32 = 100;
+
+/// A file that is being made, and doesn't have its path yet.
+pub struct NewFile {
+    /// The path that it has until it is whole, or none if it is a device or a pipe, which is written to as it is.
+    made: Option<String>,
+    /// Whether a file that has its path is replaced.
+    is_forced: bool,
+}
+
+/// Written out, so that a function that owns one calls one drop, and its proof doesn't go through those of the parts.
+impl Drop for NewFile {
+    fn drop(self) {
+        let NewFile {
+            made: _,
+            is_forced: _,
+        } = self;
+    }
+}
+
+impl NewFile {
+    /// Gives the file its path, or removes it where it wasn't written. It is to be open still.
+    ///
+    /// # Errors
+    /// Fails as writing it did, if a file is there meanwhile that isn't to be replaced, and as the calls of the system
+    /// do. Then an old file of the path is as it was, and the new one isn't left.
+    pub fn settle(
+        &self,
+        rt: &System,
+        written: Result<(), Failure>,
+        path: &str,
+    ) -> Result<(), Failure> {
+        match &self.made {
+            None => written,
+            Some(made) => settle(rt, written, made.as_str(), path, self.is_forced),
+        }
+    }
+}
+
+/// Makes a file of these bytes. If a regular file is there already, it is replaced where `is_forced` says so, and a
+/// symbolic link to one itself: it isn't followed.
+///
+/// # Errors
+/// Fails if something is there that isn't to be replaced, and as the calls of the system do. Then an old file is as it
+/// was, and no other is left.
+pub fn write_file(rt: &System, path: &str, is_forced: bool, bytes: &[u8]) -> Result<(), Failure> {
+    let (new, mut file) = open_new(rt, path, is_forced)?;
+    let written = write_synced(&mut file, bytes);
+    new.settle(rt, written, path)
+}
+
+/// Opens a file that is to have a path once it is whole. Whoever has written it ends by `NewFile::settle`.
+///
+/// # Errors
+/// Fails if something is there that isn't to be replaced, and as the calls of the system do. Then no new file is left.
+pub fn open_new(
+    rt: &System,
+    path: &str,
+    is_forced: bool,
+) -> Result<(NewFile, SystemFile), Failure> {
+    check_way(rt, path, is_forced)?;
+    let (made, file) = open_beside(rt, path)?;
+    let made = Some(made);
+    Ok((NewFile { made, is_forced }, file))
+}
+
+/// Opens a file for a path that the user gave. If that leads to a device or a pipe, this is written to. Whoever has
+/// written it ends by `NewFile::settle`.
+///
+/// # Errors
+/// Fails if something is there that isn't to be replaced, and as the calls of the system do. Then no new file is left.
+pub fn open_output(
+    rt: &System,
+    path: &str,
+    is_forced: bool,
+) -> Result<(NewFile, SystemFile), Failure> {
+    if !is_written_to(rt, path) {
+        return open_new(rt, path, is_forced);
+    }
+    let made = None;
+    Ok((NewFile { made, is_forced }, rt.open_to_write(path)?))
+}
+
+/// Writes bytes to a file, and waits until the disk has them.
+pub(crate) fn write_synced(file: &mut SystemFile, bytes: &[u8]) -> Result<(), Failure> {
+    file.write_all(bytes)?;
+    Ok(file.sync_all()?)
+}
+
+/// Gives a file that was made the path that it is to have, or removes it where it wasn't written.
+///
+/// # Errors
+/// Fails as writing it did, and as the calls of the system do. Then an old file of the path is as it was, and the new
+/// one isn't left.
+pub(crate) fn settle(
+    rt: &System,
+    written: Result<(), Failure>,
+    made: &str,
+    path: &str,
+    is_forced: bool,
+) -> Result<(), Failure> {
+    let settled = match written {
+        Ok(()) => give_path(rt, made, path, is_forced),
+        Err(failure) => Err(failure),
+    };
+    if settled.is_err() {
+        let _ = fs::remove_file(&rt.rt, made);
+    }
+    settled
+}
+
+/// Gives a file another path, which replaces one that is there only where it is forced.
+fn give_path(rt: &System, made: &str, path: &str, is_forced: bool) -> Result<(), Failure> {
+    if is_forced {
+        return Ok(fs::rename(&rt.rt, made, path)?);
+    }
+    match fs::hard_link(&rt.rt, made, path) {
+        Ok(()) => {
+            let _ = fs::remove_file(&rt.rt, made);
+            Ok(())
+        }
+        Err(_) => rename_unforced(rt, made, path),
+    }
+}
+
+/// Gives a file another path, on a file system that has no hard links, or fails if something is there.
+fn rename_unforced(rt: &System, made: &str, path: &str) -> Result<(), Failure> {
+    check_way(rt, path, false)?;
+    Ok(fs::rename(&rt.rt, made, path)?)
+}
+
+/// Opens a new file beside another, and returns its path too. It is locked, so that no other program takes it for one
+/// that was left.
+///
+/// # Errors
+/// Fails if all names for it are taken, and as the calls of the system do.
+pub(crate) fn open_beside(rt: &System, target: &str) -> Result<(String, SystemFile), Failure> {
+    for number in 0..TRIES {
+        let path = beside_path(rt.alloc(), target, number)?;
+        remove_leftover(rt, path.as_str());
+        if let Some(file) = create_locked(rt, path.as_str())? {
+            return Ok((path, file));
+        }
+    }
+    Err(Failure::rule("each name beside it that was tried is taken"))
+}
+
+/// Makes a file and locks it, unless something has its path, or another program takes it away.
+fn create_locked(rt: &System, path: &str) -> Result<Option<SystemFile>, Failure> {
+    match rt.create_new(path) {
+        Ok(file) if is_ours(rt, &file, path) => Ok(Some(file)),
+        Ok(_) => Ok(None),
+        Err(error) if error.kind() == ErrorKind::AlreadyExists => Ok(None),
+        Err(error) => Err(Failure::from(error)),
+    }
+}
+
+/// Whether a file could be locked, and still has its path.
+fn is_ours(rt: &System, file: &SystemFile, path: &str) -> bool {
+    file.lock() && is_at(rt, file, path).unwrap_or(false)
+}
+
+/// Removes all files beside another that programs left which were killed.
+///
+/// # Errors
+/// Fails if memory is refused.
+pub(crate) fn remove_leftovers(rt: &System, target: &str) -> Result<(), AllocError> {
+    for number in 0..TRIES {
+        remove_leftover(rt, beside_path(rt.alloc(), target, number)?.as_str());
+    }
+    Ok(())
+}
+
+/// Removes a file that was left, if there is one and no program writes it.
+fn remove_leftover(rt: &System, path: &str) {
+    match fs::symlink_metadata(&rt.rt, path) {
+        Ok(metadata) if metadata.is_file() => remove_unlocked(rt, path),
+        _ => {}
+    }
+}
+
+/// Removes a file that no program has locked.
+fn remove_unlocked(rt: &System, path: &str) {
+    if let Ok(file) = rt.open(path)
+        && is_ours(rt, &file, path)
+    {
+        let _ = fs::remove_file(&rt.rt, path);
+    }
+}
+
+/// The path of a new file beside another.
+fn beside_path(alloc: Global, target: &str, number: u32) -> Result<String, AllocError> {
+    format!(in alloc; "{target}.msipkg-{number}")
+}
