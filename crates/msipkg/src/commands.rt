@@ -2,7 +2,7 @@
 
 use crate::changing::{self, is_change};
 use crate::exchanging::{compare, is_each};
-use crate::looking::look;
+use crate::looking::{escapes_of, look};
 use crate::several::print_each;
 use clap::ArgMatches;
 use clap::error::ErrorKind;
@@ -91,7 +91,7 @@ fn asked_of<'a, 'b>(matches: &'b ArgMatches<'a>, is_terminal: bool) -> Option<As
     let verb = verb_named(name)?;
     let style = Style {
         is_terminal,
-        is_escaped: is_terminal || given.get_flag("escape"),
+        escapes: escapes_of(verb, given, is_terminal),
     };
     Some(Asked { verb, given, style })
 }

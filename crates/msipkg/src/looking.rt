@@ -2,11 +2,40 @@
 
 use crate::commands::Asked;
 use crate::exchanging::export_asked;
+use clap::ArgMatches;
 use msipkg_checks::check_file;
 use msipkg_looks::{Form, Format, Look, show};
 use msipkg_output::{Failure, Output, RowFormat, System};
 use msipkg_packages::{Folder, Purpose};
+use msipkg_texts::Escapes;
 use msipkg_words::Verb;
+
+/// What a command prints as escapes. JSON and CSV have escapes or quotes of their own.
+pub(crate) fn escapes_of(verb: Verb, given: &ArgMatches<'_>, is_terminal: bool) -> Escapes {
+    if is_terminal || given.get_flag("escape") {
+        return Escapes::Hidden;
+    }
+    match verb {
+        Verb::Info | Verb::Tables | Verb::Streams | Verb::Schema | Verb::Summary => {
+            if given.get_flag("json") {
+                Escapes::Nothing
+            } else {
+                Escapes::Hidden
+            }
+        }
+        Verb::Query if !given.get_flag("raw") => row_escapes(given),
+        _ => Escapes::Nothing,
+    }
+}
+
+/// What is printed as escapes in the rows of a query that go into a pipe.
+fn row_escapes(given: &ArgMatches<'_>) -> Escapes {
+    match Format::of_name(given.get_str("format").unwrap_or("tabs")) {
+        Some(Format::Table) => Escapes::Hidden,
+        Some(Format::Rows(RowFormat::Csv | RowFormat::Json)) => Escapes::Nothing,
+        Some(Format::Rows(RowFormat::Tabs | RowFormat::Lines)) | None => Escapes::Breaks,
+    }
+}
 
 /// Carries out a command that looks at the package of a file, and returns whether all is well: nothing was found to be
 /// wrong.

@@ -125,7 +125,7 @@ impl<'a> ArchiveText<'a> {
     /// # Errors
     /// Fails with `InvalidInput` if a text can't be written in the code page, and with `OutOfMemory`.
     pub(crate) fn write_lines(&mut self, style: Style, output: &mut Output) -> Result<(), Error> {
-        if style.is_escaped {
+        if style.escapes_hidden() {
             write_shown(self.lines.text.as_str(), output);
         } else {
             self.lines.write(self.alloc, output)?;

@@ -9,13 +9,13 @@ use msipkg_packages::output::{Failure, Opened, Output, System, at_file};
 use msipkg_packages::{
     Folder, PackageFile, is_list, open_output, open_package, rows_of, table_named,
 };
-use msipkg_texts::{Shown, Style};
+use msipkg_texts::{Escapes, Shown, Style};
 use std::alloc::Global;
 
 /// How a file is written: as it is.
 pub(crate) const BARE: Style = Style {
     is_terminal: false,
-    is_escaped: false,
+    escapes: Escapes::Nothing,
 };
 
 /// The refusal of several tables on the output.

@@ -54,7 +54,7 @@ impl JsonRow {
     /// Writes the JSON as `write_text` does.
     pub fn print(&self, style: Style, output: &mut Output) {
         let bytes = self.bytes.as_slice();
-        if !style.is_escaped {
+        if !style.escapes_hidden() {
             output.push_bytes(bytes);
         } else if let Ok(text) = str::from_utf8(bytes) {
             // What a writer has written is a text.

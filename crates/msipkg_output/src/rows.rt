@@ -95,7 +95,7 @@ fn write_record(
     row: &Row,
     writer: &mut Writer<&mut Output>,
 ) -> Result<(), Failure> {
-    if printer.style.is_escaped {
+    if printer.style.escapes_hidden() {
         write_shown(printer, row, writer)
     } else {
         done(printer, write_csv_row(writer, row))

@@ -1,36 +1,52 @@
-//! Texts that are safe on a terminal: what a terminal would obey or not show is printed as an escape.
+//! Texts that are safe where they are printed: what a terminal would obey or not show, or what would end a line or a
+//! field of one, is printed as an escape.
 
 use std::fmt::{self, Write};
+use unicode_width::UnicodeWidthStr;
 
-/// A text that prints as it is, or with escapes.
+/// What is printed as an escape.
+#[derive(Clone, Copy)]
+pub enum Escapes {
+    /// Nothing: texts are printed as they are.
+    Nothing,
+    /// What ends lines and the fields of lines: line feeds, carriage returns and tabs.
+    Breaks,
+    /// What a terminal would obey or not show: all control characters, marks of direction and characters without
+    /// width.
+    Hidden,
+}
+
+/// A text that prints as it is, or with escapes: `\n`, `\r`, `\t`, and `\u{..}` for other characters. Only in a text that
+/// has something to be escaped, a backslash prints as `\\`.
 #[derive(Clone, Copy)]
 pub struct Shown<'a> {
     text: &'a str,
-    is_escaped: bool,
+    /// What is escaped: nothing, if the text has nothing of it.
+    escapes: Escapes,
 }
 
 impl<'a> Shown<'a> {
-    /// Returns a text that prints with escapes: `\n`, `\r`, `\t`, `\\`, and `\u{..}` for other control characters,
-    /// marks of direction and characters without width. Different texts print differently.
+    /// Returns a text that prints with these escapes.
+    pub fn new(escapes: Escapes, text: &'a str) -> Shown<'a> {
+        if is_plain(escapes, text) {
+            Shown {
+                text,
+                escapes: Escapes::Nothing,
+            }
+        } else {
+            Shown { text, escapes }
+        }
+    }
+
+    /// Returns a text that is safe on a terminal.
     pub fn escaped(text: &'a str) -> Shown<'a> {
-        Shown {
-            text,
-            is_escaped: true,
-        }
+        Shown::new(Escapes::Hidden, text)
     }
 
-    /// Returns a text that prints as it is.
-    pub fn raw(text: &'a str) -> Shown<'a> {
-        Shown {
-            text,
-            is_escaped: false,
-        }
-    }
-
-    /// Returns how many characters it prints.
+    /// Returns how many columns of a terminal it takes.
     pub fn width(&self) -> usize {
-        if !self.is_escaped || is_plain(self.text) {
-            return count_characters(self.text.as_bytes());
+        if matches!(self.escapes, Escapes::Nothing) {
+            return columns_of(self.text);
         }
         let mut counter = Counter { count: 0 };
         // Counting doesn't fail.
@@ -41,25 +57,29 @@ impl<'a> Shown<'a> {
 
 impl fmt::Display for Shown<'_> {
     fn fmt<W: fmt::Write>(&self, f: &mut fmt::Formatter<W>) -> fmt::Result {
-        if !self.is_escaped {
+        if matches!(self.escapes, Escapes::Nothing) {
             return f.write_str(self.text);
         }
         for c in self.text.chars() {
-            write_escaped(c, f)?;
+            write_escaped(self.escapes, c, f)?;
         }
         Ok(())
     }
 }
 
 /// Writes a character, or its escape.
-fn write_escaped<W: fmt::Write>(c: char, f: &mut fmt::Formatter<W>) -> fmt::Result {
+fn write_escaped<W: fmt::Write>(
+    escapes: Escapes,
+    c: char,
+    f: &mut fmt::Formatter<W>,
+) -> fmt::Result {
     match c {
         '\n' => f.write_str("\\n"),
         '\r' => f.write_str("\\r"),
         '\t' => f.write_str("\\t"),
         '\\' => f.write_str("\\\\"),
         _ => {
-            if is_hidden(c) {
+            if matches!(escapes, Escapes::Hidden) && is_hidden(c) {
                 let code = u32::from(c);
                 write!(f, "\\u{{{code:x}}}")
             } else {
@@ -69,7 +89,7 @@ fn write_escaped<W: fmt::Write>(c: char, f: &mut fmt::Formatter<W>) -> fmt::Resu
     }
 }
 
-/// What is printed, of which nothing is kept but the number of its characters.
+/// What is printed, of which nothing is kept but the number of its columns.
 #[derive(Drop)]
 struct Counter {
     count: usize,
@@ -77,20 +97,35 @@ struct Counter {
 
 impl Write for Counter {
     fn write_str(&mut self, s: &str) -> fmt::Result {
-        self.count = self.count.saturating_add(count_characters(s.as_bytes()));
+        self.count = self.count.saturating_add(columns_of(s));
         Ok(())
     }
 }
 
-/// The number of a text's characters, each of which has one byte that doesn't go on with the one in front.
-pub(crate) fn count_characters(text: &[u8]) -> usize {
-    text.iter().filter(|byte| **byte & 0xC0 != 0x80).count()
+/// How many columns of a terminal a text takes: a wide character takes two, and a combining mark none.
+pub(crate) fn columns_of(text: &str) -> usize {
+    if text.is_ascii() {
+        text.len()
+    } else {
+        text.width()
+    }
 }
 
-/// Returns whether a text is printed as it is, with escapes too. Most texts are, and they are printed in one piece.
-pub(crate) fn is_plain(text: &str) -> bool {
-    text.bytes()
-        .all(|byte| matches!(byte, b' '..=b'~') && byte != b'\\')
+/// Returns whether a text has nothing that is printed as an escape. Most texts have nothing, and they are printed in
+/// one piece.
+pub(crate) fn is_plain(escapes: Escapes, text: &str) -> bool {
+    match escapes {
+        Escapes::Nothing => true,
+        Escapes::Breaks => !text
+            .bytes()
+            .any(|byte| matches!(byte, b'\n' | b'\r' | b'\t')),
+        Escapes::Hidden => is_printable(text) || !text.chars().any(is_hidden),
+    }
+}
+
+/// Whether a text is ASCII without control characters.
+fn is_printable(text: &str) -> bool {
+    text.bytes().all(|byte| matches!(byte, b' '..=b'~'))
 }
 
 /// Returns whether a terminal would obey a character, or not show it: control characters, marks of direction, and

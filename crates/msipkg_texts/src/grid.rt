@@ -1,6 +1,6 @@
 //! Tables whose columns are aligned with spaces.
 
-use crate::escape::{Shown, count_characters, is_plain};
+use crate::escape::{columns_of, is_plain};
 use crate::style::Style;
 use crate::widths::Widths;
 use msipkg_system::Output;
@@ -26,7 +26,7 @@ pub struct Grid {
 struct Cell {
     /// Where it ends.
     end: usize,
-    /// How many characters it has.
+    /// How many columns of a terminal it takes.
     width: usize,
 }
 
@@ -72,10 +72,10 @@ impl Grid {
 
     /// Puts a text, as the style has it, as the next one of a row.
     pub fn put_text(&mut self, style: Style, text: &str) {
-        if style.is_escaped && !is_plain(text) {
-            self.put(&Shown::escaped(text));
-        } else {
+        if is_plain(style.escapes, text) {
             self.push(text);
+        } else {
+            self.put(&style.show(text));
         }
     }
 
@@ -89,7 +89,7 @@ impl Grid {
     fn end_text(&mut self, done: Result<(), AllocError>) {
         let start = end_of(self.cells.as_slice());
         let end = self.texts.len();
-        let width = count_characters(self.bytes_of(start, end));
+        let width = columns_of(self.text_of(start, end));
         if done.is_err() || self.cells.push(Cell { end, width }).is_err() {
             self.is_cut = true;
         }
@@ -107,8 +107,8 @@ impl Grid {
         }
     }
 
-    /// Writes the head, a line of dashes and the rows. Each column is as wide as its longest text, in characters, and
-    /// the last one isn't filled up. Where memory was refused, the output gets that in their place.
+    /// Writes the head, a line of dashes and the rows. Each column is as wide as its widest text, and the last one isn't
+    /// filled up. Where memory was refused, the output gets that in their place.
     fn write(&self, output: &mut Output) {
         match self.widths() {
             Ok(widths) => self.write_aligned(&widths, output),
@@ -128,9 +128,9 @@ impl Grid {
         Ok(widths)
     }
 
-    /// The bytes of the text between two places.
-    fn bytes_of(&self, start: usize, end: usize) -> &[u8] {
-        self.texts.as_bytes().get(start..end).unwrap_or(&[])
+    /// The text between two places.
+    fn text_of(&self, start: usize, end: usize) -> &str {
+        self.texts.as_str().get(start..end).unwrap_or("")
     }
 
     /// Writes the head, a line of dashes and the rows, the columns as wide as given.
@@ -149,7 +149,7 @@ impl Grid {
     fn write_row(&self, start: usize, row: &[Cell], widths: &Widths, output: &mut Output) {
         let mut start = start;
         for (column, cell) in row.iter().enumerate() {
-            output.push_bytes(self.bytes_of(start, cell.end));
+            output.push_str(self.text_of(start, cell.end));
             start = cell.end;
             widths.fill_up(column, cell.width, output);
         }
@@ -172,7 +172,7 @@ impl Grid {
         let (mut start, mut before) = (start, "");
         for cell in row {
             output.push_str(before);
-            output.push_bytes(self.bytes_of(start, cell.end));
+            output.push_str(self.text_of(start, cell.end));
             start = cell.end;
             before = "\t";
         }

@@ -215,13 +215,13 @@ pub fn write_quoted(alloc: Global, style: Style, text: &str, output: &mut Output
 
 /// Whether a byte stands for itself in a JSON string, wherever it is printed.
 fn is_plain(style: Style, byte: u8) -> bool {
-    byte >= 0x20 && byte != b'"' && byte != b'\\' && (byte < 0x7F || !style.is_escaped)
+    byte >= 0x20 && byte != b'"' && byte != b'\\' && (byte < 0x7F || !style.escapes_hidden())
 }
 
 /// Writes JSON. If the style escapes, characters that a terminal would obey or not show are written as `\uXXXX`, which
 /// JSON reads as the same text.
 pub fn write_text(style: Style, json: &str, output: &mut Output) {
-    if style.is_escaped {
+    if style.escapes_hidden() {
         write_escaped(json, output);
     } else {
         output.push_str(json);

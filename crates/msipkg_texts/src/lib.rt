@@ -10,7 +10,7 @@ pub mod safe_names;
 pub mod style;
 pub mod widths;
 
-pub use escape::Shown;
+pub use escape::{Escapes, Shown};
 pub use grid::Grid;
 pub use json::{JsonObject, quoted, write_quoted, write_text};
 pub use safe_names::{Ending, SafeName, SafeNames, safe_name};

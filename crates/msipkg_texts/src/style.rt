@@ -1,6 +1,6 @@
-//! Where the output goes, and whether its texts are escaped.
+//! Where the output goes, and what of its texts is escaped.
 
-use crate::escape::{Shown, is_plain};
+use crate::escape::{Escapes, Shown, is_plain};
 use msipkg_system::Output;
 
 /// How texts are printed.
@@ -8,26 +8,27 @@ use msipkg_system::Output;
 pub struct Style {
     /// Whether people read the output on a terminal.
     pub is_terminal: bool,
-    /// Whether what a terminal would obey, or not show, is printed as an escape.
-    pub is_escaped: bool,
+    /// What is printed as an escape.
+    pub escapes: Escapes,
 }
 
 impl Style {
     /// Returns a text as it is printed.
     pub fn show<'a>(self, text: &'a str) -> Shown<'a> {
-        if self.is_escaped {
-            Shown::escaped(text)
-        } else {
-            Shown::raw(text)
-        }
+        Shown::new(self.escapes, text)
+    }
+
+    /// Returns whether all that a terminal would obey or not show is escaped.
+    pub fn escapes_hidden(self) -> bool {
+        matches!(self.escapes, Escapes::Hidden)
     }
 
     /// Prints a text.
     pub fn print(self, text: &str, output: &mut Output) {
-        if self.is_escaped && !is_plain(text) {
-            write!(output, "{}", Shown::escaped(text));
-        } else {
+        if is_plain(self.escapes, text) {
             output.push_str(text);
+        } else {
+            write!(output, "{}", self.show(text));
         }
     }
 }

@@ -1,5 +1,6 @@
 //! The widths of columns that are aligned with spaces.
 
+use crate::escape::is_plain;
 use crate::style::Style;
 use msipkg_system::Output;
 use std::alloc::{AllocError, Global};
@@ -16,7 +17,7 @@ static SPACES: [u8; PIECE] = [b' '; PIECE];
 /// What the line under the head is made of.
 static DASHES: [u8; PIECE] = [b'-'; PIECE];
 
-/// How wide columns are, in characters: each as its longest text.
+/// How wide columns are, in columns of a terminal: each as its widest text.
 pub struct Widths {
     columns: Vec<usize>,
 }
@@ -39,25 +40,24 @@ impl Widths {
         })
     }
 
-    /// Makes the column at a place wide enough for a text of so many characters.
+    /// Makes the column at a place wide enough for a text of this width.
     pub fn widen(&mut self, column: usize, width: usize) {
         if let Some(widest) = self.columns.get_mut(column) {
             *widest = width.max(*widest);
         }
     }
 
-    /// Makes the column at a place wide enough for a text as the style prints it. Without escapes a text has no more
-    /// characters than bytes, so most needn't be counted.
+    /// Makes the column at a place wide enough for a text as the style prints it. Without escapes a text is no wider
+    /// than it has bytes, so the width of most isn't asked for.
     pub fn widen_by_text(&mut self, column: usize, style: Style, text: &str) {
         if let Some(widest) = self.columns.get_mut(column)
-            && (style.is_escaped || text.len() > *widest)
+            && (text.len() > *widest || !is_plain(style.escapes, text))
         {
             *widest = style.show(text).width().max(*widest);
         }
     }
 
-    /// Fills up the text of the column at a place, which has so many characters. That of the last column isn't filled
-    /// up.
+    /// Fills up the text of the column at a place, which has this width. That of the last column isn't filled up.
     pub fn fill_up(&self, column: usize, width: usize, output: &mut Output) {
         let columns = self.columns.as_slice();
         if let [widest, _, ..] = columns.get(column..).unwrap_or(&[]) {

@@ -181,6 +181,11 @@ static TABLE_COMMANDS: [Row; 4] = [
                 form: Form::Choice("FORMAT", &["table", "tabs", "csv", "json", "lines"]),
                 help: "How rows are printed: by default as a table on a terminal, and elsewhere parted by tabs",
             },
+            Argument {
+                id: "raw",
+                form: Form::Instead(&["escape"]),
+                help: "Prints tabs and line feeds in values as they are, but for a terminal",
+            },
             PAGE,
             ESCAPE,
         ],
