@@ -6,6 +6,7 @@ mod applied;
 pub mod change;
 pub mod create;
 mod definition;
+mod emptying;
 mod importing;
 mod properties;
 pub mod recounting;

@@ -133,9 +133,15 @@ impl<'a> TableArchive<'a> {
         }
     }
 
-    /// The name of the file of the next row's stream, as a value.
+    /// The name of the file of the next row's stream, as a value. It is null where the stream isn't there: the cells of
+    /// such columns don't tell null, and so no row of the installer's is without what it had.
     fn file_of(&mut self, rows: &Rows<'_>) -> Result<Value, Error> {
-        let stream = stream_name(self.alloc, self.table, rows)?;
+        let Some(stream) = stream_name(self.alloc, self.table, rows)? else {
+            return Ok(Value::Null);
+        };
+        if !self.package.has_stream(stream.as_str()) {
+            return Ok(Value::Null);
+        }
         let file = self.given.give(stream.as_str())?;
         let value = Value::from_text(self.alloc, file.as_str())?;
         self.files.push(StreamFile { stream, file })?;
