@@ -82,7 +82,10 @@ impl Named<'_> {
 
     /// Adds the streams of a table's rows.
     fn add_table(&mut self, table: &Table, report: &mut Report<'_>) -> Result<(), Failure> {
-        match self.package.select_rows(Select::table(self.alloc, table.name())?) {
+        match self
+            .package
+            .select_rows(Select::table(self.alloc, table.name())?)
+        {
             Ok(rows) => Ok(self.add_rows(table.name(), rows, report)?),
             Err(error) => pass_over(error),
         }

@@ -6,35 +6,36 @@ use msipkg_packages::msi::{Error, Package, SummaryInfo};
 use msipkg_packages::output::{Opened, PROPERTIES};
 use msipkg_packages::{kind_name, property_text};
 
-/// Compares the kinds and the code pages.
+/// Compares the kinds, the code pages, and whether there is a signature.
 pub(crate) fn compare_kinds(old: &Package<Opened>, new: &Package<Opened>, report: &mut Report<'_>) {
     let (kind, other) = (kind_name(old.package_type()), kind_name(new.package_type()));
     compare_texts("package", "kind", Some(kind), Some(other), report);
-    let (page, other) = (old.database_codepage(), new.database_codepage());
-    compare_pages(page.id(), other.id(), report);
+    let (page, other) = (old.database_codepage().id(), new.database_codepage().id());
+    if page != other {
+        add_fact("codepage", page_content(page), page_content(other), report);
+    }
+    let (signed, other) = (old.has_digital_signature(), new.has_digital_signature());
+    if signed != other {
+        let (old, new) = (Content::Truth(signed), Content::Truth(other));
+        add_fact("signed", old, new, report);
+    }
 }
 
-/// Compares the code pages of two databases.
-fn compare_pages(old: i32, new: i32, report: &mut Report<'_>) {
-    if old == new {
-        return;
-    }
+/// A code page.
+fn page_content(page: i32) -> Content<'static> {
+    Content::Number(i64::from(page))
+}
+
+/// Adds a fact on packages that differs.
+fn add_fact(name: &'static str, old: Content<'_>, new: Content<'_>, report: &mut Report<'_>) {
     report.add(&Difference {
         change: Change::Changed,
         kind: "package",
         table: "",
-        name: "codepage",
-        old: &[page_member(old)],
-        new: &[page_member(new)],
+        name,
+        old: &[Member { name, content: old }],
+        new: &[Member { name, content: new }],
     });
-}
-
-/// A code page.
-fn page_member(page: i32) -> Member<'static> {
-    Member {
-        name: "codepage",
-        content: Content::Number(i64::from(page)),
-    }
 }
 
 /// Compares all properties.
