@@ -1,23 +1,26 @@
 //! What differs between the kinds, the code pages and the summaries of two packages.
 
+use crate::diff::Compared;
 use crate::difference::{Change, Content, Difference, Member};
 use crate::report::Report;
-use msipkg_packages::msi::{Error, Package, SummaryInfo};
-use msipkg_packages::output::{Opened, PROPERTIES};
+use msipkg_packages::msi::{Error, SummaryInfo};
+use msipkg_packages::output::PROPERTIES;
 use msipkg_packages::{kind_name, property_text};
 
-/// Compares the kinds, the code pages, and whether there is a signature.
-pub(crate) fn compare_kinds(old: &Package<Opened>, new: &Package<Opened>, report: &mut Report<'_>) {
-    let (kind, other) = (kind_name(old.package_type()), kind_name(new.package_type()));
+/// Compares the kinds, the code pages that the files name, and whether there is a signature.
+pub(crate) fn compare_kinds(old: &Compared<'_>, new: &Compared<'_>, report: &mut Report<'_>) {
+    let kind = kind_name(old.package.package_type());
+    let other = kind_name(new.package.package_type());
     compare_texts("package", "kind", Some(kind), Some(other), report);
-    let (page, other) = (old.database_codepage().id(), new.database_codepage().id());
-    if page != other {
-        add_fact("codepage", page_content(page), page_content(other), report);
+    if old.page != new.page {
+        let (page, other) = (page_content(old.page), page_content(new.page));
+        add_fact("codepage", page, other, report);
     }
-    let (signed, other) = (old.has_digital_signature(), new.has_digital_signature());
+    let signed = old.package.has_digital_signature();
+    let other = new.package.has_digital_signature();
     if signed != other {
-        let (old, new) = (Content::Truth(signed), Content::Truth(other));
-        add_fact("signed", old, new, report);
+        let (signed, other) = (Content::Truth(signed), Content::Truth(other));
+        add_fact("signed", signed, other, report);
     }
 }
 

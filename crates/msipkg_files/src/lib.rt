@@ -4,12 +4,14 @@
 
 pub mod folder;
 mod named_pages;
+pub mod page_of_file;
 pub mod recoding;
 pub mod replacing;
 
 // For the crates above, which so have one way to it: the rt of some kits goes down every path between two crates.
 pub use folder::Folder;
 pub use msipkg_output as output;
+pub use page_of_file::file_page;
 pub use recoding::{
     PackageFile, Purpose, Recoded, check_unnamed, recoded_by_page, recoded_instead,
 };

@@ -10,7 +10,7 @@ pub mod tables;
 // For the crates above, which so have one way to it: the rt of some kits goes down every path between two crates.
 pub use msi;
 pub use msipkg_files::{
-    Folder, PackageFile, Purpose, open_new, output, replace_file, settle, write_file,
+    Folder, PackageFile, Purpose, file_page, open_new, output, replace_file, settle, write_file,
 };
 pub use opening::{file_bytes, kind_name, new_package, open_package};
 pub use stored::{StoredStreams, stored_streams, stream_bytes};
