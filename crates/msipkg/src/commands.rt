@@ -68,7 +68,7 @@ fn run_matched(
         return 2;
     };
     match carry_out(rt, &asked, output, errors) {
-        Ok(is_well) => u8::from(!is_well),
+        Ok(status) => status,
         Err(_) if output.is_closed() => CLOSED,
         Err(failure) => {
             report(asked.file(), &failure, errors);
@@ -77,10 +77,11 @@ fn run_matched(
     }
 }
 
-/// The exit status for a command that failed: `diff` has 1 where something differs, and 2 where it failed.
-fn failure_status(verb: Verb) -> u8 {
+/// Returns the exit status for a command that failed: `diff` and `check` have 1 for what they find, and 2 where they
+/// failed.
+pub(crate) fn failure_status(verb: Verb) -> u8 {
     match verb {
-        Verb::Diff => 2,
+        Verb::Diff | Verb::Check => 2,
         _ => 1,
     }
 }
@@ -163,19 +164,19 @@ pub(crate) fn report(file: &str, failure: &Failure, errors: &mut Output) {
     }
 }
 
-/// Carries out a command, and returns whether all is well: nothing was found to be wrong. What it printed before it
-/// failed is written, too.
+/// Carries out a command, and returns the exit status: 0 where all is well, so that nothing was found to be wrong. What
+/// it printed before it failed is written, too.
 fn carry_out(
     rt: &System,
     asked: &Asked<'_, '_>,
     output: &mut Output,
     errors: &mut Output,
-) -> Result<bool, Failure> {
+) -> Result<u8, Failure> {
     match obey(rt, asked, output, errors) {
-        Ok(is_well) => {
+        Ok(status) => {
             output.end()?;
             errors.end()?;
-            Ok(is_well)
+            Ok(status)
         }
         Err(failure) => Err(first_failure(failure, output)),
     }
@@ -190,16 +191,16 @@ fn first_failure(failure: Failure, output: &mut Output) -> Failure {
     }
 }
 
-/// Changes a package or prints what is asked for, and returns whether all is well.
+/// Changes a package or prints what is asked for, and returns the exit status.
 fn obey(
     rt: &System,
     asked: &Asked<'_, '_>,
     output: &mut Output,
     errors: &mut Output,
-) -> Result<bool, Failure> {
+) -> Result<u8, Failure> {
     if is_change(asked) {
         changing::change(rt, asked, output, errors)?;
-        return Ok(true);
+        return Ok(0);
     }
     look_or_compare(&with_input(rt, asked)?, asked, output, errors)
 }
@@ -215,17 +216,18 @@ fn with_input(rt: &System, asked: &Asked<'_, '_>) -> Result<System, Failure> {
     }
 }
 
-/// Prints what is asked for, and returns whether all is well.
+/// Prints what is asked for, and returns the exit status.
 fn look_or_compare(
     rt: &System,
     asked: &Asked<'_, '_>,
     output: &mut Output,
     errors: &mut Output,
-) -> Result<bool, Failure> {
-    match asked.verb {
-        Verb::Info | Verb::Check => Ok(print_each(rt, asked, output, errors)),
-        Verb::Export if is_each(asked) => Ok(print_each(rt, asked, output, errors)),
-        Verb::Diff => compare(rt, asked, output, errors),
-        _ => look(rt, asked, asked.file(), output, errors),
-    }
+) -> Result<u8, Failure> {
+    let is_well = match asked.verb {
+        Verb::Info | Verb::Check => return Ok(print_each(rt, asked, output, errors)),
+        Verb::Export if is_each(asked) => return Ok(print_each(rt, asked, output, errors)),
+        Verb::Diff => compare(rt, asked, output, errors)?,
+        _ => look(rt, asked, asked.file(), output, errors)?,
+    };
+    Ok(u8::from(!is_well))
 }

@@ -3,7 +3,7 @@
 use crate::commands::Asked;
 use crate::exchanging::export_asked;
 use clap::ArgMatches;
-use msipkg_checks::check_file;
+use msipkg_checks::{CheckOptions, check_file};
 use msipkg_looks::{Form, Format, Look, show};
 use msipkg_output::{Failure, Output, RowFormat, System};
 use msipkg_packages::{Folder, Purpose};
@@ -51,7 +51,7 @@ pub(crate) fn look(
 ) -> Result<bool, Failure> {
     let file = asked.package(file, Purpose::Look);
     match asked.verb {
-        Verb::Check => check_file(rt, asked.style, &file, asked.is_json(), output, errors),
+        Verb::Check => check_file(rt, options_of(asked), &file, output, errors),
         Verb::Export => {
             export_asked(rt, asked, &file, output, errors)?;
             Ok(true)
@@ -60,6 +60,15 @@ pub(crate) fn look(
             show(rt, asked.style, &file, look_of(asked), output, errors)?;
             Ok(true)
         }
+    }
+}
+
+/// How findings are printed.
+fn options_of(asked: &Asked<'_, '_>) -> CheckOptions {
+    CheckOptions {
+        style: asked.style,
+        is_json: asked.is_json(),
+        is_strict: asked.given.get_flag("strict"),
     }
 }
 

@@ -1,7 +1,7 @@
 //! Commands that take several files: an error in one is printed, and the others go on.
 
 use crate::changing::manner_of;
-use crate::commands::{Asked, report};
+use crate::commands::{Asked, failure_status, report};
 use crate::exchanging::is_each;
 use crate::looking::look;
 use msipkg_changes::mend_counts;
@@ -10,52 +10,53 @@ use msipkg_packages::Purpose;
 use msipkg_words::Verb;
 use std::alloc::Global;
 
-/// Prints each file, and returns whether all is well. As JSON each file gives one line, with its error as `error`.
+/// Prints each file, and returns the exit status, which is the greatest of those of the files. As JSON each file gives
+/// one line, with its error as `error`.
 pub(crate) fn print_each(
     rt: &System,
     asked: &Asked<'_, '_>,
     output: &mut Output,
     errors: &mut Output,
-) -> bool {
-    let mut is_well = print_files(rt, asked, asked.texts("FILE"), output, errors);
-    if is_each(asked) {
-        is_well &= print_files(rt, asked, asked.texts("TABLE"), output, errors);
+) -> u8 {
+    let status = print_files(rt, asked, asked.texts("FILE"), output, errors);
+    if !is_each(asked) {
+        return status;
     }
-    is_well
+    status.max(print_files(rt, asked, asked.texts("TABLE"), output, errors))
 }
 
-/// Prints these files, until the output fails, and returns whether all is well.
+/// Prints these files, until the output fails, and returns the status.
 fn print_files(
     rt: &System,
     asked: &Asked<'_, '_>,
     files: &[&str],
     output: &mut Output,
     errors: &mut Output,
-) -> bool {
-    let mut is_well = true;
+) -> u8 {
+    let mut status = 0u8;
     for file in files {
         if output.has_failed() {
-            return false;
+            return failure_status(asked.verb);
         }
-        is_well &= print_or_report(rt, asked, file, output, errors);
+        status = status.max(print_or_report(rt, asked, file, output, errors));
     }
-    is_well
+    status
 }
 
-/// Prints a file, or why that failed, and returns whether all is well.
+/// Prints a file, or why that failed, and returns the status.
 fn print_or_report(
     rt: &System,
     asked: &Asked<'_, '_>,
     file: &str,
     output: &mut Output,
     errors: &mut Output,
-) -> bool {
+) -> u8 {
     write_head(asked, file, output);
     match print_one(rt, asked, file, output, errors) {
-        Ok(is_well) => is_well,
+        Ok(is_well) => u8::from(!is_well),
         Err(failure) => {
             report_one(rt.alloc(), asked, file, &failure, output, errors);
-            false
+            failure_status(asked.verb)
         }
     }
 }

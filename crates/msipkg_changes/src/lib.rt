@@ -6,6 +6,7 @@ mod applied;
 pub mod change;
 pub mod create;
 mod definition;
+mod emptying;
 pub mod importing;
 mod lost_texts;
 mod outcome;

@@ -1,18 +1,21 @@
 //! The counts of a package's texts: counting them anew, and what is said where they are too low for a change.
 
 use crate::change::Manner;
-use crate::outcome::Outcome;
+use crate::emptying::empty_texts;
+use crate::outcome::{Outcome, note_mended};
 use crate::pages::recode;
 use crate::storing::store;
 use msipkg_packages::msi::{ErrorKind, Package};
 use msipkg_packages::output::{Failure, Opened, Output, System};
 use msipkg_packages::{Claim, PackageFile, open_to_change};
+use msipkg_texts::Shown;
+use std::alloc::Global;
 
 /// A table that is never dropped: the package says so, unless its counts are too low, which it says first.
 const KEPT_TABLE: &str = "_Tables";
 
-/// Counts the texts of a file's package anew, and replaces the file if counts were wrong. Then `notes` gets a line that
-/// says how many.
+/// Counts the texts of a file's package anew and makes its empty texts null, and replaces the file if that changed
+/// something. Then `notes` gets lines that say how many.
 ///
 /// # Errors
 /// Fails as `Claim::take`, `open_package`, `Package::recount`, `bytes_to_write` and the calls of the system do. Then the
@@ -24,18 +27,49 @@ pub fn mend_counts(
     notes: &mut Output,
 ) -> Result<(), Failure> {
     let claim = Claim::take(rt, file.path)?;
-    let mut outcome = Outcome::new(rt.alloc());
     let (mut package, state) = open_to_change(rt, file, notes)?;
-    match package.recount()? {
-        0 => Ok(()),
-        changed => {
-            outcome.add_mended(changed);
-            recode(&mut package, file.purpose, manner, &mut outcome)?;
-            store(rt, file.path, &claim, package, state, manner, notes)?;
-            outcome.note_mended(file.path, notes);
-            Ok(())
+    let mended = mend(rt.alloc(), &mut package)?;
+    if mended.is_nothing() {
+        return Ok(());
+    }
+    let mut outcome = Outcome::new(rt.alloc());
+    recode(&mut package, file.purpose, manner, &mut outcome)?;
+    store(rt, file.path, &claim, package, state, manner, notes)?;
+    mended.note(file.path, notes);
+    Ok(())
+}
+
+/// What was mended in a package.
+#[derive(Clone, Copy)]
+struct Mended {
+    /// How many counts were wrong.
+    counts: u32,
+    /// How many empty texts became null.
+    texts: usize,
+}
+
+impl Mended {
+    fn is_nothing(self) -> bool {
+        self.counts == 0 && self.texts == 0
+    }
+
+    /// Writes what was mended in a file.
+    fn note(self, file: &str, notes: &mut Output) {
+        note_mended(file, self.counts, notes);
+        let file = Shown::escaped(file);
+        match self.texts {
+            0 => {}
+            1 => writeln!(notes, "msipkg: {file}: 1 empty text is null now"),
+            texts => writeln!(notes, "msipkg: {file}: {texts} empty texts are null now"),
         }
     }
+}
+
+/// Mends a package.
+fn mend(alloc: Global, package: &mut Package<Opened>) -> Result<Mended, Failure> {
+    let counts = package.recount()?;
+    let texts = empty_texts(alloc, package)?;
+    Ok(Mended { counts, texts })
 }
 
 /// Counts the texts of a package anew if their counts are too low for a change, unless that is to be refused.

@@ -1,4 +1,4 @@
-//! `check FILE..`: the errors in a package, each on a line with its place.
+//! `check FILE..`: the errors and warnings of a package, each on a line with its place.
 
 use crate::counts::check_counts;
 use crate::references::check_references;
@@ -12,40 +12,49 @@ use msipkg_packages::{PackageFile, open_package};
 use msipkg_texts::Style;
 use std::alloc::Global;
 
-/// Prints each error in the package of a file on a line as it is found, or all of them as JSON on one line. Returns
-/// whether there is none.
+/// How findings are printed.
+#[derive(Clone, Copy)]
+pub struct CheckOptions {
+    /// How texts are printed.
+    pub style: Style,
+    /// Whether all findings are JSON on one line.
+    pub is_json: bool,
+    /// Whether warnings are errors.
+    pub is_strict: bool,
+}
+
+/// Prints each finding in the package of a file on a line as it is found, or all of them as JSON on one line. Returns
+/// whether there is no error among them.
 ///
 /// # Errors
 /// Fails as `open_package` does, and if memory is refused for the check. Where that comes in the midst of JSON, the
 /// line says so instead.
 pub fn check_file(
     rt: &System,
-    style: Style,
+    options: CheckOptions,
     file: &PackageFile<'_>,
-    is_json: bool,
     output: &mut Output,
     notes: &mut Output,
 ) -> Result<bool, Failure> {
     let mut package = open_package(rt, file, notes)?;
-    print_check(rt.alloc(), style, file.path, &mut package, is_json, output)
+    print_check(rt.alloc(), options, file.path, &mut package, output)
 }
 
-/// Prints the errors in a package, and returns whether there is none.
+/// Prints the findings in a package, and returns whether there is no error among them.
 fn print_check(
     alloc: Global,
-    style: Style,
+    options: CheckOptions,
     file: &str,
     package: &mut Package<Opened>,
-    is_json: bool,
     output: &mut Output,
 ) -> Result<bool, Failure> {
-    let mut report = Report::new(alloc, style, file, is_json, output);
+    let mut report = Report::new(alloc, options, file, output);
     report.begin();
     let found = find_errors(alloc, package, &mut report);
     report.end(found.as_ref().err());
     match found {
-        Ok(()) => Ok(report.is_empty()),
-        Err(_) if is_json => Ok(false),
+        Ok(()) => Ok(report.is_well()),
+        Err(_) if options.is_json => Ok(false),
         Err(failure) => Err(failure),
     }
 }

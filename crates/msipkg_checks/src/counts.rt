@@ -1,13 +1,14 @@
 //! Reference counts of the string pool that are wrong.
 
 use crate::report::{Place, Report};
+use crate::shown::Cut;
 use msipkg_packages::msi::{Error, ErrorKind, Package};
 use msipkg_packages::output::{Failure, Opened};
 use std::fmt;
 
-/// Finds out whether the counts of the texts are too low, so that each change of the tables is refused, and how many
-/// of them are wrong. The package is counted anew in memory. One with storages below its root isn't looked at: it is
-/// only read.
+/// Finds out whether the counts of the texts are too low, so that the tables can't be changed as they are, and how many
+/// of them are wrong. Many tools write such counts, so it is a warning where counting anew mends them. The package is
+/// counted anew in memory. One with storages below its root isn't looked at: it is only read.
 ///
 /// # Errors
 /// Fails with `OutOfMemory`.
@@ -16,27 +17,50 @@ pub(crate) fn check_counts(
     report: &mut Report<'_>,
 ) -> Result<(), Failure> {
     let page = package.database_codepage();
-    if let Err(error) = package.set_database_codepage(page) {
-        if error.kind() == ErrorKind::InvalidInput {
-            return Ok(());
-        }
-        add_error(error, report)?;
+    let refused = package.set_database_codepage(page);
+    match &refused {
+        Err(error) if error.kind() == ErrorKind::InvalidInput => return Ok(()),
+        Err(_) | Ok(()) => {}
     }
     match package.recount() {
-        Ok(0) => {}
-        Ok(changed) => report.add(Place::Pool, &WrongCounts(changed)),
-        Err(error) => return add_error(error, report),
+        Ok(0) => add_refused(refused, report),
+        Ok(changed) => {
+            let file = report.file();
+            report.warn(Place::Pool, &WrongCounts { file, changed });
+            Ok(())
+        }
+        Err(error) => {
+            add_refused(refused, report)?;
+            add_error(error, report)
+        }
     }
-    Ok(())
 }
 
-/// How many texts have a wrong count.
+/// How many texts of a file have a wrong count.
 #[derive(Clone, Copy)]
-struct WrongCounts(u32);
+struct WrongCounts<'a> {
+    file: Cut<'a>,
+    changed: u32,
+}
 
-impl fmt::Display for WrongCounts {
+impl fmt::Display for WrongCounts<'_> {
     fn fmt<W: fmt::Write>(&self, f: &mut fmt::Formatter<W>) -> fmt::Result {
-        write!(f, "{} texts have a wrong reference count", self.0)
+        match self.changed {
+            1 => f.write_str("1 text has a wrong reference count")?,
+            changed => write!(f, "{changed} texts have a wrong reference count")?,
+        }
+        write!(f, "; msipkg check {} --fix mends counts", self.file)
+    }
+}
+
+/// Adds the error with which a change was refused, if it was.
+///
+/// # Errors
+/// Fails with `OutOfMemory` if that is the error.
+fn add_refused(refused: Result<(), Error>, report: &mut Report<'_>) -> Result<(), Failure> {
+    match refused {
+        Ok(()) => Ok(()),
+        Err(error) => add_error(error, report),
     }
 }
 

@@ -1,14 +1,16 @@
-//! The errors in packages, as `msipkg check` finds them.
+//! The errors and warnings of packages, as `msipkg check` finds them.
 #![tactic(auto)]
 
 pub mod check;
 mod counts;
 mod keys;
 mod reading;
+mod reasons;
 mod references;
 mod report;
+mod shown;
 mod streams;
 mod validation;
 mod values;
 
-pub use check::check_file;
+pub use check::{CheckOptions, check_file};

@@ -3,10 +3,12 @@
 use crate::keys::{KeyColumns, key_text};
 use crate::reading::pass_over;
 use crate::report::{Place, Report};
-use msipkg_packages::msi::{Package, Row, Rows, Select, Table};
+use crate::shown::{Cut, ShownValue, row_name};
+use msipkg_packages::msi::{Package, Row, Rows, Select, Table, Value};
 use msipkg_packages::output::{Failure, Opened};
 use std::alloc::{AllocError, Global};
 use std::collections::BTreeSet;
+use std::fmt::{self, Display};
 
 /// A column with a foreign key, and the numbers of the columns to which it refers.
 struct Reference {
@@ -147,7 +149,7 @@ fn check_row(
 ) -> Result<(), AllocError> {
     for reference in references {
         if !is_met(alloc, row, reference, keys)? {
-            add_missing(table, number, reference.place, report);
+            add_missing(alloc, table, number, row, reference.place, report)?;
         }
     }
     Ok(())
@@ -170,13 +172,40 @@ fn is_met(
 }
 
 /// Adds the error of a cell whose key no row has.
-fn add_missing(table: &Table, row: usize, place: usize, report: &mut Report<'_>) {
-    if let Some(column) = table.columns().get(place) {
+fn add_missing(
+    alloc: Global,
+    table: &Table,
+    number: usize,
+    row: &Row,
+    place: usize,
+    report: &mut Report<'_>,
+) -> Result<(), AllocError> {
+    if let Some(column) = table.columns().get(place)
+        && let Some((tables, _)) = column.foreign_key()
+        && place < row.len()
+    {
+        let name = row_name(alloc, row, number)?;
         let cell = Place::Cell {
             table: table.name(),
-            row,
+            row: name.as_str(),
             column: column.name(),
         };
-        report.add(cell, &"no row has this key");
+        let value = &row[place];
+        report.add(cell, &MissingKey { tables, value });
+    }
+    Ok(())
+}
+
+/// A key that no row has of the tables whose names stand between semicolons.
+#[derive(Clone, Copy)]
+struct MissingKey<'a> {
+    tables: &'a str,
+    value: &'a Value,
+}
+
+impl Display for MissingKey<'_> {
+    fn fmt<W: fmt::Write>(&self, f: &mut fmt::Formatter<W>) -> fmt::Result {
+        let (tables, value) = (Cut(self.tables), ShownValue(self.value));
+        write!(f, "no row of {tables} has {value}")
     }
 }

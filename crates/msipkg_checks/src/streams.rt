@@ -2,13 +2,18 @@
 
 use crate::reading::pass_over;
 use crate::report::{Place, Report};
+use crate::shown::{Cut, next_row_name};
 use msipkg_packages::msi::{ColumnType, Package, Rows, Select, Table, ValueView};
 use msipkg_packages::output::{Failure, Opened, stream_name};
 use std::alloc::{AllocError, Global};
 use std::collections::BTreeSet;
+use std::fmt::{self, Display};
 
-/// Finds the streams that no row names, and the names of rows for which there is no stream. A row with a stream names
-/// it after its table and its key, as `Icon.App`, and a row of `Media` names a cabinet behind a `#`.
+/// The table that names cabinets.
+const MEDIA: &str = "Media";
+
+/// Finds the rows whose stream isn't there, and the streams that no row names. A row with a stream names it after its
+/// table and its key, as `Icon.App`, and a row of `Media` names a cabinet behind a `#`.
 ///
 /// # Errors
 /// Fails with `OutOfMemory`, and so do the other calls.
@@ -18,31 +23,13 @@ pub(crate) fn check_streams(
     report: &mut Report<'_>,
 ) -> Result<(), Failure> {
     let mut names = BTreeSet::new(alloc);
-    add_all_names(alloc, package, &mut names)?;
-    check_names(package, &names, report)
-}
-
-/// Adds the names of all streams that rows name.
-fn add_all_names(
-    alloc: Global,
-    package: &Package<Opened>,
-    names: &mut BTreeSet<String>,
-) -> Result<(), Failure> {
-    for table in package.tables() {
-        add_names(alloc, package, table, names)?;
-    }
-    add_cabinets(alloc, package, names)
-}
-
-/// Finds the streams whose name isn't among these, and the names for which there is no stream.
-fn check_names(
-    package: &Package<Opened>,
-    names: &BTreeSet<String>,
-    report: &mut Report<'_>,
-) -> Result<(), Failure> {
-    check_unnamed(package, names, report)?;
-    check_missing(package, names, report);
-    Ok(())
+    let mut named = Named {
+        alloc,
+        package,
+        names: &mut names,
+    };
+    named.add_all(report)?;
+    check_unnamed(package, &names, report)
 }
 
 /// Finds the streams whose name isn't among these.
@@ -74,31 +61,149 @@ fn check_stream(
     report.add(Place::Stream(name), &message);
 }
 
-/// Finds the names for which there is no stream.
-fn check_missing(package: &Package<Opened>, names: &BTreeSet<String>, report: &mut Report<'_>) {
-    for name in names {
-        if !package.has_stream(name.as_str()) {
+/// The streams that are there and that rows name, on their way. Other names aren't held.
+#[derive(Drop)]
+struct Named<'a> {
+    alloc: Global,
+    package: &'a Package<Opened>,
+    names: &'a mut BTreeSet<String>,
+}
+
+impl Named<'_> {
+    /// Adds the streams that rows name, and finds the rows whose stream isn't there.
+    fn add_all(&mut self, report: &mut Report<'_>) -> Result<(), Failure> {
+        for table in self.package.tables() {
+            if has_stream_column(table) {
+                self.add_table(table, report)?;
+            }
+        }
+        self.add_cabinets(report)
+    }
+
+    /// Adds the streams of a table's rows.
+    fn add_table(&mut self, table: &Table, report: &mut Report<'_>) -> Result<(), Failure> {
+        match self
+            .package
+            .select_rows(Select::table(self.alloc, table.name())?)
+        {
+            Ok(rows) => Ok(self.add_rows(table.name(), rows, report)?),
+            Err(error) => pass_over(error),
+        }
+    }
+
+    /// Adds the streams of rows.
+    fn add_rows(
+        &mut self,
+        table: &str,
+        mut rows: Rows<'_>,
+        report: &mut Report<'_>,
+    ) -> Result<(), AllocError> {
+        for number in 0..rows.len() {
+            self.add_row(table, number.saturating_add(1), &rows, report)?;
+            rows.pass();
+        }
+        Ok(())
+    }
+
+    /// Adds the stream of the next row. One that isn't there is an error if the row needs it.
+    fn add_row(
+        &mut self,
+        table: &str,
+        number: usize,
+        rows: &Rows<'_>,
+        report: &mut Report<'_>,
+    ) -> Result<(), AllocError> {
+        let Some(stream) = stream_name(self.alloc, table, rows)? else {
+            return self.add_unnamable(table, number, rows, report);
+        };
+        if self.package.has_stream(stream.as_str()) {
+            self.names.insert(stream)?;
+            return Ok(());
+        }
+        if needs_stream(rows) {
+            let row = next_row_name(self.alloc, rows, number)?;
+            let row = row.as_str();
+            report.add(Place::Row { table, row }, &Missing(stream.as_str()));
+        }
+        Ok(())
+    }
+
+    /// Adds the error of a row whose stream would have too long a name, if the row needs it.
+    fn add_unnamable(
+        &self,
+        table: &str,
+        number: usize,
+        rows: &Rows<'_>,
+        report: &mut Report<'_>,
+    ) -> Result<(), AllocError> {
+        if needs_stream(rows) {
+            let row = next_row_name(self.alloc, rows, number)?;
+            let row = row.as_str();
             report.add(
-                Place::Stream(name.as_str()),
-                &"a row names it, and it isn't there",
+                Place::Row { table, row },
+                &"its stream isn't there, since the name would be too long",
             );
         }
+        Ok(())
+    }
+
+    /// Adds the cabinets that are streams.
+    fn add_cabinets(&mut self, report: &mut Report<'_>) -> Result<(), Failure> {
+        let query = Select::table(self.alloc, MEDIA)?.columns(&["Cabinet", "DiskId"])?;
+        match self.package.select_rows(query) {
+            Ok(rows) => Ok(self.add_cabinet_rows(rows, report)?),
+            Err(error) => pass_over(error),
+        }
+    }
+
+    /// Adds the cabinets of rows.
+    fn add_cabinet_rows(
+        &mut self,
+        mut rows: Rows<'_>,
+        report: &mut Report<'_>,
+    ) -> Result<(), AllocError> {
+        for number in 0..rows.len() {
+            self.add_cabinet(number.saturating_add(1), &rows, report)?;
+            rows.pass();
+        }
+        Ok(())
+    }
+
+    /// Adds the cabinet behind a `#` in the next row's first value, if there is one.
+    fn add_cabinet(
+        &mut self,
+        number: usize,
+        rows: &Rows<'_>,
+        report: &mut Report<'_>,
+    ) -> Result<(), AllocError> {
+        let Some(ValueView::Str(text)) = rows.peek(0) else {
+            return Ok(());
+        };
+        let Some(name) = text.strip_prefix('#') else {
+            return Ok(());
+        };
+        if self.package.has_stream(name) {
+            self.names.insert(String::from_str(self.alloc, name)?)?;
+            return Ok(());
+        }
+        let row = next_row_name(self.alloc, rows, number)?;
+        let cell = Place::Cell {
+            table: MEDIA,
+            row: row.as_str(),
+            column: "Cabinet",
+        };
+        report.add(cell, &Missing(name));
+        Ok(())
     }
 }
 
-/// Adds the names of the streams of a table's rows, if it has a column of streams.
-fn add_names(
-    alloc: Global,
-    package: &Package<Opened>,
-    table: &Table,
-    names: &mut BTreeSet<String>,
-) -> Result<(), Failure> {
-    if !has_stream_column(table) {
-        return Ok(());
-    }
-    match package.select_rows(Select::table(alloc, table.name())?) {
-        Ok(rows) => add_row_names(alloc, table, rows, names),
-        Err(error) => pass_over(error),
+/// A stream that isn't there.
+#[derive(Clone, Copy)]
+struct Missing<'a>(&'a str);
+
+impl Display for Missing<'_> {
+    fn fmt<W: fmt::Write>(&self, f: &mut fmt::Formatter<W>) -> fmt::Result {
+        write!(f, "its stream {} isn't there", Cut(self.0))
     }
 }
 
@@ -112,79 +217,13 @@ fn has_stream_column(table: &Table) -> bool {
     false
 }
 
-/// Adds the names of the streams of rows.
-fn add_row_names(
-    alloc: Global,
-    table: &Table,
-    mut rows: Rows<'_>,
-    names: &mut BTreeSet<String>,
-) -> Result<(), Failure> {
-    for _ in 0..rows.len() {
-        add_row_name(alloc, table, &rows, names)?;
-        rows.pass();
-    }
-    Ok(())
-}
-
-/// Adds the name of the next row's stream, if it has one.
-fn add_row_name(
-    alloc: Global,
-    table: &Table,
-    rows: &Rows<'_>,
-    names: &mut BTreeSet<String>,
-) -> Result<(), AllocError> {
-    if has_stream(rows) {
-        names.insert(stream_name(alloc, table.name(), rows)?)?;
-    }
-    Ok(())
-}
-
-/// Returns whether one of the next row's values is a stream.
-fn has_stream(rows: &Rows<'_>) -> bool {
-    for place in 0..rows.columns().len() {
-        if matches!(rows.peek(place), Some(ValueView::Binary)) {
+/// Returns whether the next row needs a stream: one of its columns of streams doesn't take null. Whether a cell of such
+/// a column is null, its value doesn't tell.
+fn needs_stream(rows: &Rows<'_>) -> bool {
+    for column in rows.columns() {
+        if matches!(column.coltype(), ColumnType::Binary) && !column.is_nullable() {
             return true;
         }
     }
     false
-}
-
-/// Adds the names of the cabinets that are streams.
-fn add_cabinets(
-    alloc: Global,
-    package: &Package<Opened>,
-    names: &mut BTreeSet<String>,
-) -> Result<(), Failure> {
-    let query = Select::table(alloc, "Media")?.columns(&["Cabinet"])?;
-    match package.select_rows(query) {
-        Ok(rows) => add_cabinet_names(alloc, rows, names),
-        Err(error) => pass_over(error),
-    }
-}
-
-/// Adds the names behind a `#`.
-fn add_cabinet_names(
-    alloc: Global,
-    mut rows: Rows<'_>,
-    names: &mut BTreeSet<String>,
-) -> Result<(), Failure> {
-    for _ in 0..rows.len() {
-        add_cabinet_name(alloc, &rows, names)?;
-        rows.pass();
-    }
-    Ok(())
-}
-
-/// Adds the name behind a `#` in the next row's only value, if there is one.
-fn add_cabinet_name(
-    alloc: Global,
-    rows: &Rows<'_>,
-    names: &mut BTreeSet<String>,
-) -> Result<(), AllocError> {
-    if let Some(ValueView::Str(text)) = rows.peek(0)
-        && let Some(name) = text.strip_prefix('#')
-    {
-        names.insert(String::from_str(alloc, name)?)?;
-    }
-    Ok(())
 }

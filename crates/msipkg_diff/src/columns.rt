@@ -7,10 +7,21 @@ use msipkg_packages::output::ColumnTypeText;
 use msipkg_texts::quoted;
 use std::alloc::{AllocError, Global};
 
-/// Compares the columns of two tables by their names.
-pub(crate) fn compare_columns(old: &Table, new: &Table, report: &mut Report<'_>) {
-    for column in old.columns() {
-        let made = compare_column(old, Some(column), new.get_column(column.name()), report);
+/// Compares the columns of two tables: by their places if they have the same names in the same order, as a table of
+/// another program may have two of one name, and else by their names.
+pub(crate) fn compare_columns(
+    old: &Table,
+    new: &Table,
+    have_same_names: bool,
+    report: &mut Report<'_>,
+) {
+    for (place, column) in old.columns().iter().enumerate() {
+        let other = if have_same_names {
+            new.columns().get(place)
+        } else {
+            new.get_column(column.name())
+        };
+        let made = compare_column(old, Some(column), other, report);
         report.keep(made);
     }
     add_columns(old, new, report);

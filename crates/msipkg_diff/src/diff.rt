@@ -4,9 +4,9 @@ use crate::facts::{compare_kinds, compare_summaries};
 use crate::report::Report;
 use crate::streams::compare_streams;
 use crate::tables::compare_tables;
-use msipkg_packages::msi::Package;
+use msipkg_packages::msi::{CodePage, Package};
 use msipkg_packages::output::{Failure, Opened, Output, System};
-use msipkg_packages::{PackageFile, StoredStreams, open_package, stored_streams};
+use msipkg_packages::{PackageFile, StoredStreams, file_page, open_package, stored_streams};
 use msipkg_texts::Style;
 use std::alloc::Global;
 
@@ -18,6 +18,8 @@ pub(crate) struct Compared<'a> {
     pub(crate) package: &'a Package<Opened>,
     /// The file's streams, if there is one that isn't found under its name.
     pub(crate) stored: Option<&'a StoredStreams>,
+    /// The page that the file names for its database.
+    pub(crate) page: i32,
 }
 
 impl<'a> Compared<'a> {
@@ -25,11 +27,13 @@ impl<'a> Compared<'a> {
         file: &'a str,
         package: &'a Package<Opened>,
         stored: Option<&'a StoredStreams>,
+        page: i32,
     ) -> Compared<'a> {
         Compared {
             file,
             package,
             stored,
+            page,
         }
     }
 }
@@ -52,7 +56,8 @@ pub fn compare_files(
 ) -> Result<bool, Failure> {
     let package = open_package(rt, old, notes)?;
     let stored = stored_streams(rt, old.path, &package)?;
-    let old = Compared::new(old.path, &package, stored.as_ref());
+    let page = stored_page(rt, old.path, &package)?;
+    let old = Compared::new(old.path, &package, stored.as_ref(), page);
     compare_with(rt, style, &old, new, is_json, output, notes)
 }
 
@@ -68,8 +73,18 @@ fn compare_with(
 ) -> Result<bool, Failure> {
     let package = open_new_file(rt, new, notes)?;
     let stored = stored_streams(rt, new.path, &package)?;
-    let new = Compared::new(new.path, &package, stored.as_ref());
+    let page = stored_page(rt, new.path, &package)?;
+    let new = Compared::new(new.path, &package, stored.as_ref(), page);
     print_differences(rt.alloc(), style, old, &new, is_json, output)
+}
+
+/// The page that a file names for the database of its package, where another may be read as UTF-8.
+fn stored_page(rt: &System, file: &str, package: &Package<Opened>) -> Result<i32, Failure> {
+    let page = package.database_codepage().id();
+    match package.database_codepage() {
+        CodePage::Utf8 => Ok(file_page(rt, file)?.unwrap_or(page)),
+        _ => Ok(page),
+    }
 }
 
 /// The package of the new file, at which a failure is.
@@ -106,7 +121,7 @@ fn print_differences(
 
 /// Compares two packages.
 fn compare(old: &Compared<'_>, new: &Compared<'_>, report: &mut Report<'_>) -> Result<(), Failure> {
-    compare_kinds(old.package, new.package, report);
+    compare_kinds(old, new, report);
     compare_summaries(
         old.package.summary_info(),
         new.package.summary_info(),

@@ -59,6 +59,7 @@ pub(crate) enum Content<'a> {
     Value(&'a Value),
     Text(&'a str),
     Number(i64),
+    Truth(bool),
     /// A text that is JSON already.
     Json(&'a str),
 }
@@ -126,6 +127,7 @@ impl Display for ShownContent<'_> {
             Content::Value(Value::Binary) => f.write_str("[stream]"),
             Content::Text(text) | Content::Json(text) => self.style.show(text).fmt(f),
             Content::Number(number) => write!(f, "{number}"),
+            Content::Truth(holds) => f.write_str(if holds { "yes" } else { "no" }),
         }
     }
 }
@@ -171,6 +173,7 @@ fn put_member(member: &Member<'_>, object: &mut JsonObject) {
         Content::Value(Value::Binary) => object.put_truth(name, true),
         Content::Text(text) => object.put_text(name, Some(text)),
         Content::Number(number) => object.put_number(name, Some(number)),
+        Content::Truth(holds) => object.put_truth(name, holds),
         Content::Json(json) => object.put_json(name, json),
     }
 }

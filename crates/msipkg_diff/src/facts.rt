@@ -1,40 +1,44 @@
 //! What differs between the kinds, the code pages and the summaries of two packages.
 
+use crate::diff::Compared;
 use crate::difference::{Change, Content, Difference, Member};
 use crate::report::Report;
-use msipkg_packages::msi::{Error, Package, SummaryInfo};
-use msipkg_packages::output::{Opened, PROPERTIES};
+use msipkg_packages::msi::{Error, SummaryInfo};
+use msipkg_packages::output::PROPERTIES;
 use msipkg_packages::{kind_name, property_text};
 
-/// Compares the kinds and the code pages.
-pub(crate) fn compare_kinds(old: &Package<Opened>, new: &Package<Opened>, report: &mut Report<'_>) {
-    let (kind, other) = (kind_name(old.package_type()), kind_name(new.package_type()));
+/// Compares the kinds, the code pages that the files name, and whether there is a signature.
+pub(crate) fn compare_kinds(old: &Compared<'_>, new: &Compared<'_>, report: &mut Report<'_>) {
+    let kind = kind_name(old.package.package_type());
+    let other = kind_name(new.package.package_type());
     compare_texts("package", "kind", Some(kind), Some(other), report);
-    let (page, other) = (old.database_codepage(), new.database_codepage());
-    compare_pages(page.id(), other.id(), report);
+    if old.page != new.page {
+        let (page, other) = (page_content(old.page), page_content(new.page));
+        add_fact("codepage", page, other, report);
+    }
+    let signed = old.package.has_digital_signature();
+    let other = new.package.has_digital_signature();
+    if signed != other {
+        let (signed, other) = (Content::Truth(signed), Content::Truth(other));
+        add_fact("signed", signed, other, report);
+    }
 }
 
-/// Compares the code pages of two databases.
-fn compare_pages(old: i32, new: i32, report: &mut Report<'_>) {
-    if old == new {
-        return;
-    }
+/// A code page.
+fn page_content(page: i32) -> Content<'static> {
+    Content::Number(i64::from(page))
+}
+
+/// Adds a fact on packages that differs.
+fn add_fact(name: &'static str, old: Content<'_>, new: Content<'_>, report: &mut Report<'_>) {
     report.add(&Difference {
         change: Change::Changed,
         kind: "package",
         table: "",
-        name: "codepage",
-        old: &[page_member(old)],
-        new: &[page_member(new)],
+        name,
+        old: &[Member { name, content: old }],
+        new: &[Member { name, content: new }],
     });
-}
-
-/// A code page.
-fn page_member(page: i32) -> Member<'static> {
-    Member {
-        name: "codepage",
-        content: Content::Number(i64::from(page)),
-    }
 }
 
 /// Compares all properties.

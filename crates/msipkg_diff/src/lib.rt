@@ -5,6 +5,7 @@ mod columns;
 pub mod diff;
 mod difference;
 mod facts;
+mod numbering;
 mod report;
 mod rows;
 mod streams;

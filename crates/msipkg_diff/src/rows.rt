@@ -1,7 +1,8 @@
-//! What differs between the rows of two tables.
+//! What differs between the rows of two tables, and the rows of a table that one package alone has.
 
 use crate::diff::Compared;
 use crate::difference::{Change, Content, Difference, Member};
+use crate::numbering::{Texts, content_of, numbered_rows};
 use crate::report::Report;
 use msi_compare::{Difference as RowDifference, differences};
 use msipkg_packages::msi::{
@@ -10,12 +11,15 @@ use msipkg_packages::msi::{
 use msipkg_packages::output::{Failure, Opened, push_key};
 use msipkg_texts::Shown;
 use std::alloc::{AllocError, Global};
+use std::cmp::Ordering;
 
-/// The rows of two tables, with the columns of the first.
+/// The rows of two tables, whose columns have the same names and keys, with the numbers of texts in their place.
 #[derive(Clone, Copy)]
 struct Pair<'a> {
     table: &'a str,
-    columns: &'a [Column],
+    texts: &'a Texts,
+    old_columns: &'a [Column],
+    new_columns: &'a [Column],
     old: &'a [Items<Value>],
     new: &'a [Items<Value>],
 }
@@ -29,33 +33,90 @@ pub(crate) fn compare_rows(
     old: &Compared<'_>,
     new: &Compared<'_>,
     table: &Table,
+    other: &Table,
     report: &mut Report<'_>,
 ) -> Result<(), Failure> {
-    match selected_rows(report.alloc, old.package, table.name()) {
-        Ok(rows) => compare_with_new(rows.as_slice(), new, table, report),
-        Err(error) => Err(Failure::from(error).at(report.alloc, "table", table.name())),
+    let old_rows = rows_of_old(old, table, report.alloc)?;
+    let new_rows = rows_of_new(new, other, report.alloc)?;
+    if are_same(old_rows, new_rows) {
+        return Ok(());
+    }
+    let old_rows = rows_of_old(old, table, report.alloc)?;
+    let new_rows = rows_of_new(new, other, report.alloc)?;
+    match compare_numbered(table, other, old_rows, new_rows, report) {
+        Ok(()) => Ok(()),
+        Err(failure) => Err(failure.at(report.alloc, "table", table.name())),
     }
 }
 
-/// Compares the rows of a table with those of the new package.
-fn compare_with_new(
-    old_rows: &[Items<Value>],
+/// The rows of a table of the old package.
+fn rows_of_old<'a>(old: &Compared<'a>, table: &Table, alloc: Global) -> Result<Rows<'a>, Failure> {
+    match selected(alloc, old.package, table) {
+        Ok(rows) => Ok(rows),
+        Err(error) => Err(Failure::from(error).at(alloc, "table", table.name())),
+    }
+}
+
+/// The rows of a table of the new package.
+fn rows_of_new<'a>(new: &Compared<'a>, table: &Table, alloc: Global) -> Result<Rows<'a>, Failure> {
+    match selected(alloc, new.package, table) {
+        Ok(rows) => Ok(rows),
+        Err(error) => Err(failure_of_new(alloc, new.file, table.name(), error)),
+    }
+}
+
+/// All rows of a table.
+fn selected<'a>(
+    alloc: Global,
+    package: &'a Package<Opened>,
+    table: &Table,
+) -> Result<Rows<'a>, Error> {
+    package.select_rows(Select::table(alloc, table.name())?)
+}
+
+/// Compares rows that aren't the same.
+fn compare_numbered(
+    table: &Table,
+    other: &Table,
+    old: Rows<'_>,
+    new: Rows<'_>,
+    report: &mut Report<'_>,
+) -> Result<(), Failure> {
+    let mut texts = Texts::new(report.alloc);
+    let old = numbered_rows(report.alloc, &mut texts, old, other.columns())?;
+    let new = numbered_rows(report.alloc, &mut texts, new, table.columns())?;
+    let pair = Pair {
+        table: table.name(),
+        texts: &texts,
+        old_columns: table.columns(),
+        new_columns: other.columns(),
+        old: old.as_slice(),
+        new: new.as_slice(),
+    };
+    compare_pair(&pair, report)
+}
+
+/// Adds the rows of a table that the old package alone has.
+///
+/// # Errors
+/// Fails if the table can't be read, and if memory is refused for a row. So does the other call.
+pub(crate) fn add_removed(
+    old: &Compared<'_>,
+    table: &Table,
+    report: &mut Report<'_>,
+) -> Result<(), Failure> {
+    let rows = rows_of_old(old, table, report.alloc)?;
+    add_all_rows(Change::Removed, table, rows, report)
+}
+
+/// Adds the rows of a table that the new package alone has.
+pub(crate) fn add_added(
     new: &Compared<'_>,
     table: &Table,
     report: &mut Report<'_>,
 ) -> Result<(), Failure> {
-    match selected_rows(report.alloc, new.package, table.name()) {
-        Ok(rows) => {
-            let pair = Pair {
-                table: table.name(),
-                columns: table.columns(),
-                old: old_rows,
-                new: rows.as_slice(),
-            };
-            compare_pair(&pair, report)
-        }
-        Err(error) => Err(failure_of_new(report.alloc, new.file, table.name(), error)),
-    }
+    let rows = rows_of_new(new, table, report.alloc)?;
+    add_all_rows(Change::Added, table, rows, report)
 }
 
 /// The failure at a table of the new package, whose file has to be named.
@@ -67,40 +128,10 @@ fn failure_of_new(alloc: Global, file: &str, table: &str, error: Error) -> Failu
     }
 }
 
-/// Copies of the rows of a table.
-fn selected_rows(
-    alloc: Global,
-    package: &Package<Opened>,
-    table: &str,
-) -> Result<Vec<Items<Value>>, Error> {
-    copied_rows(alloc, package.select_rows(Select::table(alloc, table)?)?)
-}
-
-/// Copies of the values of rows.
-fn copied_rows(alloc: Global, rows: Rows<'_>) -> Result<Vec<Items<Value>>, Error> {
-    let mut copies = Vec::with_capacity(alloc, rows.len())?;
-    for row in rows {
-        copies.push(copied_values(alloc, &row?)?)?;
-    }
-    Ok(copies)
-}
-
-/// Copies of a row's values.
-fn copied_values(alloc: Global, row: &Row) -> Result<Items<Value>, Error> {
-    let mut values = Vec::with_capacity(alloc, row.len())?;
-    for i in 0..row.len() {
-        values.push(row[i].clone(alloc)?)?;
-    }
-    Ok(Items::from_vec(values))
-}
-
 /// Adds what differs between rows.
 fn compare_pair(pair: &Pair<'_>, report: &mut Report<'_>) -> Result<(), Failure> {
-    if are_same(pair.old, pair.new) {
-        return Ok(());
-    }
-    if share_keys(report.alloc, pair.columns, pair.old)?
-        || share_keys(report.alloc, pair.columns, pair.new)?
+    if share_keys(report.alloc, pair.old_columns, pair.old)?
+        || share_keys(report.alloc, pair.old_columns, pair.new)?
     {
         add_counts(pair, report);
         return Ok(());
@@ -109,12 +140,27 @@ fn compare_pair(pair: &Pair<'_>, report: &mut Report<'_>) -> Result<(), Failure>
 }
 
 /// Whether two tables have the same rows in the same order.
-fn are_same(rows: &[Items<Value>], others: &[Items<Value>]) -> bool {
-    rows.len() == others.len()
-        && rows
-            .iter()
-            .zip(others.iter())
-            .all(|(row, other)| row.as_slice() == other.as_slice())
+fn are_same(mut rows: Rows<'_>, mut others: Rows<'_>) -> bool {
+    if rows.len() != others.len() {
+        return false;
+    }
+    for _ in 0..rows.len() {
+        if !are_same_next(&rows, &others) {
+            return false;
+        }
+        rows.pass();
+        others.pass();
+    }
+    true
+}
+
+/// Whether two tables have the same next row.
+fn are_same_next(rows: &Rows<'_>, others: &Rows<'_>) -> bool {
+    (0..rows.columns().len()).all(|place| match (rows.peek(place), others.peek(place)) {
+        (Some(value), Some(other)) => value.compare(other) == Ordering::Equal,
+        (None, None) => true,
+        (Some(_), None) | (None, Some(_)) => false,
+    })
 }
 
 /// Whether different rows of a table share a key. Then one of them differs from the one that stands for the key.
@@ -144,7 +190,7 @@ fn count_member(rows: &[Items<Value>]) -> Member<'static> {
 
 /// Adds each difference between rows.
 fn add_differences(pair: &Pair<'_>, report: &mut Report<'_>) -> Result<(), Failure> {
-    let found = differences(report.alloc, pair.columns, pair.old, pair.new)?;
+    let found = differences(report.alloc, pair.old_columns, pair.old, pair.new)?;
     for difference in &found {
         let made = add_difference(pair, *difference, report);
         report.keep(made);
@@ -194,50 +240,134 @@ fn add_rows(
     new: &[Value],
     report: &mut Report<'_>,
 ) -> Result<(), AllocError> {
-    let key_row = if old.is_empty() { new } else { old };
-    let key = key_text(report.alloc, pair.columns, key_row)?;
-    let old_members = members_beside(report.alloc, pair.columns, old, new)?;
-    let new_members = members_beside(report.alloc, pair.columns, new, old)?;
+    let old_members = members_of(report.alloc, pair.texts, pair.old_columns, old)?;
+    let new_members = members_of(report.alloc, pair.texts, pair.new_columns, new)?;
+    let keyed = if old.is_empty() {
+        &new_members
+    } else {
+        &old_members
+    };
+    let key = key_text(report.alloc, pair.old_columns, keyed.as_slice())?;
     report.add(&Difference {
         change,
         kind: "row",
         table: pair.table,
         name: key.as_str(),
-        old: old_members.as_slice(),
-        new: new_members.as_slice(),
+        old: beside(report.alloc, &old_members, old, new)?.as_slice(),
+        new: beside(report.alloc, &new_members, new, old)?.as_slice(),
     });
     Ok(())
 }
 
-/// The values of a row that another one doesn't have.
-fn members_beside<'a>(
+/// The members of all values of a row.
+fn members_of<'a>(
     alloc: Global,
+    texts: &'a Texts,
     columns: &'a [Column],
     row: &'a [Value],
-    other: &[Value],
 ) -> Result<Vec<Member<'a>>, AllocError> {
-    let mut members = Vec::new(alloc);
-    for i in 0..row.len().min(columns.len()) {
-        if other.get(i) != Some(&row[i]) {
-            members.push(Member {
-                name: columns[i].name(),
-                content: Content::Value(&row[i]),
-            })?;
-        }
+    let mut members = Vec::with_capacity(alloc, row.len())?;
+    for (column, value) in columns.iter().zip(row.iter()) {
+        members.push(Member {
+            name: column.name(),
+            content: content_of(texts, column, value),
+        })?;
     }
     Ok(members)
 }
 
+/// The members of a row whose values another row doesn't have.
+fn beside<'a>(
+    alloc: Global,
+    members: &[Member<'a>],
+    row: &[Value],
+    other: &[Value],
+) -> Result<Vec<Member<'a>>, AllocError> {
+    let mut differing = Vec::new(alloc);
+    for i in 0..members.len().min(row.len()) {
+        if other.get(i) != Some(&row[i]) {
+            differing.push(members[i])?;
+        }
+    }
+    Ok(differing)
+}
+
 /// The values of a row's key, parted by slashes.
-fn key_text(alloc: Global, columns: &[Column], row: &[Value]) -> Result<String, AllocError> {
+fn key_text(
+    alloc: Global,
+    columns: &[Column],
+    members: &[Member<'_>],
+) -> Result<String, AllocError> {
     let mut text = String::new(alloc);
     let mut before = "";
-    for i in 0..row.len().min(columns.len()) {
-        if columns[i].is_primary_key() {
+    for (column, member) in columns.iter().zip(members.iter()) {
+        if column.is_primary_key() {
             text.push_str(before)?;
             before = "/";
-            push_key(ValueView::of(&row[i]), &mut text)?;
+            push_content(member.content, &mut text)?;
         }
     }
     Ok(text)
+}
+
+/// Puts the value of a key behind a text.
+fn push_content(content: Content<'_>, text: &mut String) -> Result<(), AllocError> {
+    match content {
+        Content::Value(value) => push_key(ValueView::of(value), text),
+        Content::Text(value) | Content::Json(value) => text.push_str(value),
+        Content::Number(_) | Content::Truth(_) => Ok(()),
+    }
+}
+
+/// Adds the rows of a table that one package alone has.
+fn add_all_rows(
+    change: Change,
+    table: &Table,
+    rows: Rows<'_>,
+    report: &mut Report<'_>,
+) -> Result<(), Failure> {
+    for row in rows {
+        add_row(change, table, &row?, report)?;
+    }
+    Ok(())
+}
+
+/// Adds a row of such a table.
+fn add_row(
+    change: Change,
+    table: &Table,
+    row: &Row,
+    report: &mut Report<'_>,
+) -> Result<(), AllocError> {
+    let members = row_members(report.alloc, table.columns(), row)?;
+    let key = key_text(report.alloc, table.columns(), members.as_slice())?;
+    let (old, new): (&[Member<'_>], &[Member<'_>]) = match change {
+        Change::Added => (&[], members.as_slice()),
+        Change::Removed | Change::Changed => (members.as_slice(), &[]),
+    };
+    report.add(&Difference {
+        change,
+        kind: "row",
+        table: table.name(),
+        name: key.as_str(),
+        old,
+        new,
+    });
+    Ok(())
+}
+
+/// The members of all values of a row.
+fn row_members<'a>(
+    alloc: Global,
+    columns: &'a [Column],
+    row: &'a Row,
+) -> Result<Vec<Member<'a>>, AllocError> {
+    let mut members = Vec::with_capacity(alloc, row.len())?;
+    for i in 0..row.len().min(columns.len()) {
+        members.push(Member {
+            name: columns[i].name(),
+            content: Content::Value(&row[i]),
+        })?;
+    }
+    Ok(members)
 }

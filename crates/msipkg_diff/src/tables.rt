@@ -4,10 +4,10 @@ use crate::columns::compare_columns;
 use crate::diff::Compared;
 use crate::difference::{Change, Content, Difference, Member};
 use crate::report::Report;
-use crate::rows::compare_rows;
+use crate::rows::{add_added, add_removed, compare_rows};
 use msipkg_packages::is_list;
-use msipkg_packages::msi::{Column, Package, Table};
-use msipkg_packages::output::{Failure, Opened};
+use msipkg_packages::msi::{Column, Table};
+use msipkg_packages::output::Failure;
 use std::alloc::{AllocError, Global};
 
 /// Compares all tables: their columns and, where these have the same names in the same order and the same keys, their
@@ -25,17 +25,22 @@ pub(crate) fn compare_tables(
             compare_table(old, new, table, report)?;
         }
     }
-    add_new_tables(old.package, new.package, report);
-    Ok(())
+    add_new_tables(old, new, report)
 }
 
-/// Adds the tables that the new package alone has.
-fn add_new_tables(old: &Package<Opened>, new: &Package<Opened>, report: &mut Report<'_>) {
-    for table in new.tables() {
-        if !old.has_table(table.name()) {
+/// Adds the tables that the new package alone has, with their rows.
+fn add_new_tables(
+    old: &Compared<'_>,
+    new: &Compared<'_>,
+    report: &mut Report<'_>,
+) -> Result<(), Failure> {
+    for table in new.package.tables() {
+        if !old.package.has_table(table.name()) {
             note_table(Change::Added, table, report);
+            add_added(new, table, report)?;
         }
     }
+    Ok(())
 }
 
 /// Adds a table that one package alone has.
@@ -59,10 +64,11 @@ fn compare_table(
 ) -> Result<(), Failure> {
     let Some(other) = new.package.get_table(table.name()) else {
         note_table(Change::Removed, table, report);
-        return Ok(());
+        return add_removed(old, table, report);
     };
-    compare_columns(table, other, report);
-    if !have_same_names(table.columns(), other.columns()) {
+    let have_names = have_same_names(table.columns(), other.columns());
+    compare_columns(table, other, have_names, report);
+    if !have_names {
         let made = compare_orders(table, other, report);
         report.keep(made);
         return Ok(());
@@ -70,7 +76,7 @@ fn compare_table(
     if !have_same_keys(table.columns(), other.columns()) {
         return Ok(());
     }
-    compare_rows(old, new, table, report)
+    compare_rows(old, new, table, other, report)
 }
 
 /// Whether columns have the same names in the same order.

@@ -1,5 +1,6 @@
 //! The texts of tables' archives, which are written row by row, so that a table's aren't held at once.
 
+use crate::archive_pages::ArchivePage;
 use crate::archive_parts::{archive_columns, key_names};
 use msi_text_archive::{Archive, ArchiveError, write, write_row};
 use msipkg_packages::msi::{CodePage, Column, Error, IntoText, Items, Value};
@@ -81,20 +82,19 @@ impl Drop for ArchiveText<'_> {
 }
 
 impl<'a> ArchiveText<'a> {
-    /// Returns the text of a table without rows. It names the code page only where one of its texts isn't ASCII, of
-    /// which `is_ascii` says whether those of the rows are.
+    /// Returns the text of a table without rows. It names the code page only where one of its texts isn't ASCII, and
+    /// UTF-8 where the page lacks a character; those of the rows are taken in already.
     ///
     /// # Errors
     /// Fails at a name that no archive can have, and with `OutOfMemory`.
     pub(crate) fn new(
         alloc: Global,
-        page: CodePage,
-        is_ascii: bool,
+        mut pages: ArchivePage,
         table: &'a str,
         columns: &'a [Column],
     ) -> Result<ArchiveText<'a>, Failure> {
-        let is_bare = is_ascii && has_ascii_names(table, columns);
-        let page = if is_bare { None } else { Some(page) };
+        add_names(&mut pages, table, columns);
+        let page = pages.page();
         let archive = archive_of(alloc, number_of(page), table, columns)?;
         let text = text_of(alloc, table, columns, &archive)?;
         Ok(ArchiveText {
@@ -177,23 +177,36 @@ pub(crate) fn text_of_rows(
     columns: &[Column],
     rows: &[Items<Value>],
 ) -> Result<StoredText, Failure> {
-    let is_ascii = rows.iter().all(|row| has_ascii_texts(row.as_slice()));
-    let mut text = ArchiveText::new(alloc, page, is_ascii, table, columns)?;
+    let mut pages = ArchivePage::new(page);
     for row in rows {
-        text.push(row.as_slice())?;
+        add_texts(&mut pages, row.as_slice());
     }
+    let mut text = ArchiveText::new(alloc, pages, table, columns)?;
+    push_rows(rows, &mut text)?;
     Ok(text.into_lines())
 }
 
-/// Whether the texts of a row are ASCII.
-fn has_ascii_texts(row: &[Value]) -> bool {
-    row.iter()
-        .all(|value| value.as_str().unwrap_or("").is_ascii())
+/// Adds the lines of rows.
+fn push_rows(rows: &[Items<Value>], text: &mut ArchiveText<'_>) -> Result<(), Failure> {
+    for row in rows {
+        text.push(row.as_slice())?;
+    }
+    Ok(())
 }
 
-/// Whether the names of a table and its columns are ASCII.
-fn has_ascii_names(table: &str, columns: &[Column]) -> bool {
-    table.is_ascii() && columns.iter().all(|column| column.name().is_ascii())
+/// Takes in the texts of a row.
+fn add_texts(pages: &mut ArchivePage, row: &[Value]) {
+    for value in row {
+        pages.add(value.as_str().unwrap_or(""));
+    }
+}
+
+/// Takes in the names of a table and its columns.
+fn add_names(pages: &mut ArchivePage, table: &str, columns: &[Column]) {
+    pages.add(table);
+    for column in columns {
+        pages.add(column.name());
+    }
 }
 
 /// The number of a code page.

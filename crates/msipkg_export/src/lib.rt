@@ -2,6 +2,7 @@
 //! archives of the installer (IDT files).
 #![tactic(auto)]
 
+mod archive_pages;
 mod archive_parts;
 mod archive_texts;
 mod archives;

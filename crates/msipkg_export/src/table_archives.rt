@@ -1,8 +1,11 @@
 //! Tables as text archives, with the files of their rows' streams.
 
+use crate::archive_pages::ArchivePage;
 use crate::archive_parts::text_value;
 use crate::archive_texts::ArchiveText;
-use msipkg_packages::msi::{Column, ColumnType, Error, Package, Rows, Table, Value, ValueView};
+use msipkg_packages::msi::{
+    CodePage, Column, ColumnType, Error, Package, Rows, Table, Value, ValueView,
+};
 use msipkg_packages::output::{Failure, Opened, Output, stream_name};
 use msipkg_packages::rows_of;
 use msipkg_texts::{SafeName, SafeNames, Style};
@@ -70,8 +73,8 @@ impl<'a> TableArchive<'a> {
         package: &'a Package<Opened>,
         table: &'a Table,
     ) -> Result<TableArchive<'a>, Failure> {
-        let is_ascii = have_ascii_texts(rows_of(alloc, package, table.name())?);
-        let page = package.database_codepage();
+        let rows = rows_of(alloc, package, table.name())?;
+        let pages = page_of_rows(package.database_codepage(), rows);
         Ok(TableArchive {
             alloc,
             package,
@@ -79,7 +82,7 @@ impl<'a> TableArchive<'a> {
             given: SafeNames::new(alloc),
             files: Vec::new(alloc),
             row: Vec::new(alloc),
-            text: ArchiveText::new(alloc, page, is_ascii, table.name(), table.columns())?,
+            text: ArchiveText::new(alloc, pages, table.name(), table.columns())?,
         })
     }
 
@@ -133,9 +136,15 @@ impl<'a> TableArchive<'a> {
         }
     }
 
-    /// The name of the file of the next row's stream, as a value.
+    /// The name of the file of the next row's stream, as a value. It is null where the stream isn't there: the cells of
+    /// such columns don't tell null, and so no row of the installer's is without what it had.
     fn file_of(&mut self, rows: &Rows<'_>) -> Result<Value, Error> {
-        let stream = stream_name(self.alloc, self.table, rows)?;
+        let Some(stream) = stream_name(self.alloc, self.table, rows)? else {
+            return Ok(Value::Null);
+        };
+        if !self.package.has_stream(stream.as_str()) {
+            return Ok(Value::Null);
+        }
         let file = self.given.give(stream.as_str())?;
         let value = Value::from_text(self.alloc, file.as_str())?;
         self.files.push(StreamFile { stream, file })?;
@@ -143,32 +152,32 @@ impl<'a> TableArchive<'a> {
     }
 }
 
-/// Whether the texts of rows are ASCII. The names of their streams' files always are. Rows without columns of texts
-/// aren't gone over.
-fn have_ascii_texts(mut rows: Rows<'_>) -> bool {
+/// The page of an archive of rows. The names of their streams' files are ASCII. Rows without columns of texts aren't
+/// gone over.
+fn page_of_rows(page: CodePage, mut rows: Rows<'_>) -> ArchivePage {
+    let mut pages = ArchivePage::new(page);
     if !rows.columns().iter().any(|column| has_texts(column)) {
-        return true;
+        return pages;
     }
     for _ in 0..rows.len() {
-        if !has_ascii_texts(&rows) {
-            return false;
+        if pages.is_settled() {
+            return pages;
         }
+        add_texts(&rows, &mut pages);
         rows.pass();
     }
-    true
+    pages
 }
 
-/// Whether the texts of the next row are ASCII.
-fn has_ascii_texts(rows: &Rows<'_>) -> bool {
+/// Takes in the texts of the next row.
+fn add_texts(rows: &Rows<'_>, pages: &mut ArchivePage) {
     for (place, column) in rows.columns().iter().enumerate() {
         if has_texts(column)
             && let Some(ValueView::Str(text)) = rows.peek(place)
-            && !text.is_ascii()
         {
-            return false;
+            pages.add(text);
         }
     }
-    true
 }
 
 /// Whether a column has texts.

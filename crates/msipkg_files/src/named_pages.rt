@@ -39,6 +39,11 @@ impl NamedPages {
         })
     }
 
+    /// Returns the page of the database.
+    pub(crate) fn database(self) -> Option<i32> {
+        self.database
+    }
+
     /// Returns the pages that texts are recoded from: those that packages aren't read in, and for page 0 the one that
     /// is given.
     pub(crate) fn recoded_from(self, given: Option<i32>) -> Pages {

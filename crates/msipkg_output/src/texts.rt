@@ -38,17 +38,38 @@ pub fn push_key(value: ValueView<'_>, text: &mut String) -> Result<(), AllocErro
     }
 }
 
-/// Returns the name of the next row's stream: its table and the values of its key, parted by dots, as `Icon.App`.
+/// How many characters a stream's name has at most: two of them are packed into one of the 31 that a file stores.
+const MOST_CHARACTERS: usize = 62;
+
+/// Returns the name of the next row's stream: its table and the values of its key, parted by dots, as `Icon.App`. There
+/// is none if it would be longer than names of streams are.
 ///
 /// # Errors
 /// Fails if memory is refused.
-pub fn stream_name(alloc: Global, table: &str, rows: &Rows<'_>) -> Result<String, AllocError> {
+pub fn stream_name(
+    alloc: Global,
+    table: &str,
+    rows: &Rows<'_>,
+) -> Result<Option<String>, AllocError> {
     let mut name = String::from_str(alloc, table)?;
     for (place, column) in rows.columns().iter().enumerate() {
         if column.is_primary_key() {
+            let value = rows.peek(place).unwrap_or(ValueView::Null);
+            if is_too_long(value) {
+                return Ok(None);
+            }
             name.push('.')?;
-            push_key(rows.peek(place).unwrap_or(ValueView::Null), &mut name)?;
+            push_key(value, &mut name)?;
         }
     }
-    Ok(name)
+    let has_room = name.chars().count() <= MOST_CHARACTERS;
+    Ok(if has_room { Some(name) } else { None })
+}
+
+/// Whether a value has more bytes than any text of so many characters.
+fn is_too_long(value: ValueView<'_>) -> bool {
+    match value {
+        ValueView::Str(text) => text.len() > 4 * MOST_CHARACTERS,
+        ValueView::Null | ValueView::Int(_) | ValueView::Binary => false,
+    }
 }

@@ -246,13 +246,18 @@ static PART_COMMANDS: [Row; 4] = [
     Row {
         verb: Verb::Check,
         name: "check",
-        about: "Prints the errors in packages; the status is 1 where there is one",
+        about: "Prints what is wrong with packages; the status is 1 where there is an error",
         arguments: &[
             FILES,
             Argument {
                 id: "fix",
                 form: Form::Flag,
-                help: "Counts the texts anew first, and replaces a file whose counts were wrong",
+                help: "First mends reference counts and makes empty texts null, and replaces the file",
+            },
+            Argument {
+                id: "strict",
+                form: Form::Flag,
+                help: "Makes warnings errors",
             },
             JSON,
             PAGE,

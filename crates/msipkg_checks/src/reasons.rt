@@ -1,0 +1,89 @@
+//! Why a column doesn't take a value.
+
+use crate::shown::Cut;
+use msipkg_packages::msi::{Column, ColumnType, Value};
+use std::fmt::{self, Display};
+
+/// How many of the texts are shown that a column takes.
+const MOST_LISTED: usize = 20;
+
+/// Why a column doesn't take a value, which it doesn't.
+#[derive(Clone, Copy)]
+pub(crate) struct Refusal<'a> {
+    pub(crate) column: &'a Column,
+    pub(crate) value: &'a Value,
+}
+
+impl Display for Refusal<'_> {
+    fn fmt<W: fmt::Write>(&self, f: &mut fmt::Formatter<W>) -> fmt::Result {
+        match self.value {
+            Value::Null => f.write_str("null, which the column doesn't take"),
+            Value::Int(number) => write_number(self.column, *number, f),
+            Value::Str(text) => write_text(self.column, text.as_str(), f),
+            Value::Binary => f.write_str("a stream, which the column doesn't take"),
+        }
+    }
+}
+
+/// Writes why a column doesn't take a number.
+fn write_number<W: fmt::Write>(
+    column: &Column,
+    number: i32,
+    f: &mut fmt::Formatter<W>,
+) -> fmt::Result {
+    match limits_of(column) {
+        Some((least, greatest)) => {
+            write!(f, "{number} is not a number from {least} to {greatest}")
+        }
+        None => write!(f, "{number} is a number, which the column doesn't take"),
+    }
+}
+
+/// The least and the greatest number that a column takes, if it takes numbers. The least of a width means null.
+fn limits_of(column: &Column) -> Option<(i32, i32)> {
+    let (least, greatest) = match column.coltype() {
+        ColumnType::Int16 => (-32767, 32767),
+        ColumnType::Int32 => (-2147483647, 2147483647),
+        ColumnType::Str(_) | ColumnType::Binary => return None,
+    };
+    match column.value_range() {
+        Some((from, to)) => Some((from.max(least), to.min(greatest))),
+        None => Some((least, greatest)),
+    }
+}
+
+/// Writes why a column doesn't take a text.
+fn write_text<W: fmt::Write>(
+    column: &Column,
+    text: &str,
+    f: &mut fmt::Formatter<W>,
+) -> fmt::Result {
+    let (value, length) = (Cut(text), text.chars().count());
+    let ColumnType::Str(most) = column.coltype() else {
+        return write!(f, "'{value}' is a text, which the column doesn't take");
+    };
+    if most != 0 && length > most {
+        return write!(f, "'{value}' is too long: {length} characters of {most}");
+    }
+    if let Some(category) = column.category()
+        && !category.validate(text)
+    {
+        return write!(f, "'{value}' is not of category {}", category.name());
+    }
+    write!(f, "'{value}' is not one of ")?;
+    write_listed(column, f)
+}
+
+/// Writes the texts that a column takes.
+fn write_listed<W: fmt::Write>(column: &Column, f: &mut fmt::Formatter<W>) -> fmt::Result {
+    let listed = column.enum_values().unwrap_or(&[]);
+    let mut before = "";
+    for text in listed.iter().take(MOST_LISTED) {
+        write!(f, "{before}{}", Cut(text.as_str()))?;
+        before = ", ";
+    }
+    if listed.len() > MOST_LISTED {
+        return f.write_str(", ...");
+    }
+    Ok(())
+}

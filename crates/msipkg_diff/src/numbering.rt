@@ -1,0 +1,121 @@
+//! Rows of two tables with numbers in place of texts, so that a text is held once, however many rows have it.
+
+use crate::difference::Content;
+use msipkg_packages::msi::{Column, ColumnType, Error, Items, Rows, Value, ValueView};
+use std::alloc::Global;
+use std::collections::BTreeMap;
+
+/// Texts with their numbers.
+pub(crate) struct Texts {
+    alloc: Global,
+    numbers: BTreeMap<String, i32>,
+    /// The texts as values, by their numbers.
+    values: Vec<Value>,
+}
+
+/// Written out, so that a function that owns one calls one drop, and its proof doesn't go through those of the parts.
+impl Drop for Texts {
+    fn drop(self) {
+        let Texts {
+            alloc: _,
+            numbers: _,
+            values: _,
+        } = self;
+    }
+}
+
+impl Texts {
+    /// Returns no texts.
+    pub(crate) fn new(alloc: Global) -> Texts {
+        Texts {
+            alloc,
+            numbers: BTreeMap::new(alloc),
+            values: Vec::new(alloc),
+        }
+    }
+
+    /// Returns the number of a text, which is a new one if there was none.
+    fn number(&mut self, text: &str) -> Result<i32, Error> {
+        if let Some(number) = self.numbers.get(text) {
+            return Ok(*number);
+        }
+        // There are less than 2^25 texts in two packages.
+        let number = i32::try_from(self.values.len()).unwrap_or(i32::MAX);
+        let key = String::from_str(self.alloc, text)?;
+        self.values.push(Value::from_text(self.alloc, text)?)?;
+        self.numbers.insert(key, number)?;
+        Ok(number)
+    }
+
+    /// Returns the text of a number.
+    fn text(&self, number: i32) -> Option<&Value> {
+        self.values.get(usize::try_from(number).ok()?)
+    }
+}
+
+/// Returns rows with the numbers of texts in their place. Where another column has the place of theirs and holds texts,
+/// numbers are texts, so that no number of a text is taken for one of them.
+///
+/// # Errors
+/// Fails if memory is refused. So do the other calls.
+pub(crate) fn numbered_rows(
+    alloc: Global,
+    texts: &mut Texts,
+    mut rows: Rows<'_>,
+    others: &[Column],
+) -> Result<Vec<Items<Value>>, Error> {
+    let mut all = Vec::with_capacity(alloc, rows.len())?;
+    for _ in 0..rows.len() {
+        all.push(numbered_row(alloc, texts, &rows, others)?)?;
+        rows.pass();
+    }
+    Ok(all)
+}
+
+/// The next row with the numbers of texts in their place.
+fn numbered_row(
+    alloc: Global,
+    texts: &mut Texts,
+    rows: &Rows<'_>,
+    others: &[Column],
+) -> Result<Items<Value>, Error> {
+    let mut values = Vec::with_capacity(alloc, rows.columns().len())?;
+    for place in 0..rows.columns().len() {
+        let value = match rows.peek(place).unwrap_or(ValueView::Null) {
+            ValueView::Null => Value::Null,
+            ValueView::Int(number) => number_beside(alloc, number, others.get(place))?,
+            ValueView::Str(text) => Value::Int(texts.number(text)?),
+            ValueView::Binary => Value::Binary,
+        };
+        values.push(value)?;
+    }
+    Ok(Items::from_vec(values))
+}
+
+/// A number in the place of a column, as a text if that holds texts.
+fn number_beside(alloc: Global, number: i32, other: Option<&Column>) -> Result<Value, Error> {
+    match other {
+        Some(column) if holds_texts(column) => {
+            let text = number.to_string(alloc)?;
+            Value::from_text(alloc, text.as_str())
+        }
+        Some(_) | None => Ok(Value::Int(number)),
+    }
+}
+
+/// Whether a column holds texts.
+fn holds_texts(column: &Column) -> bool {
+    matches!(column.coltype(), ColumnType::Str(_))
+}
+
+/// Returns the content that a value of a row stands for, whose column this is.
+pub(crate) fn content_of<'a>(texts: &'a Texts, column: &Column, value: &'a Value) -> Content<'a> {
+    match value {
+        Value::Int(number) if holds_texts(column) => match texts.text(*number) {
+            Some(text) => Content::Value(text),
+            None => Content::Value(value),
+        },
+        Value::Str(number) => Content::Json(number.as_str()),
+        Value::Int(_) | Value::Null | Value::Binary => Content::Value(value),
+    }
+}
