@@ -48,7 +48,10 @@ fn change_of<'a, 'b>(asked: &Asked<'a, 'b>) -> Change<'a, 'b> {
         Verb::Add => Change::Add(asked.texts("NAME=PATH")),
         Verb::Remove => Change::Remove(asked.texts("NAME")),
         Verb::Exec => Change::Execute(asked.texts("TEXT")),
-        Verb::Import => Change::Import(asked.texts("PATH")),
+        Verb::Import => Change::Import {
+            paths: asked.texts("PATH"),
+            is_lossy: asked.given.get_flag("lossy"),
+        },
         _ => Change::Properties {
             set: asked.texts("set"),
             cleared: asked.texts("clear"),

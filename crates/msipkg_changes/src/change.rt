@@ -1,6 +1,6 @@
 //! The commands that change a package: each is lent the one that is opened here.
 
-use crate::importing::import_files;
+use crate::importing::{Notes, import_files};
 use crate::properties::set_properties;
 use crate::recounting::noted;
 use crate::statements::{carry_out_statements, check_statements};
@@ -20,8 +20,11 @@ pub enum Change<'a, 'b> {
     Remove(&'b [&'a str]),
     /// Statements are carried out.
     Execute(&'b [&'a str]),
-    /// It gets what the files of these paths have.
-    Import(&'b [&'a str]),
+    /// It gets what the files of these paths have: all of it, unless `is_lossy` allows that something is lost.
+    Import {
+        paths: &'b [&'a str],
+        is_lossy: bool,
+    },
     /// Properties of its summary are set, each given as `NAME=VALUE`, and then others are cleared.
     Properties {
         set: &'b [&'a str],
@@ -43,7 +46,7 @@ pub fn change_file(
 ) -> Result<(), Failure> {
     check_words(rt.alloc(), change)?;
     let mut package = open_package(rt, file, notes)?;
-    apply(rt, &mut package, change)?;
+    apply(rt, file.path, &mut package, change, notes)?;
     store(rt, file.path, package, notes)
 }
 
@@ -58,14 +61,18 @@ fn check_words(alloc: Global, change: Change<'_, '_>) -> Result<(), Failure> {
 /// Makes the change in a package.
 fn apply(
     rt: &System,
+    file: &str,
     package: &mut Package<Opened>,
     change: Change<'_, '_>,
+    notes: &mut Output,
 ) -> Result<(), Failure> {
     match change {
         Change::Add(pairs) => add_streams(rt, package, pairs),
         Change::Remove(names) => remove_streams(rt.alloc(), package, names),
         Change::Execute(texts) => execute(rt.alloc(), package, texts),
-        Change::Import(paths) => import_files(rt, package, paths),
+        Change::Import { paths, is_lossy } => {
+            import_files(rt, package, paths, is_lossy, &mut Notes::new(file, notes))
+        }
         Change::Properties { set, cleared } => set_properties(rt.alloc(), package, set, cleared),
     }
 }

@@ -2,6 +2,7 @@
 
 mod columns;
 mod descriptions;
+mod losses;
 mod rows;
 mod rules;
 mod summary;
@@ -9,6 +10,8 @@ mod tables;
 
 use crate::recounting::noted;
 use crate::streams::fill_stream;
+pub(crate) use losses::Notes;
+use losses::refuse_losses;
 use msipkg_packages::msi::Package;
 use msipkg_packages::output::{Failure, Opened, System};
 use msipkg_reading::{Given, GivenStream, read_files};
@@ -17,21 +20,30 @@ use summary::apply_summary;
 use tables::apply_tables;
 
 /// Gives a package what files have: the code page, tables and rows, streams, and the summary, of which nothing of the
-/// old one stays.
+/// old one stays. What the package can't hold of rows of `_Validation` has a line each in `notes`.
 ///
 /// # Errors
-/// Fails if a file can't be read, or isn't what its ending says, at its place there; and as the changes of the package
-/// do, at the table, the row and the column. Some are made then, so the package is to be dropped.
+/// Fails if a file can't be read, or isn't what its ending says, at its place there; as the changes of the package do,
+/// at the table, the row and the column; and if something is lost, unless `is_lossy` allows it. Some changes are made
+/// then, so the package is to be dropped.
 pub(crate) fn import_files(
     rt: &System,
     package: &mut Package<Opened>,
     paths: &[&str],
+    is_lossy: bool,
+    notes: &mut Notes<'_>,
 ) -> Result<(), Failure> {
     let given = read_files(rt, paths)?;
-    match apply(rt.alloc(), package, &given) {
-        Ok(()) => Ok(()),
-        Err(failure) => Err(noted(package, failure)),
+    if let Err(failure) = apply(rt.alloc(), package, &given) {
+        return Err(noted(package, failure));
     }
+    refuse_losses(
+        rt.alloc(),
+        package,
+        given.tables.as_slice(),
+        is_lossy,
+        notes,
+    )
 }
 
 /// Gives a package what files give.

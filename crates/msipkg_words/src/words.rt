@@ -354,6 +354,11 @@ static EXCHANGE_COMMANDS: [Row; 4] = [
                 form: Form::Words,
                 help: "The files, which end in .idt, .json or .csv",
             },
+            Argument {
+                id: "lossy",
+                form: Form::Flag,
+                help: "Imports the rest if _Validation can't hold all that the files say of columns",
+            },
             PAGE,
             RECODE,
         ],
