@@ -1,7 +1,7 @@
 //! The commands that change packages: what is asked for, and its change.
 
 use crate::commands::Asked;
-use msipkg_changes::{Change, Manner, Merging, change_file, create_file, read_script};
+use msipkg_changes::{Change, Import, Manner, Merging, change_file, create_file, read_script};
 use msipkg_output::{Failure, Output, System};
 use msipkg_packages::Purpose;
 use msipkg_words::Verb;
@@ -101,10 +101,11 @@ fn change_of<'a, 'b>(asked: &Asked<'a, 'b>) -> Change<'a, 'b> {
             is_signature: asked.given.get_flag("signature"),
         },
         Verb::Exec => Change::Execute(asked.texts("TEXT")),
-        Verb::Import => Change::Import {
+        Verb::Import => Change::Import(Import {
             paths: asked.texts("PATH"),
             merging: merging_of(asked),
-        },
+            is_lossy: asked.given.get_flag("lossy"),
+        }),
         _ => Change::Properties {
             set: asked.texts("set"),
             cleared: asked.texts("clear"),

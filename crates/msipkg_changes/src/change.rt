@@ -1,6 +1,6 @@
 //! The commands that change a package: each is lent the one that is opened here.
 
-use crate::importing::{Merging, import_files};
+use crate::importing::{Import, Losses, import_files};
 use crate::outcome::Outcome;
 use crate::pages::recode;
 use crate::properties::set_properties;
@@ -27,11 +27,8 @@ pub enum Change<'a, 'b> {
     },
     /// Statements are carried out.
     Execute(&'b [&'a str]),
-    /// It gets what the files of these paths have.
-    Import {
-        paths: &'b [&'a str],
-        merging: Merging,
-    },
+    /// It gets what files have.
+    Import(Import<'a, 'b>),
     /// Properties of its summary are set, each given as `NAME=VALUE`, and then others are cleared.
     Properties {
         set: &'b [&'a str],
@@ -92,7 +89,7 @@ fn changed_package(
 ) -> Result<(Package<Opened>, FileState), Failure> {
     let (mut package, state) = open_to_change(rt, file, notes)?;
     let before = Before::of(&package);
-    apply(rt, &mut package, change, manner, outcome)?;
+    apply(rt, file.path, &mut package, change, manner, outcome, notes)?;
     before.note(file.path, &package, notes);
     recode(&mut package, file.purpose, manner, outcome)?;
     Ok((package, state))
@@ -102,7 +99,7 @@ fn changed_package(
 fn check_words(alloc: Global, change: Change<'_, '_>) -> Result<(), Failure> {
     match change {
         Change::Execute(texts) => check_statements(alloc, texts),
-        Change::Add(_) | Change::Remove { .. } | Change::Import { .. } | Change::Properties { .. } =>
+        Change::Add(_) | Change::Remove { .. } | Change::Import(_) | Change::Properties { .. } =>
             Ok(()),
     }
 }
@@ -110,10 +107,12 @@ fn check_words(alloc: Global, change: Change<'_, '_>) -> Result<(), Failure> {
 /// Makes the change in a package.
 fn apply(
     rt: &System,
+    file: &str,
     package: &mut Package<Opened>,
     change: Change<'_, '_>,
     manner: Manner,
     outcome: &mut Outcome,
+    notes: &mut Output,
 ) -> Result<(), Failure> {
     match change {
         Change::Add(pairs) => add_streams(rt, package, pairs),
@@ -122,7 +121,10 @@ fn apply(
             is_signature,
         } => remove_parts(rt.alloc(), package, names, is_signature),
         Change::Execute(texts) => execute(rt.alloc(), package, texts, manner, outcome),
-        Change::Import { paths, merging } => import_files(rt, package, paths, merging, manner, outcome),
+        Change::Import(import) => {
+            let losses = &mut Losses::new(file, notes);
+            import_files(rt, package, import, manner, outcome, losses)
+        }
         Change::Properties { set, cleared } => set_properties(rt.alloc(), package, set, cleared),
     }
 }

@@ -2,6 +2,7 @@
 
 mod columns;
 mod descriptions;
+mod losses;
 mod merging;
 mod rows;
 mod rules;
@@ -12,6 +13,8 @@ use crate::change::Manner;
 use crate::outcome::Outcome;
 use crate::recounting::{mend_first, noted};
 use crate::streams::fill_stream;
+pub(crate) use losses::Losses;
+use losses::note_losses;
 use msipkg_packages::msi::Package;
 use msipkg_packages::output::{Failure, Opened, System};
 use msipkg_reading::{Given, GivenStream, read_files};
@@ -30,28 +33,42 @@ pub enum Merging {
     Update,
 }
 
+/// What is imported.
+#[derive(Clone, Copy)]
+pub struct Import<'a, 'b> {
+    /// The paths of the files.
+    pub paths: &'b [&'a str],
+    /// What becomes of rows whose keys are there.
+    pub merging: Merging,
+    /// Whether something may be lost that the package can't hold.
+    pub is_lossy: bool,
+}
+
 /// Gives a package what files have: the code page, tables and rows, streams, and the summary, of which nothing of the
-/// old one stays. Counts that are too low for its tables are mended first.
+/// old one stays. Counts that are too low for its tables are mended first. What the package can't hold of rows of
+/// `_Validation` has a line each in `losses`.
 ///
 /// # Errors
-/// Fails if a file can't be read, or isn't what its ending says, at its place there; and as the changes of the package
-/// do, at the table, the row and the column. Some are made then, so the package is to be dropped.
+/// Fails if a file can't be read, or isn't what its ending says, at its place there; as the changes of the package do,
+/// at the table, the row and the column; and if something is lost, unless `is_lossy` allows it. Some changes are made
+/// then, so the package is to be dropped.
 pub(crate) fn import_files(
     rt: &System,
     package: &mut Package<Opened>,
-    paths: &[&str],
-    merging: Merging,
+    import: Import<'_, '_>,
     manner: Manner,
     outcome: &mut Outcome,
+    losses: &mut Losses<'_>,
 ) -> Result<(), Failure> {
-    let given = read_files(rt, paths)?;
+    let given = read_files(rt, import.paths)?;
     if given.page.is_some() || !given.tables.is_empty() {
         mend_first(package, manner, outcome);
     }
-    match apply(rt.alloc(), package, &given, merging) {
-        Ok(()) => Ok(()),
-        Err(failure) => Err(noted(package, failure)),
+    if let Err(failure) = apply(rt.alloc(), package, &given, import.merging) {
+        return Err(noted(package, failure));
     }
+    note_losses(rt.alloc(), package, given.tables.as_slice(), losses)?;
+    losses.permit(import.is_lossy)
 }
 
 /// Gives a package what files give.

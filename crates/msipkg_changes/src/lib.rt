@@ -22,6 +22,6 @@ mod validation;
 
 pub use change::{Change, Manner, change_file};
 pub use create::create_file;
-pub use importing::Merging;
+pub use importing::{Import, Merging};
 pub use recounting::mend_counts;
 pub use script::read_script;

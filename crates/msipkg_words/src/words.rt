@@ -409,6 +409,11 @@ static EXCHANGE_COMMANDS: [Row; 4] = [
                 form: Form::Instead(&["replace"]),
                 help: "Changes rows with the same key in the columns that are given alone",
             },
+            Argument {
+                id: "lossy",
+                form: Form::Flag,
+                help: "Imports the rest if _Validation can't hold all that the files say of columns",
+            },
             PAGE,
             RECODE,
             STRICT,

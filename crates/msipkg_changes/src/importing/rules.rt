@@ -2,7 +2,7 @@
 
 use crate::importing::rows::package_rows;
 pub(crate) use crate::validation::VALIDATION;
-use msipkg_packages::msi::{Column, Value};
+use msipkg_packages::msi::{Category, Column, Value};
 use msipkg_packages::output::Failure;
 use msipkg_reading::GivenTable;
 use std::alloc::Global;
@@ -41,12 +41,20 @@ fn add_rules(
     Ok(())
 }
 
-/// Makes values null that columns don't take.
+/// Makes values null that columns don't take, but for a category in another spelling.
 fn forget_others(columns: &[Column], row: &mut [Value]) {
     for i in 0..row.len().min(columns.len()) {
-        if !columns[i].is_valid_value(&row[i]) {
+        if !columns[i].is_valid_value(&row[i]) && !has_category(columns[i].name(), &row[i]) {
             row[i] = Value::Null;
         }
+    }
+}
+
+/// Whether a value of a column of `_Validation` names a category: other programs spell some otherwise, as `Guid`.
+pub(crate) fn has_category(column: &str, value: &Value) -> bool {
+    match value {
+        Value::Str(text) => column == "Category" && text.as_str().parse::<Category>().is_ok(),
+        Value::Null | Value::Int(_) | Value::Binary => false,
     }
 }
 
