@@ -68,7 +68,7 @@ fn key_of(alloc: Global, table: &str, column: &str) -> Result<String, AllocError
     format!(in alloc; "{} {table}{column}", table.len())
 }
 
-/// Losses what a package doesn't hold of rows of `_Validation` among tables: each cell and each row has a line.
+/// Notes what a package doesn't hold of rows of `_Validation` among tables: each cell and each row has a line.
 ///
 /// # Errors
 /// Fails if `_Validation` can't be read, and with `OutOfMemory`.
@@ -104,7 +104,18 @@ impl<'a> Losses<'a> {
         }
     }
 
-    /// Losses that nothing of a row is stored.
+    /// Fails if something is lost that may not be.
+    ///
+    /// # Errors
+    /// Fails so.
+    pub(crate) fn permit(&self, is_lossy: bool) -> Result<(), Failure> {
+        if self.count > 0 && !is_lossy {
+            return Err(Failure::rule(LOSSY));
+        }
+        Ok(())
+    }
+
+    /// Notes that nothing of a row is stored.
     fn add_row(&mut self, table: &str, column: &str) {
         self.count = self.count.saturating_add(1);
         let (file, table, column) = shown(self.file, table, column);
@@ -114,7 +125,7 @@ impl<'a> Losses<'a> {
         );
     }
 
-    /// Losses that a cell of a row isn't stored.
+    /// Notes that a cell of a row isn't stored.
     fn add_cell(&mut self, table: &str, column: &str, cell: &str) {
         self.count = self.count.saturating_add(1);
         let (file, table, column) = shown(self.file, table, column);
@@ -124,7 +135,7 @@ impl<'a> Losses<'a> {
         );
     }
 
-    /// Losses that rows aren't stored whose tables the package hasn't got.
+    /// Notes that rows aren't stored whose tables the package hasn't got.
     fn add_others(&mut self, many: usize) {
         if many > 0 {
             self.count = self.count.saturating_add(many);
@@ -146,7 +157,7 @@ fn shown<'a>(file: &'a str, table: &'a str, column: &'a str) -> (Shown<'a>, Show
     )
 }
 
-/// Losses what a package doesn't hold of the rows of a `_Validation`.
+/// Notes what a package doesn't hold of the rows of a `_Validation`.
 fn note_table(
     alloc: Global,
     package: &Package<Opened>,
@@ -159,7 +170,7 @@ fn note_table(
     note_rows(package, columns, table, &held, rows.as_slice(), losses)
 }
 
-/// Losses what a package doesn't hold of these rows.
+/// Notes what a package doesn't hold of these rows.
 fn note_rows(
     package: &Package<Opened>,
     columns: &[Column],
@@ -187,7 +198,7 @@ fn note_rows(
     Ok(())
 }
 
-/// Losses the cells of a row that aren't as they are stored, of the columns that its table gives.
+/// Notes the cells of a row that aren't as they are stored, of the columns that its table gives.
 fn note_cells(
     columns: &[Column],
     table: &GivenTable,
