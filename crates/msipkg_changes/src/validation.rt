@@ -30,14 +30,15 @@ impl Before {
 
     /// Writes a line where `_Validation` was added, and one where the signature was left out for that.
     pub(crate) fn note(self, file: &str, package: &Package<Opened>, notes: &mut Output) {
-        let file = Shown::escaped(file);
-        if !self.has_validation && package.has_table(VALIDATION) {
-            writeln!(
-                notes,
-                "msipkg: {file}: _Validation is added, which new tables need"
-            );
+        if self.has_validation || !package.has_table(VALIDATION) {
+            return;
         }
-        if self.is_signed && !package.has_digital_signature() {
+        let file = Shown::escaped(file);
+        writeln!(
+            notes,
+            "msipkg: {file}: _Validation is added, which new tables need"
+        );
+        if self.is_signed {
             writeln!(notes, "msipkg: {file}: its digital signature is removed");
         }
     }
