@@ -2,7 +2,7 @@
 
 mod columns;
 mod descriptions;
-mod merging;
+mod merger;
 mod rows;
 mod rules;
 mod summary;

@@ -4,7 +4,7 @@ use crate::definition::check_reserved;
 use crate::importing::Merging;
 use crate::importing::columns::built_columns;
 use crate::importing::descriptions::describe;
-use crate::importing::merging::merged_rows;
+use crate::importing::merger::merged_rows;
 use crate::importing::rows::{check_rows, columns_of, package_rows};
 use crate::importing::rules::{VALIDATION, rules_of};
 use crate::validation::{add_validation, copied_rows};
