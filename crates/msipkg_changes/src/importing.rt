@@ -3,7 +3,7 @@
 mod columns;
 mod descriptions;
 mod losses;
-mod merging;
+mod merger;
 mod rows;
 mod rules;
 mod summary;

@@ -6,7 +6,7 @@ use strsim::osa_distance;
 
 /// The name that is nearest to another so far, and how many edits lead to it.
 #[derive(Clone, Copy)]
-struct Nearest<'a> {
+struct Candidate<'a> {
     name: &'a str,
     edits: usize,
 }
@@ -28,10 +28,10 @@ fn nearest<'a>(
 }
 
 /// The nearer one of two names.
-fn nearer<'a>(found: Option<Nearest<'a>>, name: &'a str, edits: usize) -> Option<Nearest<'a>> {
+fn nearer<'a>(found: Option<Candidate<'a>>, name: &'a str, edits: usize) -> Option<Candidate<'a>> {
     match found {
         Some(found) if found.edits <= edits => Some(found),
-        _ => Some(Nearest { name, edits }),
+        _ => Some(Candidate { name, edits }),
     }
 }
 

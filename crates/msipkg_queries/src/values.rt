@@ -18,17 +18,61 @@ pub(crate) fn insert_fault(
     table: &Table,
     pieces: &[Piece<'_>],
 ) -> Result<Option<String>, AllocError> {
+    let mut spot = Spot { row: 0, value: 0 };
     for i in 0..pieces.len() {
-        let fault = if pieces[i].kind == Kind::Close {
-            count_fault(alloc, table, pieces, i)?
-        } else {
-            value_fault(alloc, table, pieces, i, inserted_column(table, pieces, i))?
-        };
+        spot = spot.behind(pieces[i].kind);
+        let fault = inserted_fault(alloc, table, pieces, i, spot)?;
         if fault.is_some() {
             return Ok(fault);
         }
     }
     Ok(None)
+}
+
+/// Where a piece of an insert stands.
+#[derive(Clone, Copy)]
+struct Spot {
+    /// Which row it is of, counted from 1 on.
+    row: usize,
+    /// Which value of the row it is, counted from 0 on.
+    value: usize,
+}
+
+impl Spot {
+    /// Returns where a piece behind this one stands.
+    fn behind(self, kind: Kind) -> Spot {
+        match kind {
+            Kind::Open => Spot {
+                row: self.row.saturating_add(1),
+                value: 0,
+            },
+            Kind::Comma => Spot {
+                row: self.row,
+                value: self.value.saturating_add(1),
+            },
+            _ => self,
+        }
+    }
+}
+
+/// What is wrong with the value at a place of an insert, or with the row that ends there.
+fn inserted_fault(
+    alloc: Global,
+    table: &Table,
+    pieces: &[Piece<'_>],
+    place: usize,
+    spot: Spot,
+) -> Result<Option<String>, AllocError> {
+    if !is_at(pieces, place, Kind::Close) {
+        return value_fault(alloc, table, pieces, place, table.columns().get(spot.value));
+    }
+    let is_empty = is_at(pieces, place.saturating_sub(1), Kind::Open);
+    let has = if is_empty {
+        0
+    } else {
+        spot.value.saturating_add(1)
+    };
+    count_fault(alloc, table, spot.row, has)
 }
 
 /// Returns what is wrong with the first value that an update sets.
@@ -49,46 +93,21 @@ pub(crate) fn update_fault(
     Ok(None)
 }
 
-/// What is wrong with the number of values in the row that ends at a place.
+/// What is wrong with how many values a row has.
 fn count_fault(
     alloc: Global,
     table: &Table,
-    pieces: &[Piece<'_>],
-    place: usize,
+    row: usize,
+    has: usize,
 ) -> Result<Option<String>, AllocError> {
-    let has = place_in_row(pieces, place).saturating_add(1);
     let wanted = table.columns().len();
     if has == wanted {
         return Ok(None);
     }
-    let (name, row) = (Shown::escaped(table.name()), row_number(pieces, place));
+    let name = Shown::escaped(table.name());
     Ok(Some(format!(in alloc;
         "{name}: row {row} has {has} values, and there are {wanted} columns"
     )?))
-}
-
-/// Which value of its row stands at a place, counted from 0 on.
-fn place_in_row(pieces: &[Piece<'_>], place: usize) -> usize {
-    let mut count = 0usize;
-    for piece in pieces.iter().take(place) {
-        match piece.kind {
-            Kind::Open => count = 0,
-            Kind::Comma => count = count.saturating_add(1),
-            _ => {}
-        }
-    }
-    count
-}
-
-/// Which row stands at a place, counted from 1 on.
-fn row_number(pieces: &[Piece<'_>], place: usize) -> usize {
-    let before = pieces.iter().take(place);
-    before.filter(|piece| piece.kind == Kind::Open).count()
-}
-
-/// The column that gets the value at a place of an insert.
-fn inserted_column<'a>(table: &'a Table, pieces: &[Piece<'_>], place: usize) -> Option<&'a Column> {
-    table.columns().get(place_in_row(pieces, place))
 }
 
 /// The column that is set to the value at a place of an update.

@@ -4,7 +4,7 @@ use crate::definition::check_reserved;
 use crate::importing::Merging;
 use crate::importing::columns::built_columns;
 use crate::importing::descriptions::describe;
-use crate::importing::merging::merged_rows;
+use crate::importing::merger::merged_rows;
 use crate::importing::rows::{check_rows, columns_of, package_rows};
 use crate::importing::rules::{VALIDATION, rules_of};
 use crate::validation::{add_validation, copied_rows};
@@ -25,15 +25,27 @@ pub(crate) fn apply_tables(
     tables: &[GivenTable],
     merging: Merging,
 ) -> Result<(), Failure> {
-    if !tables
-        .iter()
-        .all(|table| package.has_table(table.name.as_str()))
-    {
-        add_validation(alloc, package)?;
-    }
+    prepare(alloc, package, tables)?;
     let rules = rules_of(alloc, columns_of(package, VALIDATION), tables)?;
     create_tables(alloc, package, rules.as_slice(), tables)?;
     insert_all(alloc, package, tables, merging)
+}
+
+/// Gives a package `_Validation` if it lacks one of the tables.
+fn prepare(
+    alloc: Global,
+    package: &mut Package<Opened>,
+    tables: &[GivenTable],
+) -> Result<(), Failure> {
+    for table in tables {
+        if package.has_table(table.name.as_str()) {
+            continue;
+        }
+        if let Err(failure) = add_validation(alloc, package) {
+            return Err(table.at_table(alloc, failure));
+        }
+    }
+    Ok(())
 }
 
 /// Creates the tables that aren't there, and describes columns.

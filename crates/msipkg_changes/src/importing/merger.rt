@@ -53,15 +53,15 @@ pub(crate) fn merged_rows(
     rows: Vec<Vec<Value>>,
     given: Vec<Vec<Value>>,
 ) -> Result<Vec<Vec<Value>>, Failure> {
+    let places = places_of(alloc, columns, rows.as_slice())?;
     let mut merger = Merger {
         alloc,
         columns,
         table,
         merging,
         rows,
-        places: BTreeMap::new(alloc),
+        places,
     };
-    merger.find_places()?;
     merger.take_all(given)?;
     Ok(merger.into_rows())
 }
@@ -78,19 +78,6 @@ impl Merger<'_> {
             places: _,
         } = self;
         rows
-    }
-
-    /// Finds the places of the rows that are there.
-    fn find_places(&mut self) -> Result<(), Error> {
-        for row in 0..self.rows.len() {
-            let key = key_of(self.alloc, self.columns, self.rows[row].as_slice())?;
-            let place = Place {
-                row,
-                is_given: false,
-            };
-            self.places.insert(key, place)?;
-        }
-        Ok(())
     }
 
     /// Takes the rows of a file.
@@ -149,6 +136,23 @@ impl Merger<'_> {
         }
         Ok(())
     }
+}
+
+/// Where rows stand, by their keys.
+fn places_of(
+    alloc: Global,
+    columns: &[Column],
+    rows: &[Vec<Value>],
+) -> Result<BTreeMap<Vec<Value>, Place>, Error> {
+    let mut places = BTreeMap::new(alloc);
+    for row in 0..rows.len() {
+        let place = Place {
+            row,
+            is_given: false,
+        };
+        places.insert(key_of(alloc, columns, rows[row].as_slice())?, place)?;
+    }
+    Ok(places)
 }
 
 /// The key of a row.
