@@ -30,12 +30,12 @@ pub enum Change<'a, 'b> {
 }
 
 /// Changes the package of a file: all of the change, or none of it. Statements are read before the file is, and it is
-/// locked from before it is read until it is replaced. If the
-/// package is signed, `notes` gets a line that says that the signature is no longer valid.
+/// locked from before it is read until it is replaced. If the package is signed, `notes` gets a line that says that the
+/// signature is no longer valid.
 ///
 /// # Errors
-/// Fails at the first text that is no statement, and as `Claim::take`, `open_package`, the change and the calls of the system do. Then
-/// the file is as it was.
+/// Fails at the first text that is no statement, and as `Claim::take`, `open_package`, the change and the calls of the
+/// system do. Then the file is as it was.
 pub fn change_file(
     rt: &System,
     file: &PackageFile<'_>,

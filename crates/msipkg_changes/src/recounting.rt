@@ -10,7 +10,8 @@ use msipkg_texts::Shown;
 /// says how many.
 ///
 /// # Errors
-/// Fails as `Claim::take`, `open_package`, `Package::recount` and the calls of the system do. Then the file is as it was.
+/// Fails as `Claim::take`, `open_package`, `Package::recount` and the calls of the system do. Then the file is as it
+/// was.
 pub fn mend_counts(rt: &System, file: &PackageFile<'_>, notes: &mut Output) -> Result<(), Failure> {
     let claim = Claim::take(rt, file.path)?;
     let mut package = open_package(rt, file, notes)?;

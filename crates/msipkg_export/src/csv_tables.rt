@@ -12,8 +12,8 @@ use std::alloc::{AllocError, Global};
 /// there.
 ///
 /// # Errors
-/// Fails if a table isn't there, or if a file is there already and isn't to be replaced, and then nothing is written; if
-/// a table can't be read, and as the calls of the system do. The files of earlier tables stay.
+/// Fails if a table isn't there, or if a file is there already and isn't to be replaced, and then nothing is written;
+/// if a table can't be read, and as the calls of the system do. The files of earlier tables stay.
 pub(crate) fn export_csv(
     rt: &System,
     package: &Package<Opened>,
