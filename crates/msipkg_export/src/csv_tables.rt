@@ -73,7 +73,7 @@ fn write_file(rt: &System, path: &str, is_forced: bool, rows: Rows<'_>) -> Resul
     let (new, bytes) = open_new(rt, path, is_forced)?;
     let mut output = Output::to_file(rt.alloc(), bytes);
     let written = write_synced(rt.alloc(), rows, &mut output);
-    new.settle(rt, written, path)
+    new.settle(rt, written)
 }
 
 /// Writes rows to a file, and waits until the disk has them.
