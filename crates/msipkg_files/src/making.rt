@@ -202,19 +202,20 @@ pub(crate) fn open_beside(rt: &System, target: &str) -> Result<(String, SystemFi
     Err(Failure::rule("each name beside it that was tried is taken"))
 }
 
-/// Makes a file and locks it, unless something has its path, or another program takes it away.
+/// Makes a file and locks it, if its file system has locks, unless something has its path, or another program takes it
+/// away.
 fn create_locked(rt: &System, path: &str) -> Result<Option<SystemFile>, Failure> {
     match rt.create_new(path) {
-        Ok(file) if is_ours(rt, &file, path) => Ok(Some(file)),
+        Ok(file) if file.lock().unwrap_or(true) && has_path(rt, &file, path) => Ok(Some(file)),
         Ok(_) => Ok(None),
         Err(error) if error.kind() == ErrorKind::AlreadyExists => Ok(None),
         Err(error) => Err(Failure::from(error)),
     }
 }
 
-/// Whether a file could be locked, and still has its path.
-fn is_ours(rt: &System, file: &SystemFile, path: &str) -> bool {
-    file.lock() && is_at(rt, file, path).unwrap_or(false)
+/// Whether a file still has its path.
+fn has_path(rt: &System, file: &SystemFile, path: &str) -> bool {
+    is_at(rt, file, path).unwrap_or(false)
 }
 
 /// Removes all files beside another that programs left which were killed.
@@ -236,10 +237,11 @@ fn remove_leftover(rt: &System, path: &str) {
     }
 }
 
-/// Removes a file that no program has locked.
+/// Removes a file that no program has locked. On a file system without locks it stays.
 fn remove_unlocked(rt: &System, path: &str) {
     if let Ok(file) = rt.open(path)
-        && is_ours(rt, &file, path)
+        && file.lock().unwrap_or(false)
+        && has_path(rt, &file, path)
     {
         let _ = fs::remove_file(&rt.rt, path);
     }
