@@ -182,7 +182,7 @@ fn write_file(
     let (new, bytes) = open_new(rt, path, is_forced)?;
     let mut output = Output::to_file(rt.alloc(), bytes);
     let written = write_synced(archive, &mut output);
-    new.settle(rt, written, path)
+    new.settle(rt, written)
 }
 
 /// Writes the archive of a table, and waits until the disk has it.

@@ -12,8 +12,8 @@ use std::alloc::{AllocError, Global};
 /// there.
 ///
 /// # Errors
-/// Fails if a table isn't there, or if a file is there already and isn't to be replaced, and then nothing is written; if
-/// a table can't be read, and as the calls of the system do. The files of earlier tables stay.
+/// Fails if a table isn't there, or if a file is there already and isn't to be replaced, and then nothing is written;
+/// if a table can't be read, and as the calls of the system do. The files of earlier tables stay.
 pub(crate) fn export_csv(
     rt: &System,
     package: &Package<Opened>,
@@ -73,7 +73,7 @@ fn write_file(rt: &System, path: &str, is_forced: bool, rows: Rows<'_>) -> Resul
     let (new, bytes) = open_new(rt, path, is_forced)?;
     let mut output = Output::to_file(rt.alloc(), bytes);
     let written = write_synced(rt.alloc(), rows, &mut output);
-    new.settle(rt, written, path)
+    new.settle(rt, written)
 }
 
 /// Writes rows to a file, and waits until the disk has them.

@@ -164,7 +164,7 @@ fn write_json(
     let (new, bytes) = open_output(rt, target.path, target.is_forced)?;
     let mut output = Output::to_file(rt.alloc(), bytes);
     let written = write_synced(rt.alloc(), file, package, names, &mut output);
-    new.settle(rt, written, target.path)
+    new.settle(rt, written)
 }
 
 /// Writes a package as JSON to a file, and waits until the disk has it.

@@ -1,7 +1,7 @@
 //! Folders that files are written to.
 
 use crate::kinds::check_way;
-use crate::making::write_file;
+use crate::making::write_new;
 use msipkg_output::{Failure, System, at_file, path_in};
 use msipkg_texts::SafeName;
 use std::alloc::{AllocError, Global};
@@ -42,10 +42,10 @@ impl Folder<'_> {
     /// Writes a file of this name.
     ///
     /// # Errors
-    /// Fails as `write_file` does, at the file's path.
+    /// Fails as `write_new` does, at the file's path.
     pub fn write(&self, rt: &System, name: &SafeName, bytes: &[u8]) -> Result<(), Failure> {
         let path = self.path_of(rt.alloc(), name)?;
-        let written = write_file(rt, path.as_str(), self.is_forced, bytes);
+        let written = write_new(rt, path.as_str(), self.is_forced, bytes);
         at_file(rt.alloc(), path.as_str(), written)
     }
 }

@@ -15,6 +15,8 @@ const TRIES: u32 = 100;
 pub struct NewFile {
     /// The path that it has until it is whole, or none if it is a device or a pipe, which is written to as it is.
     made: Option<String>,
+    /// The path that it is to have.
+    path: String,
     /// Whether a file that has its path is replaced.
     is_forced: bool,
 }
@@ -24,6 +26,7 @@ impl Drop for NewFile {
     fn drop(self) {
         let NewFile {
             made: _,
+            path: _,
             is_forced: _,
         } = self;
     }
@@ -35,32 +38,47 @@ impl NewFile {
     /// # Errors
     /// Fails as writing it did, if a file is there meanwhile that isn't to be replaced, and as the calls of the system
     /// do. Then an old file of the path is as it was, and the new one isn't left.
-    pub fn settle(
-        &self,
-        rt: &System,
-        written: Result<(), Failure>,
-        path: &str,
-    ) -> Result<(), Failure> {
+    pub fn settle(&self, rt: &System, written: Result<(), Failure>) -> Result<(), Failure> {
         match &self.made {
             None => written,
-            Some(made) => settle(rt, written, made.as_str(), path, self.is_forced),
+            Some(made) => {
+                let path = self.path.as_str();
+                settle(rt, written, made.as_str(), path, self.is_forced)
+            }
         }
     }
 }
 
-/// Makes a file of these bytes. If a regular file is there already, it is replaced where `is_forced` says so, and a
-/// symbolic link to one itself: it isn't followed.
+/// Makes a file of these bytes, with a path that the user gave. A regular file that is there already is replaced where
+/// `is_forced` says so, and where the path is a symbolic link, the one that it leads to.
 ///
 /// # Errors
 /// Fails if something is there that isn't to be replaced, and as the calls of the system do. Then an old file is as it
 /// was, and no other is left.
 pub fn write_file(rt: &System, path: &str, is_forced: bool, bytes: &[u8]) -> Result<(), Failure> {
-    let (new, mut file) = open_new(rt, path, is_forced)?;
+    let (new, mut file) = open_given(rt, path, is_forced)?;
     let written = write_synced(&mut file, bytes);
-    new.settle(rt, written, path)
+    new.settle(rt, written)
 }
 
-/// Opens a file that is to have a path once it is whole. Whoever has written it ends by `NewFile::settle`.
+/// Makes a file of these bytes. A regular file that is there already is replaced where `is_forced` says so, and a
+/// symbolic link to one itself: it isn't followed.
+///
+/// # Errors
+/// Fails as `write_file` does.
+pub(crate) fn write_new(
+    rt: &System,
+    path: &str,
+    is_forced: bool,
+    bytes: &[u8],
+) -> Result<(), Failure> {
+    let (new, mut file) = open_new(rt, path, is_forced)?;
+    let written = write_synced(&mut file, bytes);
+    new.settle(rt, written)
+}
+
+/// Opens a file that is to have a path once it is whole. A symbolic link that is there isn't followed. Whoever has
+/// written the file ends by `NewFile::settle`.
 ///
 /// # Errors
 /// Fails if something is there that isn't to be replaced, and as the calls of the system do. Then no new file is left.
@@ -70,9 +88,7 @@ pub fn open_new(
     is_forced: bool,
 ) -> Result<(NewFile, SystemFile), Failure> {
     check_way(rt, path, is_forced)?;
-    let (made, file) = open_beside(rt, path)?;
-    let made = Some(made);
-    Ok((NewFile { made, is_forced }, file))
+    open_for(rt, String::from_str(rt.alloc(), path)?, is_forced)
 }
 
 /// Opens a file for a path that the user gave. If that leads to a device or a pipe, this is written to. Whoever has
@@ -86,10 +102,40 @@ pub fn open_output(
     is_forced: bool,
 ) -> Result<(NewFile, SystemFile), Failure> {
     if !is_written_to(rt, path) {
-        return open_new(rt, path, is_forced);
+        return open_given(rt, path, is_forced);
     }
-    let made = None;
-    Ok((NewFile { made, is_forced }, rt.open_to_write(path)?))
+    let new = NewFile {
+        made: None,
+        path: String::from_str(rt.alloc(), path)?,
+        is_forced,
+    };
+    Ok((new, rt.open_to_write(path)?))
+}
+
+/// Opens a file for a path that the user gave, or for the file that it leads to.
+fn open_given(rt: &System, path: &str, is_forced: bool) -> Result<(NewFile, SystemFile), Failure> {
+    check_way(rt, path, is_forced)?;
+    open_for(rt, followed(rt, path)?, is_forced)
+}
+
+/// Opens a file for this path, with nothing in its way.
+fn open_for(rt: &System, path: String, is_forced: bool) -> Result<(NewFile, SystemFile), Failure> {
+    let (made, file) = open_beside(rt, path.as_str())?;
+    let new = NewFile {
+        made: Some(made),
+        path,
+        is_forced,
+    };
+    Ok((new, file))
+}
+
+/// The path of a file itself, where the given one is a link to it. So no link of the system is replaced, as
+/// `/dev/stdout` is one.
+fn followed(rt: &System, path: &str) -> Result<String, Failure> {
+    match fs::symlink_metadata(&rt.rt, path) {
+        Ok(metadata) if metadata.is_symlink() => Ok(fs::canonicalize(&rt.rt, path)?.into_string()),
+        Ok(_) | Err(_) => Ok(String::from_str(rt.alloc(), path)?),
+    }
 }
 
 /// Writes bytes to a file, and waits until the disk has them.
@@ -156,19 +202,20 @@ pub(crate) fn open_beside(rt: &System, target: &str) -> Result<(String, SystemFi
     Err(Failure::rule("each name beside it that was tried is taken"))
 }
 
-/// Makes a file and locks it, unless something has its path, or another program takes it away.
+/// Makes a file and locks it, if its file system has locks, unless something has its path, or another program takes it
+/// away.
 fn create_locked(rt: &System, path: &str) -> Result<Option<SystemFile>, Failure> {
     match rt.create_new(path) {
-        Ok(file) if is_ours(rt, &file, path) => Ok(Some(file)),
+        Ok(file) if file.lock().unwrap_or(true) && has_path(rt, &file, path) => Ok(Some(file)),
         Ok(_) => Ok(None),
         Err(error) if error.kind() == ErrorKind::AlreadyExists => Ok(None),
         Err(error) => Err(Failure::from(error)),
     }
 }
 
-/// Whether a file could be locked, and still has its path.
-fn is_ours(rt: &System, file: &SystemFile, path: &str) -> bool {
-    file.lock() && is_at(rt, file, path).unwrap_or(false)
+/// Whether a file still has its path.
+fn has_path(rt: &System, file: &SystemFile, path: &str) -> bool {
+    is_at(rt, file, path).unwrap_or(false)
 }
 
 /// Removes all files beside another that programs left which were killed.
@@ -190,10 +237,11 @@ fn remove_leftover(rt: &System, path: &str) {
     }
 }
 
-/// Removes a file that no program has locked.
+/// Removes a file that no program has locked. On a file system without locks it stays.
 fn remove_unlocked(rt: &System, path: &str) {
     if let Ok(file) = rt.open(path)
-        && is_ours(rt, &file, path)
+        && file.lock().unwrap_or(false)
+        && has_path(rt, &file, path)
     {
         let _ = fs::remove_file(&rt.rt, path);
     }

@@ -215,11 +215,14 @@ impl SystemFile {
     }
 
     /// Locks the file until it is closed, and returns whether that is done: not where another program has it locked.
-    /// On a file system without locks it is taken to be done.
-    pub fn lock(&self) -> bool {
-        match self.file() {
-            Ok(file) => !matches!(file.try_lock(), Err(TryLockError::WouldBlock)),
-            Err(_) => false,
+    ///
+    /// # Errors
+    /// Fails as the call of the system does, as on a file system that has no locks.
+    pub fn lock(&self) -> io::Result<bool> {
+        match self.file()?.try_lock() {
+            Ok(()) => Ok(true),
+            Err(TryLockError::WouldBlock) => Ok(false),
+            Err(TryLockError::Error(error)) => Err(error),
         }
     }
 

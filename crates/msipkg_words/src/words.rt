@@ -214,7 +214,7 @@ static PART_COMMANDS: [Row; 4] = [
             Argument {
                 id: "output",
                 form: Form::Needed('o', "DIR"),
-                help: "The folder for the files; it is made where it isn't there",
+                help: "The folder for the files, made where it isn't there; - prints one stream",
             },
             FORCE,
             PAGE,
@@ -376,7 +376,7 @@ static EXCHANGE_COMMANDS: [Row; 4] = [
             Argument {
                 id: "output",
                 form: Form::Lettered('o', "PATH"),
-                help: "The file for json, or the folder for the others; by default the output",
+                help: "The file for json, or the folder for the others; by default, and for -, the output",
             },
             Argument {
                 id: "each",
