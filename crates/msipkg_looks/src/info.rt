@@ -1,15 +1,16 @@
 //! `info FILE..`: what a package is, in a few lines.
 
 use crate::facts::Facts;
+use crate::product::add_product;
 use crate::summary::add_summary;
 use crate::tables::count_rows;
 use msipkg_packages::msi::{Error, Package};
 use msipkg_packages::output::{Failure, Opened, Output, System};
-use msipkg_packages::{StoredStreams, kind_name, stored_streams, stream_bytes};
+use msipkg_packages::{Looked, StoredStreams, kind_name, stored_streams, stream_bytes};
 use msipkg_texts::Style;
 use std::alloc::Global;
 
-/// Prints what a file's package is, as lines or as JSON on one line.
+/// Prints what a file's package is, as lines or as JSON on one line, and returns whether all tables can be read.
 ///
 /// # Errors
 /// Fails if a stream can't be found in the file.
@@ -17,42 +18,50 @@ pub(crate) fn print_info(
     rt: &System,
     style: Style,
     file: &str,
-    package: &mut Package<Opened>,
+    looked: &mut Looked,
     is_json: bool,
     output: &mut Output,
-) -> Result<(), Failure> {
-    let stored = stored_streams(rt, file, package)?;
+) -> Result<bool, Failure> {
+    let stored = stored_streams(rt, file, &looked.package)?;
     let facts = Facts::new(rt.alloc(), style, file, is_json);
-    write_facts(rt.alloc(), package, stored.as_ref(), facts, output)
+    write_facts(rt.alloc(), looked, stored.as_ref(), facts, output)
 }
 
 /// Writes what a package is.
 fn write_facts(
     alloc: Global,
-    package: &mut Package<Opened>,
+    looked: &mut Looked,
     stored: Option<&StoredStreams>,
     mut facts: Facts,
     output: &mut Output,
-) -> Result<(), Failure> {
-    add_package(alloc, package, stored, &mut facts)?;
-    add_changeable(package, &mut facts);
+) -> Result<bool, Failure> {
+    add_names(alloc, looked, &mut facts);
+    let is_read = add_parts(alloc, &looked.package, stored, &mut facts)?;
+    add_changeable(&mut looked.package, &mut facts);
     facts.print(output);
-    Ok(())
+    Ok(is_read)
 }
 
-/// Adds what a package is and has.
-fn add_package(
+/// Adds what a package is: its kind and page, its product and its summary.
+fn add_names(alloc: Global, looked: &Looked, facts: &mut Facts) {
+    add_head(&looked.package, facts);
+    add_product(alloc, &looked.package, facts);
+    if looked.has_summary {
+        add_summary(looked.package.summary_info(), facts);
+    }
+}
+
+/// Adds what a package has, and returns whether all tables can be read.
+fn add_parts(
     alloc: Global,
     package: &Package<Opened>,
     stored: Option<&StoredStreams>,
     facts: &mut Facts,
-) -> Result<(), Error> {
-    add_head(package, facts);
-    add_summary(package.summary_info(), facts);
-    add_tables(alloc, package, facts);
+) -> Result<bool, Error> {
+    let is_read = add_tables(alloc, package, facts);
     add_streams(package, stored, facts)?;
     facts.truth("signed", package.has_digital_signature());
-    Ok(())
+    Ok(is_read)
 }
 
 /// Adds the kind of a package, and the page of its database.
@@ -62,8 +71,8 @@ fn add_head(package: &Package<Opened>, facts: &mut Facts) {
     facts.number("database_codepage", Some(i64::from(page)));
 }
 
-/// Adds the numbers of tables, of those that can't be read, and of rows.
-fn add_tables(alloc: Global, package: &Package<Opened>, facts: &mut Facts) {
+/// Adds the numbers of tables, of those that can't be read, and of rows, and returns whether all can be read.
+fn add_tables(alloc: Global, package: &Package<Opened>, facts: &mut Facts) -> bool {
     let (mut unreadable, mut rows) = (0usize, 0usize);
     for table in package.tables() {
         match count_rows(alloc, package, table.name()) {
@@ -76,6 +85,7 @@ fn add_tables(alloc: Global, package: &Package<Opened>, facts: &mut Facts) {
         facts.number("unreadable_tables", signed(unreadable));
     }
     facts.number("rows", signed(rows));
+    unreadable == 0
 }
 
 /// Adds the numbers of streams, and of their bytes.
