@@ -16,7 +16,13 @@ pub(crate) fn escapes_of(verb: Verb, given: &ArgMatches<'_>, is_terminal: bool) 
         return Escapes::Hidden;
     }
     match verb {
-        Verb::Info | Verb::Tables | Verb::Streams | Verb::Schema | Verb::Summary => {
+        Verb::Info
+        | Verb::Tables
+        | Verb::Schema
+        | Verb::Streams
+        | Verb::Summary
+        | Verb::Check
+        | Verb::Diff => {
             if given.get_flag("json") {
                 Escapes::Nothing
             } else {

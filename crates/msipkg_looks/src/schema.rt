@@ -31,7 +31,7 @@ pub enum Form {
 }
 
 /// Prints the columns of tables of a file's package, or of all tables where none is named: aligned on a terminal,
-/// parted by tabs elsewhere, as JSON on one line, or as statements that create the tables. Those of the installer itself
+/// parted by tabs elsewhere, as JSON on one line, or as statements that create the tables. The installer's own tables
 /// have a statement only where they are named.
 ///
 /// # Errors
