@@ -63,8 +63,9 @@ pub struct Target<'a> {
 /// exported. Returns whether all of the package can be read: tables are written without a summary.
 ///
 /// # Errors
-/// Fails as `open_to_look` does, and for a whole package as `open_package`; if a table isn't there or can't be read, if a text can't stand in the format, if a
-/// file is there already and isn't to be replaced, and as the calls of the system do.
+/// Fails as `open_to_look` does, and for a whole package as `open_package`; if a table isn't there or can't be read, if
+/// a text can't stand in the format, if a file is there already and isn't to be replaced, and as the calls of the system
+/// do.
 pub fn export(
     rt: &System,
     file: &PackageFile<'_>,

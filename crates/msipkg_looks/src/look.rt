@@ -54,8 +54,9 @@ pub enum Look<'a, 'b> {
 /// are recoded or a file with another name than its stream, has a line in `notes`.
 ///
 /// # Errors
-/// Fails as `open_to_look` does, and for the summary as `open_package`; if a text spells no query for rows, and as selecting does; if a table or a stream that
-/// is named isn't there; if a file is there already and isn't to be replaced; and as the calls of the system do.
+/// Fails as `open_to_look` does, and for the summary as `open_package`; if a text spells no query for rows, and as
+/// selecting does; if a table or a stream that is named isn't there; if a file is there already and isn't to be
+/// replaced; and as the calls of the system do.
 pub fn show(
     rt: &System,
     style: Style,
