@@ -64,8 +64,8 @@ pub struct Target<'a> {
 ///
 /// # Errors
 /// Fails as `open_to_look` does, and for a whole package as `open_package`; if a table isn't there or can't be read, if
-/// a text can't stand in the format, if a file is there already and isn't to be replaced, and as the calls of the system
-/// do.
+/// a text can't stand in the format, if a file is there already and isn't to be replaced, and as the calls of the
+/// system do.
 pub fn export(
     rt: &System,
     file: &PackageFile<'_>,

@@ -16,8 +16,8 @@ pub enum Escapes {
     Hidden,
 }
 
-/// A text that prints as it is, or with escapes: `\n`, `\r`, `\t`, and `\u{..}` for other characters. A backslash prints
-/// as `\\` in a text that has something to be escaped, and only there.
+/// A text that prints as it is, or with escapes: `\n`, `\r`, `\t`, and `\u{..}` for other characters. A backslash
+/// prints as `\\` in a text that has something to be escaped, and only there.
 #[derive(Clone, Copy)]
 pub struct Shown<'a> {
     text: &'a str,
