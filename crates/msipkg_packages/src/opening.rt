@@ -44,7 +44,12 @@ fn open_recoded(
     notes: &mut Output,
 ) -> Result<Package<Opened>, Failure> {
     recoded.permit(file, notes)?;
-    open_from(alloc, Origin::Memory(Cursor::new(recoded.into_bytes())))
+    open_bytes(alloc, recoded.into_bytes())
+}
+
+/// The package of bytes.
+pub(crate) fn open_bytes(alloc: Global, bytes: Vec<u8>) -> Result<Package<Opened>, Failure> {
+    open_from(alloc, Origin::Memory(Cursor::new(bytes)))
 }
 
 /// The package that is read from somewhere.

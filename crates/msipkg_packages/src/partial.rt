@@ -1,10 +1,9 @@
 //! Packages that are looked at as far as they can be read.
 
-use crate::opening::open_package;
-use msi::{Metered, Package};
-use msipkg_files::output::{Carrier, Failure, Opened, Origin, Output, System};
+use crate::opening::{open_bytes, open_package};
+use msi::Package;
+use msipkg_files::output::{Failure, Opened, Output, System};
 use msipkg_files::{PackageFile, note_summary, without_summary};
-use std::io::Cursor;
 
 /// A package that is looked at.
 pub struct Looked {
@@ -72,6 +71,5 @@ fn open_without_summary(
 ) -> Result<Package<Opened>, Failure> {
     let rest = without_summary(rt, file)?;
     rest.permit(file, notes)?;
-    let origin = Origin::Memory(Cursor::new(rest.into_bytes()));
-    Ok(Package::open(rt.alloc(), Metered::new(Carrier::new(rt.alloc(), origin)))?)
+    open_bytes(rt.alloc(), rest.into_bytes())
 }
