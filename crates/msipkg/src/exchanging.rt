@@ -12,7 +12,7 @@ pub(crate) fn is_each(asked: &Asked<'_, '_>) -> bool {
     matches!(asked.verb, Verb::Export) && asked.given.get_flag("each")
 }
 
-/// Exports the package of a file, or tables of it.
+/// Exports the package of a file, or tables of it, and returns whether all of it can be read.
 ///
 /// # Errors
 /// Fails as opening the package and exporting do.
@@ -22,9 +22,10 @@ pub(crate) fn export_asked(
     file: &PackageFile<'_>,
     output: &mut Output,
     errors: &mut Output,
-) -> Result<(), Failure> {
+) -> Result<bool, Failure> {
     if is_each(asked) {
-        return export_line(rt, asked.style, file, output, errors);
+        export_line(rt, asked.style, file, output, errors)?;
+        return Ok(true);
     }
     let target = target_of(asked);
     export(rt, file, asked.texts("TABLE"), &target, output, errors)

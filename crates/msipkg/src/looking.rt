@@ -16,7 +16,13 @@ pub(crate) fn escapes_of(verb: Verb, given: &ArgMatches<'_>, is_terminal: bool) 
         return Escapes::Hidden;
     }
     match verb {
-        Verb::Info | Verb::Tables | Verb::Streams | Verb::Schema | Verb::Summary => {
+        Verb::Info
+        | Verb::Tables
+        | Verb::Schema
+        | Verb::Streams
+        | Verb::Summary
+        | Verb::Check
+        | Verb::Diff => {
             if given.get_flag("json") {
                 Escapes::Nothing
             } else {
@@ -52,14 +58,8 @@ pub(crate) fn look(
     let file = asked.package(file, Purpose::Look);
     match asked.verb {
         Verb::Check => check_file(rt, options_of(asked), &file, output, errors),
-        Verb::Export => {
-            export_asked(rt, asked, &file, output, errors)?;
-            Ok(true)
-        }
-        _ => {
-            show(rt, asked.style, &file, look_of(asked), output, errors)?;
-            Ok(true)
-        }
+        Verb::Export => export_asked(rt, asked, &file, output, errors),
+        _ => show(rt, asked.style, &file, look_of(asked), output, errors),
     }
 }
 
@@ -77,8 +77,8 @@ fn look_of<'a, 'b>(asked: &Asked<'a, 'b>) -> Look<'a, 'b> {
     let is_json = asked.is_json();
     match asked.verb {
         Verb::Info => Look::Info { is_json },
-        Verb::Tables => Look::Tables,
-        Verb::Streams => Look::Streams,
+        Verb::Tables => Look::Tables { is_json },
+        Verb::Streams => Look::Streams { is_json },
         Verb::Summary => Look::Summary { is_json },
         Verb::Schema => Look::Schema {
             names: asked.texts("TABLE"),

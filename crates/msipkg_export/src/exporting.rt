@@ -7,7 +7,7 @@ use crate::table_archives::print_archive;
 use msipkg_packages::msi::{Package, Table};
 use msipkg_packages::output::{Failure, Opened, Output, System, at_file};
 use msipkg_packages::{
-    Folder, PackageFile, is_list, open_output, open_package, rows_of, table_named,
+    Folder, PackageFile, is_list, open_output, open_package, open_to_look, rows_of, table_named,
 };
 use msipkg_texts::{Escapes, Shown, Style};
 use std::alloc::Global;
@@ -59,11 +59,12 @@ pub struct Target<'a> {
 
 /// Writes tables of a file's package, or the whole package where none is named, to files or to the output. Where a
 /// whole package has streams that aren't found under their names, `notes` gets a line for each, since they aren't
-/// exported.
+/// exported. Returns whether all of the package can be read: tables are written without a summary.
 ///
 /// # Errors
-/// Fails as `open_package` does, if a table isn't there or can't be read, if a text can't stand in the format, if a
-/// file is there already and isn't to be replaced, and as the calls of the system do.
+/// Fails as `open_to_look` does, and for a whole package as `open_package`; if a table isn't there or can't be read, if
+/// a text can't stand in the format, if a file is there already and isn't to be replaced, and as the calls of the
+/// system do.
 pub fn export(
     rt: &System,
     file: &PackageFile<'_>,
@@ -71,9 +72,15 @@ pub fn export(
     target: &Target<'_>,
     output: &mut Output,
     notes: &mut Output,
-) -> Result<(), Failure> {
-    let package = open_package(rt, file, notes)?;
-    export_package(rt, file.path, &package, names, target, output, notes)
+) -> Result<bool, Failure> {
+    if names.is_empty() && !matches!(target.format, FileFormat::Csv) {
+        let package = open_package(rt, file, notes)?;
+        export_package(rt, file.path, &package, names, target, output, notes)?;
+        return Ok(true);
+    }
+    let looked = open_to_look(rt, file, notes)?;
+    export_package(rt, file.path, &looked.package, names, target, output, notes)?;
+    Ok(looked.has_summary)
 }
 
 /// Writes tables of a package, or the whole package where none is named.

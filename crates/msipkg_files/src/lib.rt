@@ -7,6 +7,7 @@ pub mod folder;
 pub mod kinds;
 pub mod making;
 mod named_pages;
+pub mod partial;
 pub mod recoding;
 pub mod replacing;
 
@@ -16,6 +17,7 @@ pub use folder::Folder;
 pub use kinds::{check_kind, check_way};
 pub use making::{NewFile, open_new, open_output, write_file};
 pub use msipkg_output as output;
+pub use partial::{note_summary, without_summary};
 pub use recoding::{
     PackageFile, Purpose, Recoded, file_page, has_page_zero, page_in, recoded_by_page,
     recoded_instead,

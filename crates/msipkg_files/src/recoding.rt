@@ -82,8 +82,11 @@ impl Recoded {
         }
     }
 
-    /// Writes a line that says that the package's texts are recoded.
+    /// Writes a line that says that the package's texts are recoded, if they are.
     fn note(&self, path: &str, notes: &mut Output) {
+        if self.pages.is_empty() {
+            return;
+        }
         let (path, pages) = (Shown::escaped(path), self.pages);
         let left_out = if self.is_part {
             ", and storages below the root are left out"
@@ -199,15 +202,42 @@ fn recoded_of(
     if pages.is_empty() {
         return Ok(None);
     }
+    Ok(Some(recoded_from(alloc, contents, pages, file)?))
+}
+
+/// Returns the bytes of a package of these contents with its texts in UTF-8, if they are to be recoded, or else as they
+/// are.
+///
+/// # Errors
+/// Fails at a text that its page doesn't read, and with `OutOfMemory`.
+pub(crate) fn recoded_or_plain(
+    alloc: Global,
+    contents: Contents,
+    file: &PackageFile<'_>,
+) -> Result<Recoded, Failure> {
+    let pages = NamedPages::of(alloc, &contents.streams)?.recoded_from(file.page);
+    if pages.is_empty() {
+        return written(alloc, contents, pages, file.purpose);
+    }
+    recoded_from(alloc, contents, pages, file)
+}
+
+/// The bytes of a package of these contents, whose texts are recoded from these pages.
+fn recoded_from(
+    alloc: Global,
+    contents: Contents,
+    pages: Pages,
+    file: &PackageFile<'_>,
+) -> Result<Recoded, Failure> {
     match recode_contents(alloc, file.page.and_then(TextPage::of), contents) {
-        Ok(contents) => Ok(Some(recoded_from(alloc, contents, pages, file.purpose)?)),
+        Ok(contents) => written(alloc, contents, pages, file.purpose),
         Err(error) => Err(Failure::new(Cause::Text(error))),
     }
 }
 
 /// The bytes of a package of these contents. Storages below the root can't be written, so they are left out where the
 /// package is only looked at.
-fn recoded_from(
+fn written(
     alloc: Global,
     mut contents: Contents,
     pages: Pages,

@@ -27,7 +27,7 @@ pub(crate) fn widths_of(
 /// Makes columns wide enough for their names.
 fn widen_by_names(style: Style, columns: &[Column], widths: &mut Widths) {
     for (place, column) in columns.iter().enumerate() {
-        widths.widen(place, style.show(column.name()).width());
+        widths.widen(place, style.width(column.name()));
     }
 }
 
@@ -66,7 +66,7 @@ fn write_names(style: Style, widths: &Widths, columns: &[Column], output: &mut O
     for (place, column) in columns.iter().enumerate() {
         let name = column.name();
         style.print(name, output);
-        widths.fill_up(place, style.show(name).width(), output);
+        widths.fill_up(place, style.width(name), output);
     }
     output.push_str("\n");
 }

@@ -1,15 +1,16 @@
 //! `info FILE..`: what a package is, in a few lines.
 
 use crate::facts::Facts;
+use crate::product::add_product;
 use crate::summary::add_summary;
 use crate::tables::count_rows;
 use msipkg_packages::msi::{CodePage, Error, Package};
 use msipkg_packages::output::{Failure, Opened, Output, System};
-use msipkg_packages::{StoredStreams, file_page, kind_name, stored_streams, stream_bytes};
+use msipkg_packages::{Looked, StoredStreams, file_page, kind_name, stored_streams, stream_bytes};
 use msipkg_texts::Style;
 use std::alloc::Global;
 
-/// Prints what a file's package is, as lines or as JSON on one line.
+/// Prints what a file's package is, as lines or as JSON on one line, and returns whether all tables can be read.
 ///
 /// # Errors
 /// Fails if a stream can't be found in the file.
@@ -17,14 +18,15 @@ pub(crate) fn print_info(
     rt: &System,
     style: Style,
     file: &str,
-    package: &mut Package<Opened>,
+    looked: &mut Looked,
     is_json: bool,
     output: &mut Output,
-) -> Result<(), Failure> {
-    let stored = stored_streams(rt, file, package)?;
+) -> Result<bool, Failure> {
+    let stored = stored_streams(rt, file, &looked.package)?;
+    let page = stored_page(rt, file, &looked.package)?;
     let mut facts = Facts::new(rt.alloc(), style, file, is_json);
-    add_head(package, stored_page(rt, file, package)?, &mut facts);
-    write_facts(rt.alloc(), package, stored.as_ref(), facts, output)
+    add_head(&looked.package, page, &mut facts);
+    write_facts(rt.alloc(), looked, stored.as_ref(), facts, output)
 }
 
 /// The number of the page that a file names for its package's database, where another may be read as UTF-8.
@@ -39,29 +41,37 @@ fn stored_page(rt: &System, file: &str, package: &Package<Opened>) -> Result<Opt
 /// Writes what a package is.
 fn write_facts(
     alloc: Global,
-    package: &mut Package<Opened>,
+    looked: &mut Looked,
     stored: Option<&StoredStreams>,
     mut facts: Facts,
     output: &mut Output,
-) -> Result<(), Failure> {
-    add_package(alloc, package, stored, &mut facts)?;
-    add_changeable(package, &mut facts);
+) -> Result<bool, Failure> {
+    add_names(alloc, looked, &mut facts);
+    let is_read = add_parts(alloc, &looked.package, stored, &mut facts)?;
+    add_changeable(&mut looked.package, &mut facts);
     facts.print(output);
-    Ok(())
+    Ok(is_read)
 }
 
-/// Adds what a package is and has.
-fn add_package(
+/// Adds a package's product and its summary.
+fn add_names(alloc: Global, looked: &Looked, facts: &mut Facts) {
+    add_product(alloc, &looked.package, facts);
+    if looked.has_summary {
+        add_summary(looked.package.summary_info(), facts);
+    }
+}
+
+/// Adds what a package has, and returns whether all tables can be read.
+fn add_parts(
     alloc: Global,
     package: &Package<Opened>,
     stored: Option<&StoredStreams>,
     facts: &mut Facts,
-) -> Result<(), Error> {
-    add_summary(package.summary_info(), facts);
-    add_tables(alloc, package, facts);
+) -> Result<bool, Error> {
+    let is_read = add_tables(alloc, package, facts);
     add_streams(package, stored, facts)?;
     facts.truth("signed", package.has_digital_signature());
-    Ok(())
+    Ok(is_read)
 }
 
 /// Adds the kind of a package, and the page of its database as its file has it.
@@ -76,8 +86,8 @@ fn add_head(package: &Package<Opened>, stored_page: Option<i32>, facts: &mut Fac
     }
 }
 
-/// Adds the numbers of tables, of those that can't be read, and of rows.
-fn add_tables(alloc: Global, package: &Package<Opened>, facts: &mut Facts) {
+/// Adds the numbers of tables, of those that can't be read, and of rows, and returns whether all can be read.
+fn add_tables(alloc: Global, package: &Package<Opened>, facts: &mut Facts) -> bool {
     let (mut unreadable, mut rows) = (0usize, 0usize);
     for table in package.tables() {
         match count_rows(alloc, package, table.name()) {
@@ -90,6 +100,7 @@ fn add_tables(alloc: Global, package: &Package<Opened>, facts: &mut Facts) {
         facts.number("unreadable_tables", signed(unreadable));
     }
     facts.number("rows", signed(rows));
+    unreadable == 0
 }
 
 /// Adds the numbers of streams, and of their bytes.

@@ -9,7 +9,7 @@ use crate::summary::print_summary;
 use crate::tables::print_tables;
 use msipkg_packages::msi::Package;
 use msipkg_packages::output::{Failure, Opened, Output, System};
-use msipkg_packages::{Folder, PackageFile, open_package};
+use msipkg_packages::{Folder, Looked, PackageFile, open_package, open_to_look};
 use msipkg_texts::Style;
 use std::alloc::Global;
 
@@ -21,7 +21,9 @@ pub enum Look<'a, 'b> {
         is_json: bool,
     },
     /// Its tables.
-    Tables,
+    Tables {
+        is_json: bool,
+    },
     /// The columns of tables of these names, or of all tables where there is none.
     Schema {
         names: &'b [&'a str],
@@ -33,7 +35,9 @@ pub enum Look<'a, 'b> {
         format: Format,
     },
     /// Its streams.
-    Streams,
+    Streams {
+        is_json: bool,
+    },
     /// The streams of these names, or all where there is none, which go to files of a folder, or one to the output.
     Extract {
         names: &'b [&'a str],
@@ -45,13 +49,14 @@ pub enum Look<'a, 'b> {
     },
 }
 
-/// Prints what is looked at in the package of a file, or writes it to files. A query is refused before the file is
-/// opened. What isn't as it is asked for, as texts that are recoded or a file with another name than its stream, has a
-/// line in `notes`.
+/// Prints what is looked at in the package of a file, or writes it to files, and returns whether all of it can be read.
+/// A query is refused before the file is opened. What can't be read, and what isn't as it is asked for, as texts that
+/// are recoded or a file with another name than its stream, has a line in `notes`.
 ///
 /// # Errors
-/// Fails as `open_package` does; if a text spells no query for rows, and as selecting does; if a table or a stream that
-/// is named isn't there; if a file is there already and isn't to be replaced; and as the calls of the system do.
+/// Fails as `open_to_look` does, and for the summary as `open_package`; if a text spells no query for rows, and as
+/// selecting does; if a table or a stream that is named isn't there; if a file is there already and isn't to be
+/// replaced; and as the calls of the system do.
 pub fn show(
     rt: &System,
     style: Style,
@@ -59,10 +64,29 @@ pub fn show(
     look: Look<'_, '_>,
     output: &mut Output,
     notes: &mut Output,
-) -> Result<(), Failure> {
+) -> Result<bool, Failure> {
     check_words(rt.alloc(), look)?;
-    let mut package = open_package(rt, file, notes)?;
-    print_or_write(rt, style, file.path, &mut package, look, output, notes)
+    if let Look::Summary { is_json } = look {
+        return show_summary(rt, style, file, is_json, output, notes);
+    }
+    let mut looked = open_to_look(rt, file, notes)?;
+    let is_read = print_or_write(rt, style, file.path, &mut looked, look, output, notes)?;
+    Ok(is_read && looked.has_summary)
+}
+
+/// Prints the properties of the summary of a file.
+fn show_summary(
+    rt: &System,
+    style: Style,
+    file: &PackageFile<'_>,
+    is_json: bool,
+    output: &mut Output,
+    notes: &mut Output,
+) -> Result<bool, Failure> {
+    let package = open_package(rt, file, notes)?;
+    let summary = package.summary_info();
+    print_summary(rt.alloc(), style, file.path, summary, is_json, output);
+    Ok(true)
 }
 
 /// Fails if a query is asked for that is none.
@@ -73,24 +97,37 @@ fn check_words(alloc: Global, look: Look<'_, '_>) -> Result<(), Failure> {
     }
 }
 
-/// Prints what a package has, or writes it to files.
+/// Prints what a package has, or writes it to files, and returns whether all of it can be read.
 fn print_or_write(
     rt: &System,
     style: Style,
     file: &str,
-    package: &mut Package<Opened>,
+    looked: &mut Looked,
     look: Look<'_, '_>,
     output: &mut Output,
     notes: &mut Output,
-) -> Result<(), Failure> {
+) -> Result<bool, Failure> {
     match look {
-        Look::Info { is_json } => print_info(rt, style, file, package, is_json, output),
-        Look::Streams => print_streams(rt, style, file, package, output),
-        Look::Extract { names, folder } if folder.is_output() => {
-            print_stream(rt, style, file, package, names, output)
+        Look::Info { is_json } => print_info(rt, style, file, looked, is_json, output),
+        Look::Streams { is_json } => {
+            print_streams(rt, style, file, &looked.package, is_json, output, notes)
         }
-        Look::Extract { names, folder } => extract_streams(rt, file, package, names, folder, notes),
-        _ => print_parts(rt.alloc(), style, file, package, look, output),
+        Look::Tables { is_json } => {
+            let (alloc, package) = (rt.alloc(), &looked.package);
+            Ok(print_tables(alloc, style, file, package, is_json, output, notes))
+        }
+        Look::Extract { names, folder } if folder.is_output() => {
+            print_stream(rt, style, file, &looked.package, names, output)?;
+            Ok(true)
+        }
+        Look::Extract { names, folder } => {
+            extract_streams(rt, file, &looked.package, names, folder, notes)?;
+            Ok(true)
+        }
+        _ => {
+            print_parts(rt.alloc(), style, file, &looked.package, look, output)?;
+            Ok(true)
+        }
     }
 }
 
@@ -104,18 +141,10 @@ fn print_parts(
     output: &mut Output,
 ) -> Result<(), Failure> {
     match look {
-        Look::Summary { is_json } => {
-            let summary = package.summary_info();
-            print_summary(alloc, style, file, summary, is_json, output);
-            Ok(())
-        }
         Look::Schema { names, form } => {
             print_schema(alloc, style, file, package, names, form, output)
         }
         Look::Query { text, format } => print_query(alloc, style, package, text, format, output),
-        _ => {
-            print_tables(alloc, style, package, output);
-            Ok(())
-        }
+        _ => Ok(()),
     }
 }

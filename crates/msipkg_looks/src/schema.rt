@@ -31,7 +31,8 @@ pub enum Form {
 }
 
 /// Prints the columns of tables of a file's package, or of all tables where none is named: aligned on a terminal,
-/// parted by tabs elsewhere, as JSON on one line, or as statements that create the tables.
+/// parted by tabs elsewhere, as JSON on one line, or as statements that create the tables. The installer's own tables
+/// have a statement only where they are named.
 ///
 /// # Errors
 /// Fails if a table isn't there, and if memory is refused for the list of tables.
@@ -48,7 +49,7 @@ pub(crate) fn print_schema(
     match form {
         Form::Rows => write_rows(alloc, style, tables.as_slice(), output),
         Form::Json => schema_json(alloc, file, tables.as_slice()).print_line(style, output),
-        Form::Sql => write_definitions(style, tables.as_slice(), output),
+        Form::Sql => write_definitions(style, tables.as_slice(), names.is_empty(), output),
     }
     Ok(())
 }
@@ -89,15 +90,30 @@ fn put_column(style: Style, table: &str, column: &Column, grid: &mut Grid) {
     }
 }
 
-/// Writes a statement for each table that creates it, as `exec` takes it. What `_Validation` says of the columns isn't
-/// in it.
-fn write_definitions(style: Style, tables: &[&Table], output: &mut Output) {
+/// Writes a statement for each table that creates it, as `exec` takes it, but not for those of the installer itself
+/// where these are all tables. What `_Validation` says of the columns isn't in it.
+fn write_definitions(style: Style, tables: &[&Table], is_all: bool, output: &mut Output) {
     for table in tables {
-        write!(output, "CREATE TABLE `{}`", style.show(table.name()));
-        write_columns(style, table, output);
-        write_keys(style, table, output);
-        output.push_str(")\n");
+        if !(is_all && is_of_installer(table.name())) {
+            write_definition(style, table, output);
+        }
     }
+}
+
+/// Whether a table of this name is the installer's own, so that it isn't created.
+fn is_of_installer(name: &str) -> bool {
+    matches!(
+        name,
+        "_Columns" | "_Storages" | "_Streams" | "_Tables" | "_Validation"
+    )
+}
+
+/// Writes the statement that creates a table.
+fn write_definition(style: Style, table: &Table, output: &mut Output) {
+    write!(output, "CREATE TABLE `{}`", style.show(table.name()));
+    write_columns(style, table, output);
+    write_keys(style, table, output);
+    output.push_str(")\n");
 }
 
 /// Writes the columns of a table, parted by commas, behind a bracket.

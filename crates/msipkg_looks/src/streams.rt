@@ -1,66 +1,69 @@
 //! `streams FILE`: the names of a package's streams, and how many bytes they have.
 
-use msipkg_packages::msi::{Error, Package};
+use crate::listing::{Listing, Subject};
+use crate::tables::note_unread;
+use msipkg_packages::msi::Package;
 use msipkg_packages::output::{Failure, Opened, Output, System};
 use msipkg_packages::{StoredStreams, stored_streams, stream_bytes};
-use msipkg_texts::{Grid, Style};
+use msipkg_texts::Style;
 use std::alloc::Global;
 
-/// The heads of the columns that are printed.
-static HEADS: [&str; 2] = ["Stream", "Bytes"];
+/// What is printed of streams.
+static STREAMS: Subject = Subject {
+    heads: ["Stream", "Bytes"],
+    list: "streams",
+    members: ["stream", "bytes"],
+};
 
-/// Prints the name of each stream of a file's package and how many bytes it has.
+/// Prints the name of each stream of a file's package and how many bytes it has, and returns whether all streams can be
+/// found. One that can't be has no number, and a line in `notes`.
 ///
 /// # Errors
-/// Fails if a stream can't be found in the file.
+/// Fails as `stored_streams` does, and if memory is refused for a name.
 pub(crate) fn print_streams(
     rt: &System,
     style: Style,
     file: &str,
     package: &Package<Opened>,
+    is_json: bool,
     output: &mut Output,
-) -> Result<(), Failure> {
+    notes: &mut Output,
+) -> Result<bool, Failure> {
     let stored = stored_streams(rt, file, package)?;
-    write_streams(rt.alloc(), style, package, stored.as_ref(), output)
-}
-
-/// Writes a row for each stream.
-fn write_streams(
-    alloc: Global,
-    style: Style,
-    package: &Package<Opened>,
-    stored: Option<&StoredStreams>,
-    output: &mut Output,
-) -> Result<(), Failure> {
-    let mut grid = Grid::headed(alloc, HEADS.as_slice());
-    put_streams(style, package, stored, &mut grid)?;
-    grid.print(style, output);
-    Ok(())
-}
-
-/// Puts the row of each stream.
-fn put_streams(
-    style: Style,
-    package: &Package<Opened>,
-    stored: Option<&StoredStreams>,
-    grid: &mut Grid,
-) -> Result<(), Error> {
+    let mut listing = Listing::new(rt.alloc(), style, file, is_json, &STREAMS);
+    let mut is_read = true;
     for name in package.streams() {
-        put_stream(style, package, stored, name?.as_str(), grid)?;
+        let name = name?;
+        let count = count_or_note(
+            rt.alloc(),
+            file,
+            package,
+            stored.as_ref(),
+            name.as_str(),
+            notes,
+        );
+        is_read &= count.is_some();
+        listing.put(name.as_str(), count);
     }
-    Ok(())
+    listing.print(output);
+    Ok(is_read)
 }
 
-/// Puts the row of a stream.
-fn put_stream(
-    style: Style,
+/// How many bytes a stream has, if it can be found; else a line in `notes` says why it can't be.
+fn count_or_note(
+    alloc: Global,
+    file: &str,
     package: &Package<Opened>,
     stored: Option<&StoredStreams>,
     name: &str,
-    grid: &mut Grid,
-) -> Result<(), Error> {
-    let bytes = stream_bytes(package, stored, name)?;
-    grid.put_text(style, name);
-    grid.put(&bytes.len());
-    Ok(())
+    notes: &mut Output,
+) -> Option<usize> {
+    match stream_bytes(package, stored, name) {
+        Ok(bytes) => Some(bytes.len()),
+        Err(error) => {
+            let failure = Failure::from(error).at(alloc, "stream", name);
+            note_unread(file, &failure, notes);
+            None
+        }
+    }
 }

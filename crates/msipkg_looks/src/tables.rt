@@ -1,25 +1,38 @@
 //! `tables FILE`: the names of a package's tables, and how many rows they have.
 
-use msipkg_packages::msi::{Error, Package, Select, Table};
-use msipkg_packages::output::{Opened, Output};
-use msipkg_texts::{Grid, Style};
+use crate::listing::{Listing, Subject};
+use msipkg_packages::msi::{Error, Package, Select};
+use msipkg_packages::output::{Failure, Opened, Output};
+use msipkg_texts::{Shown, Style};
 use std::alloc::Global;
 
-/// The heads of the columns that are printed.
-static HEADS: [&str; 2] = ["Table", "Rows"];
+/// What is printed of tables.
+static TABLES: Subject = Subject {
+    heads: ["Table", "Rows"],
+    list: "tables",
+    members: ["table", "rows"],
+};
 
-/// Prints the name of each table and the number of its rows, which is `?` where the table can't be read.
+/// Prints the name of each table and the number of its rows, and returns whether all tables can be read. One that can't
+/// be has no number, and a line in `notes`.
 pub(crate) fn print_tables(
     alloc: Global,
     style: Style,
+    file: &str,
     package: &Package<Opened>,
+    is_json: bool,
     output: &mut Output,
-) {
-    let mut grid = Grid::headed(alloc, HEADS.as_slice());
+    notes: &mut Output,
+) -> bool {
+    let mut listing = Listing::new(alloc, style, file, is_json, &TABLES);
+    let mut is_read = true;
     for table in package.tables() {
-        put_table(alloc, style, package, table, &mut grid);
+        let count = count_or_note(alloc, file, package, table.name(), notes);
+        is_read &= count.is_some();
+        listing.put(table.name(), count);
     }
-    grid.print(style, output);
+    listing.print(output);
+    is_read
 }
 
 /// Returns how many rows a table has.
@@ -35,17 +48,26 @@ pub(crate) fn count_rows(
     Ok(rows.len())
 }
 
-/// Puts the row of a table.
-fn put_table(
+/// How many rows a table has, if it can be read; else a line in `notes` says why it can't be.
+fn count_or_note(
     alloc: Global,
-    style: Style,
+    file: &str,
     package: &Package<Opened>,
-    table: &Table,
-    grid: &mut Grid,
-) {
-    grid.put_text(style, table.name());
-    match count_rows(alloc, package, table.name()) {
-        Ok(count) => grid.put(&count),
-        Err(_) => grid.push("?"),
+    table: &str,
+    notes: &mut Output,
+) -> Option<usize> {
+    match count_rows(alloc, package, table) {
+        Ok(count) => Some(count),
+        Err(error) => {
+            let failure = Failure::from(error).at(alloc, "table", table);
+            note_unread(file, &failure, notes);
+            None
+        }
     }
+}
+
+/// Writes a line that says why a part of a file can't be read.
+pub(crate) fn note_unread(file: &str, failure: &Failure, notes: &mut Output) {
+    let file = Shown::escaped(file);
+    writeln!(notes, "msipkg: {file}: {failure}");
 }

@@ -128,10 +128,11 @@ impl Failure {
         self.is_mended_by_counting
     }
 
-    /// Returns whether a call of the library found invalid data.
+    /// Returns whether a call of the library found invalid data, or a text that its page doesn't read.
     pub fn is_invalid_data(&self) -> bool {
         match &self.cause {
             Cause::Package(error) => matches!(error.kind(), ErrorKind::InvalidData),
+            Cause::Text(error) => matches!(error.kind(), ErrorKind::InvalidData),
             _ => false,
         }
     }

@@ -7,6 +7,7 @@ pub mod failure;
 pub mod json_rows;
 pub mod pages;
 pub mod properties;
+mod repeated;
 pub mod rows;
 pub mod texts;
 pub mod values;

@@ -2,6 +2,7 @@
 
 use crate::failure::Failure;
 use crate::json_rows::JsonRow;
+use crate::repeated::{has_repeated, member_names, write_named};
 use crate::values::{STREAM, write_value};
 use csv::Writer;
 use msi_table::{Column, Row, Rows, Value, ValueView};
@@ -31,7 +32,8 @@ struct Printer {
     format: RowFormat,
 }
 
-/// Writes rows. Null prints as nothing, in JSON as `null`; a stream as `[stream]`, in JSON as `true`.
+/// Writes rows. Null prints as nothing, in JSON as `null`; a stream as `[stream]`, in JSON as `true`. In JSON a column
+/// whose name stands in front already has a number behind it, as `Name_2`.
 ///
 /// # Errors
 /// Fails for CSV and JSON as reading a row does, and if memory is refused.
@@ -152,8 +154,19 @@ fn done(printer: &Printer, returned: Result<(), csv::Error>) -> Result<(), Failu
 /// Writes rows as a list of objects, one a line.
 fn write_json(printer: &Printer, rows: Rows<'_>, output: &mut Output) -> Result<(), Failure> {
     output.push_str("[");
-    write_objects(printer, rows, output)?;
+    if has_repeated(rows.columns()) {
+        write_repeated(printer, rows, output)?;
+    } else {
+        write_objects(printer, rows, output)?;
+    }
     output.push_str("\n]\n");
+    Ok(())
+}
+
+/// Writes rows in which columns have the same name as objects.
+fn write_repeated(printer: &Printer, rows: Rows<'_>, output: &mut Output) -> Result<(), Failure> {
+    let names = member_names(printer.alloc, rows.columns())?;
+    write_named(printer.alloc, printer.style, names.as_slice(), rows, output);
     Ok(())
 }
 

@@ -24,12 +24,12 @@ fn write_number(number: i32, output: &mut Output) {
     output.push_str(buffer.format(number));
 }
 
-/// Returns how many characters a value is written with.
+/// Returns how many columns of a terminal a value takes.
 pub fn value_width(style: Style, value: ValueView<'_>) -> usize {
     match value {
         ValueView::Null => 0,
         ValueView::Int(number) => number_width(number),
-        ValueView::Str(text) => style.show(text).width(),
+        ValueView::Str(text) => style.width(text),
         ValueView::Binary => STREAM.len(),
     }
 }

@@ -4,6 +4,7 @@
 
 pub mod file_bytes;
 pub mod opening;
+pub mod partial;
 mod reasons;
 pub mod stored;
 pub mod summary_texts;
@@ -19,6 +20,7 @@ pub use msipkg_files::{
     open_output, output,
 };
 pub use opening::{FileState, kind_name, new_package, open_package, open_to_change};
+pub use partial::{Looked, open_to_look};
 pub use stored::{StoredStreams, stored_streams, stream_bytes};
 pub use summary_texts::{property_text, uuid_text};
 pub use tables::{chosen_tables, is_list, rows_of, table_named};

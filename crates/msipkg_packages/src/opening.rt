@@ -78,7 +78,7 @@ fn open_recoded(
 }
 
 /// The package of bytes.
-fn open_bytes(alloc: Global, bytes: Vec<u8>) -> Result<Package<Opened>, Failure> {
+pub(crate) fn open_bytes(alloc: Global, bytes: Vec<u8>) -> Result<Package<Opened>, Failure> {
     open_from(alloc, Origin::Memory(Cursor::new(bytes)))
 }
 

@@ -16,8 +16,8 @@ pub enum Escapes {
     Hidden,
 }
 
-/// A text that prints as it is, or with escapes: `\n`, `\r`, `\t`, and `\u{..}` for other characters. Only in a text that
-/// has something to be escaped, a backslash prints as `\\`.
+/// A text that prints as it is, or with escapes: `\n`, `\r`, `\t`, and `\u{..}` for other characters. A backslash
+/// prints as `\\` in a text that has something to be escaped, and only there.
 #[derive(Clone, Copy)]
 pub struct Shown<'a> {
     text: &'a str,
@@ -116,16 +116,35 @@ pub(crate) fn columns_of(text: &str) -> usize {
 pub(crate) fn is_plain(escapes: Escapes, text: &str) -> bool {
     match escapes {
         Escapes::Nothing => true,
-        Escapes::Breaks => !text
-            .bytes()
-            .any(|byte| matches!(byte, b'\n' | b'\r' | b'\t')),
+        Escapes::Breaks => !has_control(text) || !has_break(text),
         Escapes::Hidden => is_printable(text) || !text.chars().any(is_hidden),
     }
 }
 
-/// Whether a text is ASCII without control characters.
-fn is_printable(text: &str) -> bool {
-    text.bytes().all(|byte| matches!(byte, b' '..=b'~'))
+/// Whether a text has a byte below the blank. All bytes are looked at, which takes less time than stopping at the first
+/// one, since most texts have none.
+fn has_control(text: &str) -> bool {
+    let mut is_found = false;
+    for byte in text.bytes() {
+        is_found |= byte < b' ';
+    }
+    is_found
+}
+
+/// Whether a text has a character that ends a line, or a field of one.
+fn has_break(text: &str) -> bool {
+    text.bytes()
+        .any(|byte| matches!(byte, b'\n' | b'\r' | b'\t'))
+}
+
+/// Returns whether a text is ASCII without control characters: then it is as wide as it has bytes. All bytes are looked
+/// at here, too.
+pub(crate) fn is_printable(text: &str) -> bool {
+    let mut is_so = true;
+    for byte in text.bytes() {
+        is_so &= matches!(byte, b' '..=b'~');
+    }
+    is_so
 }
 
 /// Returns whether a terminal would obey a character, or not show it: control characters, marks of direction, and

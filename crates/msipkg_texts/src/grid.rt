@@ -107,7 +107,7 @@ impl Grid {
         }
     }
 
-    /// Writes the head, a line of dashes and the rows. Each column is as wide as its widest text, and the last one isn't
+    /// Writes the head, a line of dashes and the rows. Each column is as wide as its widest text, and the last isn't
     /// filled up. Where memory was refused, the output gets that in their place.
     fn write(&self, output: &mut Output) {
         match self.widths() {

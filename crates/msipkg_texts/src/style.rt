@@ -1,6 +1,6 @@
 //! Where the output goes, and what of its texts is escaped.
 
-use crate::escape::{Escapes, Shown, is_plain};
+use crate::escape::{Escapes, Shown, is_plain, is_printable};
 use msipkg_system::Output;
 
 /// How texts are printed.
@@ -21,6 +21,15 @@ impl Style {
     /// Returns whether all that a terminal would obey or not show is escaped.
     pub fn escapes_hidden(self) -> bool {
         matches!(self.escapes, Escapes::Hidden)
+    }
+
+    /// Returns how many columns of a terminal a text takes as it is printed.
+    pub fn width(self, text: &str) -> usize {
+        if is_printable(text) {
+            text.len()
+        } else {
+            self.show(text).width()
+        }
     }
 
     /// Prints a text.

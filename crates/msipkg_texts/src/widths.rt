@@ -53,7 +53,7 @@ impl Widths {
         if let Some(widest) = self.columns.get_mut(column)
             && (text.len() > *widest || !is_plain(style.escapes, text))
         {
-            *widest = style.show(text).width().max(*widest);
+            *widest = style.width(text).max(*widest);
         }
     }
 

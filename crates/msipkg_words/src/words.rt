@@ -142,7 +142,7 @@ static TABLE_COMMANDS: [Row; 4] = [
         verb: Verb::Tables,
         name: "tables",
         about: "Prints the tables, and how many rows they have",
-        arguments: &[FILE, PAGE, ESCAPE],
+        arguments: &[FILE, JSON, PAGE, ESCAPE],
     },
     Row {
         verb: Verb::Schema,
@@ -198,7 +198,7 @@ static PART_COMMANDS: [Row; 4] = [
         verb: Verb::Streams,
         name: "streams",
         about: "Prints the streams, and how many bytes they have",
-        arguments: &[FILE, PAGE, ESCAPE],
+        arguments: &[FILE, JSON, PAGE, ESCAPE],
     },
     Row {
         verb: Verb::Extract,

@@ -1,0 +1,64 @@
+//! What product a package installs, as its table `Property` says.
+
+use crate::facts::Facts;
+use msipkg_packages::msi::{Package, Parse, Rows, Select, ValueView};
+use msipkg_packages::output::{Failure, Opened};
+use std::alloc::Global;
+
+/// The name of each fact, and the query for the property that says it.
+static FACTS: [(&str, &str); 5] = [
+    (
+        "product_name",
+        "SELECT Value FROM Property WHERE Property = 'ProductName'",
+    ),
+    (
+        "product_version",
+        "SELECT Value FROM Property WHERE Property = 'ProductVersion'",
+    ),
+    (
+        "product_code",
+        "SELECT Value FROM Property WHERE Property = 'ProductCode'",
+    ),
+    (
+        "upgrade_code",
+        "SELECT Value FROM Property WHERE Property = 'UpgradeCode'",
+    ),
+    (
+        "manufacturer",
+        "SELECT Value FROM Property WHERE Property = 'Manufacturer'",
+    ),
+];
+
+/// Adds what the package's properties say of its product. A package without such a table has none of it.
+pub(crate) fn add_product(alloc: Global, package: &Package<Opened>, facts: &mut Facts) {
+    if package.get_table("Property").is_none() {
+        return;
+    }
+    for (name, query) in &FACTS {
+        add_property(alloc, package, name, query, facts);
+    }
+}
+
+/// Adds the text that a query selects. A table that can't be read, or has other columns, says nothing.
+fn add_property(
+    alloc: Global,
+    package: &Package<Opened>,
+    name: &str,
+    query: &str,
+    facts: &mut Facts,
+) {
+    if let Ok(rows) = selected(alloc, package, query)
+        && let Some(ValueView::Str(text)) = rows.peek(0)
+    {
+        facts.text(name, Some(text));
+    }
+}
+
+/// The rows that a query selects.
+fn selected<'a>(
+    alloc: Global,
+    package: &'a Package<Opened>,
+    query: &str,
+) -> Result<Rows<'a>, Failure> {
+    Ok(package.select_rows(Select::parse(alloc, query)?)?)
+}

@@ -1,0 +1,99 @@
+//! Rows in which columns have the same name, as a query has them that selects a column twice, as objects of JSON.
+
+use msi_table::{Column, Rows, ValueView};
+use msipkg_system::Output;
+use msipkg_texts::{JsonObject, Style};
+use std::alloc::{AllocError, Global};
+
+/// Returns whether two columns have the same name.
+pub(crate) fn has_repeated(columns: &[Column]) -> bool {
+    for (place, column) in columns.iter().enumerate() {
+        if is_among(columns.get(..place).unwrap_or(&[]), column.name()) {
+            return true;
+        }
+    }
+    false
+}
+
+/// Whether one of these columns has a name.
+fn is_among(columns: &[Column], name: &str) -> bool {
+    columns.iter().any(|column| column.name() == name)
+}
+
+/// Returns the names of columns as members of an object, which all differ: one that stands in front already has a
+/// number behind it, as `Name_2`.
+///
+/// # Errors
+/// Fails if memory is refused.
+pub(crate) fn member_names(alloc: Global, columns: &[Column]) -> Result<Vec<String>, AllocError> {
+    let mut names = Vec::new(alloc);
+    for (place, column) in columns.iter().enumerate() {
+        let name = if is_among(columns.get(..place).unwrap_or(&[]), column.name()) {
+            numbered(alloc, columns, names.as_slice(), column.name())?
+        } else {
+            String::from_str(alloc, column.name())?
+        };
+        names.push(name)?;
+    }
+    Ok(names)
+}
+
+/// A name with the first number from 2 on behind it with which no column and no other member has it.
+fn numbered(
+    alloc: Global,
+    columns: &[Column],
+    taken: &[String],
+    name: &str,
+) -> Result<String, AllocError> {
+    let mut number = 2u64;
+    for _ in 0..columns.len().saturating_add(taken.len()) {
+        let text = format!(in alloc; "{name}_{number}")?;
+        if !is_among(columns, text.as_str()) && !is_taken(taken, text.as_str()) {
+            return Ok(text);
+        }
+        number = number.saturating_add(1);
+    }
+    format!(in alloc; "{name}_{number}")
+}
+
+/// Whether one of these names is this one.
+fn is_taken(taken: &[String], name: &str) -> bool {
+    taken.iter().any(|other| other.as_str() == name)
+}
+
+/// Writes rows as objects, whose members have these names.
+pub(crate) fn write_named(
+    alloc: Global,
+    style: Style,
+    names: &[String],
+    mut rows: Rows<'_>,
+    output: &mut Output,
+) {
+    let mut before = "\n";
+    for _ in 0..rows.len() {
+        output.push_str(before);
+        before = ",\n";
+        object_of(alloc, names, &rows).print(style, output);
+        rows.pass();
+    }
+}
+
+/// The next row as an object.
+fn object_of(alloc: Global, names: &[String], rows: &Rows<'_>) -> JsonObject {
+    let mut object = JsonObject::new(alloc);
+    for (place, name) in names.iter().enumerate() {
+        let value = rows.peek(place).unwrap_or(ValueView::Null);
+        put_value(name.as_str(), value, &mut object);
+    }
+    object
+}
+
+/// Puts a value.
+fn put_value(name: &str, value: ValueView<'_>, object: &mut JsonObject) {
+    match value {
+        ValueView::Null => object.put_text(name, None),
+        ValueView::Int(number) => object.put_number(name, Some(i64::from(number))),
+        ValueView::Str(text) => object.put_text(name, Some(text)),
+        ValueView::Binary => object.put_truth(name, true),
+    }
+}
