@@ -1,7 +1,7 @@
 //! The columns to which foreign keys refer, and values as texts.
 
 use crate::reading::pass_over;
-use msipkg_packages::msi::{Package, Row, Rows, Select, Value};
+use msipkg_packages::msi::{Package, Rows, Select, ValueView};
 use msipkg_packages::output::{Failure, Opened};
 use std::alloc::{AllocError, Global};
 use std::collections::{BTreeMap, BTreeSet};
@@ -10,11 +10,11 @@ use std::collections::{BTreeMap, BTreeSet};
 ///
 /// # Errors
 /// Fails if memory is refused.
-pub(crate) fn key_text(alloc: Global, value: &Value) -> Result<Option<String>, AllocError> {
+pub(crate) fn key_text(alloc: Global, value: ValueView<'_>) -> Result<Option<String>, AllocError> {
     match value {
-        Value::Int(number) => Ok(Some(number.to_string(alloc)?)),
-        Value::Str(text) => Ok(Some(String::from_str(alloc, text.as_str())?)),
-        Value::Null | Value::Binary => Ok(None),
+        ValueView::Int(number) => Ok(Some(number.to_string(alloc)?)),
+        ValueView::Str(text) => Ok(Some(String::from_str(alloc, text)?)),
+        ValueView::Null | ValueView::Binary => Ok(None),
     }
 }
 
@@ -89,24 +89,19 @@ impl KeyColumns {
     }
 
     /// Adds the texts of rows in the column at a place, counted from 1.
-    fn add_rows(&mut self, column: usize, place: usize, rows: Rows<'_>) -> Result<(), Failure> {
-        for row in rows {
-            self.add_row(column, place, &row?)?;
+    fn add_rows(&mut self, column: usize, place: usize, mut rows: Rows<'_>) -> Result<(), Failure> {
+        let Some(place) = place.checked_sub(1) else {
+            return Ok(());
+        };
+        for _ in 0..rows.len() {
+            self.add_value(column, rows.peek(place).unwrap_or(ValueView::Null))?;
+            rows.pass();
         }
         Ok(())
     }
 
-    /// Adds the text of a row in the column at a place, counted from 1, if it has one.
-    fn add_row(&mut self, column: usize, place: usize, row: &Row) -> Result<(), AllocError> {
-        if place >= 1 && place <= row.len() {
-            self.add_value(column, &row[place - 1])
-        } else {
-            Ok(())
-        }
-    }
-
     /// Adds a value's text, if it has one.
-    fn add_value(&mut self, column: usize, value: &Value) -> Result<(), AllocError> {
+    fn add_value(&mut self, column: usize, value: ValueView<'_>) -> Result<(), AllocError> {
         if let Some(text) = key_text(self.alloc, value)? {
             let text = self.text_number(text)?;
             self.keys.insert((column, text))?;

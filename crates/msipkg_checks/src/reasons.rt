@@ -1,7 +1,7 @@
 //! Why a column doesn't take a value.
 
 use crate::shown::Cut;
-use msipkg_packages::msi::{Column, ColumnType, Value};
+use msipkg_packages::msi::{Column, ColumnType, ValueView};
 use std::fmt::{self, Display};
 
 /// How many of the texts are shown that a column takes.
@@ -11,16 +11,16 @@ const MOST_LISTED: usize = 20;
 #[derive(Clone, Copy)]
 pub(crate) struct Refusal<'a> {
     pub(crate) column: &'a Column,
-    pub(crate) value: &'a Value,
+    pub(crate) value: ValueView<'a>,
 }
 
 impl Display for Refusal<'_> {
     fn fmt<W: fmt::Write>(&self, f: &mut fmt::Formatter<W>) -> fmt::Result {
         match self.value {
-            Value::Null => f.write_str("null, which the column doesn't take"),
-            Value::Int(number) => write_number(self.column, *number, f),
-            Value::Str(text) => write_text(self.column, text.as_str(), f),
-            Value::Binary => f.write_str("a stream, which the column doesn't take"),
+            ValueView::Null => f.write_str("null, which the column doesn't take"),
+            ValueView::Int(number) => write_number(self.column, number, f),
+            ValueView::Str(text) => write_text(self.column, text, f),
+            ValueView::Binary => f.write_str("a stream, which the column doesn't take"),
         }
     }
 }

@@ -4,7 +4,7 @@ use crate::keys::{KeyColumns, key_text};
 use crate::reading::pass_over;
 use crate::report::{Place, Report};
 use crate::shown::{Cut, ShownValue, row_name};
-use msipkg_packages::msi::{Package, Row, Rows, Select, Table, Value};
+use msipkg_packages::msi::{Package, Rows, Select, Table, ValueView};
 use msipkg_packages::output::{Failure, Opened};
 use std::alloc::{AllocError, Global};
 use std::collections::BTreeSet;
@@ -124,48 +124,47 @@ fn targets_of(
 fn check_rows(
     alloc: Global,
     table: &Table,
-    rows: Rows<'_>,
+    mut rows: Rows<'_>,
     references: &[Reference],
     keys: &KeyColumns,
     report: &mut Report<'_>,
 ) -> Result<(), Failure> {
-    let mut number = 0usize;
-    for row in rows {
-        number = number.saturating_add(1);
-        check_row(alloc, table, number, &row?, references, keys, report)?;
+    for number in 0..rows.len() {
+        let number = number.saturating_add(1);
+        check_row(alloc, table, number, &rows, references, keys, report)?;
+        rows.pass();
     }
     Ok(())
 }
 
-/// Finds the values of a row whose foreign keys no row has.
+/// Finds the values of the next row whose foreign keys no row has.
 fn check_row(
     alloc: Global,
     table: &Table,
     number: usize,
-    row: &Row,
+    rows: &Rows<'_>,
     references: &[Reference],
     keys: &KeyColumns,
     report: &mut Report<'_>,
 ) -> Result<(), AllocError> {
     for reference in references {
-        if !is_met(alloc, row, reference, keys)? {
-            add_missing(alloc, table, number, row, reference.place, report)?;
+        let value = rows.peek(reference.place).unwrap_or(ValueView::Null);
+        if !is_met(alloc, value, reference, keys)? {
+            let row = row_name(alloc, rows, number)?;
+            add_missing(table, row.as_str(), reference.place, value, report);
         }
     }
     Ok(())
 }
 
-/// Returns whether a row has the key to which a row refers, which is so for null.
+/// Returns whether a row has the key to which a value refers, which is so for null.
 fn is_met(
     alloc: Global,
-    row: &Row,
+    value: ValueView<'_>,
     reference: &Reference,
     keys: &KeyColumns,
 ) -> Result<bool, AllocError> {
-    if reference.place >= row.len() {
-        return Ok(true);
-    }
-    match key_text(alloc, &row[reference.place])? {
+    match key_text(alloc, value)? {
         Some(text) => Ok(keys.have_text(&reference.targets, text.as_str())),
         None => Ok(true),
     }
@@ -173,34 +172,29 @@ fn is_met(
 
 /// Adds the error of a cell whose key no row has.
 fn add_missing(
-    alloc: Global,
     table: &Table,
-    number: usize,
-    row: &Row,
+    row: &str,
     place: usize,
+    value: ValueView<'_>,
     report: &mut Report<'_>,
-) -> Result<(), AllocError> {
+) {
     if let Some(column) = table.columns().get(place)
         && let Some((tables, _)) = column.foreign_key()
-        && place < row.len()
     {
-        let name = row_name(alloc, row, number)?;
         let cell = Place::Cell {
             table: table.name(),
-            row: name.as_str(),
+            row,
             column: column.name(),
         };
-        let value = &row[place];
         report.add(cell, &MissingKey { tables, value });
     }
-    Ok(())
 }
 
 /// A key that no row has of the tables whose names stand between semicolons.
 #[derive(Clone, Copy)]
 struct MissingKey<'a> {
     tables: &'a str,
-    value: &'a Value,
+    value: ValueView<'a>,
 }
 
 impl Display for MissingKey<'_> {

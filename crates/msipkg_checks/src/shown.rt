@@ -1,6 +1,6 @@
 //! Texts, values and rows as findings show them: with escapes, and long texts cut.
 
-use msipkg_packages::msi::{Column, Row, Rows, Value, ValueView};
+use msipkg_packages::msi::{Column, Rows, ValueView};
 use msipkg_texts::Shown;
 use std::alloc::{AllocError, Global};
 use std::fmt::{self, Display};
@@ -29,36 +29,25 @@ fn front_of(text: &str) -> Option<&str> {
 
 /// A value that prints as in a message: a text in quotes.
 #[derive(Clone, Copy)]
-pub(crate) struct ShownValue<'a>(pub(crate) &'a Value);
+pub(crate) struct ShownValue<'a>(pub(crate) ValueView<'a>);
 
 impl Display for ShownValue<'_> {
     fn fmt<W: fmt::Write>(&self, f: &mut fmt::Formatter<W>) -> fmt::Result {
         match self.0 {
-            Value::Null => f.write_str("null"),
-            Value::Int(number) => number.fmt(f),
-            Value::Str(text) => write!(f, "'{}'", Cut(text.as_str())),
-            Value::Binary => f.write_str("a stream"),
+            ValueView::Null => f.write_str("null"),
+            ValueView::Int(number) => number.fmt(f),
+            ValueView::Str(text) => write!(f, "'{}'", Cut(text)),
+            ValueView::Binary => f.write_str("a stream"),
         }
     }
 }
 
-/// Returns the name of a row: the values of its key, parted by slashes, as they are shown. One without a key has its
-/// number.
+/// Returns the name of the next row, which has this number: the values of its key, parted by slashes, as they are shown.
+/// A row without a key has its number.
 ///
 /// # Errors
-/// Fails if memory is refused. So does the other call.
-pub(crate) fn row_name(alloc: Global, row: &Row, number: usize) -> Result<String, AllocError> {
-    let mut name = RowName::new(alloc);
-    for (place, column) in row.columns().iter().enumerate() {
-        if place < row.len() {
-            name.push(column, ValueView::of(&row[place]))?;
-        }
-    }
-    name.or_number(number)
-}
-
-/// Returns the name of the next row, which has this number, likewise.
-pub(crate) fn next_row_name(
+/// Fails if memory is refused.
+pub(crate) fn row_name(
     alloc: Global,
     rows: &Rows<'_>,
     number: usize,

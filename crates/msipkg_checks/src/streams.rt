@@ -2,7 +2,7 @@
 
 use crate::reading::pass_over;
 use crate::report::{Place, Report};
-use crate::shown::{Cut, next_row_name};
+use crate::shown::{Cut, row_name};
 use msipkg_packages::msi::{ColumnType, Package, Rows, Select, Table, ValueView};
 use msipkg_packages::output::{Failure, Opened, stream_name};
 use std::alloc::{AllocError, Global};
@@ -121,7 +121,7 @@ impl Named<'_> {
             return Ok(());
         }
         if needs_stream(rows) {
-            let row = next_row_name(self.alloc, rows, number)?;
+            let row = row_name(self.alloc, rows, number)?;
             let row = row.as_str();
             report.add(Place::Row { table, row }, &Missing(stream.as_str()));
         }
@@ -137,7 +137,7 @@ impl Named<'_> {
         report: &mut Report<'_>,
     ) -> Result<(), AllocError> {
         if needs_stream(rows) {
-            let row = next_row_name(self.alloc, rows, number)?;
+            let row = row_name(self.alloc, rows, number)?;
             let row = row.as_str();
             report.add(
                 Place::Row { table, row },
@@ -186,7 +186,7 @@ impl Named<'_> {
             self.names.insert(String::from_str(self.alloc, name)?)?;
             return Ok(());
         }
-        let row = next_row_name(self.alloc, rows, number)?;
+        let row = row_name(self.alloc, rows, number)?;
         let cell = Place::Cell {
             table: MEDIA,
             row: row.as_str(),

@@ -3,9 +3,11 @@
 use crate::reasons::Refusal;
 use crate::report::{Place, Report};
 use crate::shown::{Cut, row_name};
-use msipkg_packages::msi::{ErrorKind, Package, Row, Rows, Select, Table, Value};
+use msipkg_packages::msi::{
+    Column, ColumnType, Error, ErrorKind, Package, Rows, Select, Table, ValueView,
+};
 use msipkg_packages::output::{Failure, Opened};
-use std::alloc::{AllocError, Global};
+use std::alloc::Global;
 use std::fmt::{self, Display};
 
 /// Finds the tables that can't be read, and in the others the values that their columns don't take, and empty texts.
@@ -44,62 +46,74 @@ fn check_table(
 fn check_rows(
     alloc: Global,
     table: &str,
-    rows: Rows<'_>,
+    mut rows: Rows<'_>,
     report: &mut Report<'_>,
 ) -> Result<(), Failure> {
-    let mut number = 0usize;
-    for row in rows {
-        number = number.saturating_add(1);
-        check_row(alloc, table, number, &row?, report)?;
+    for number in 0..rows.len() {
+        check_row(alloc, table, number.saturating_add(1), &rows, report)?;
+        rows.pass();
     }
     Ok(())
 }
 
-/// Finds what is wrong with the values of a row.
+/// Finds what is wrong with the values of the next row.
 fn check_row(
     alloc: Global,
     table: &str,
     number: usize,
-    row: &Row,
+    rows: &Rows<'_>,
     report: &mut Report<'_>,
-) -> Result<(), AllocError> {
-    let columns = row.columns();
-    for i in 0..row.len().min(columns.len()) {
-        let refusal = Refusal {
-            column: &columns[i],
-            value: &row[i],
+) -> Result<(), Error> {
+    for (place, column) in rows.columns().iter().enumerate() {
+        let Some(value) = rows.peek(place) else {
+            continue;
         };
-        if !columns[i].is_valid_value(&row[i]) || is_empty_text(&row[i]) {
-            let row = row_name(alloc, row, number)?;
-            add_refusal(table, row.as_str(), refusal, report);
+        let is_taken = is_taken(alloc, column, value)?;
+        if !is_taken || is_empty_text(value) {
+            let row = row_name(alloc, rows, number)?;
+            let cell = Place::Cell {
+                table,
+                row: row.as_str(),
+                column: column.name(),
+            };
+            add_findings(cell, is_taken, Refusal { column, value }, report);
         }
     }
     Ok(())
 }
 
+/// Whether a column takes a value. A text is only copied where that doesn't show at once.
+fn is_taken(alloc: Global, column: &Column, value: ValueView<'_>) -> Result<bool, Error> {
+    if let ValueView::Str(text) = value
+        && let ColumnType::Str(most) = column.coltype()
+    {
+        if most != 0 && text.len() > most.saturating_mul(4) {
+            return Ok(false);
+        }
+        if most == 0 && column.category().is_none() && column.enum_values().is_none() {
+            return Ok(true);
+        }
+    }
+    Ok(column.is_valid_value(&value.into_value(alloc)?))
+}
+
 /// Whether a value is the empty text.
-fn is_empty_text(value: &Value) -> bool {
+fn is_empty_text(value: ValueView<'_>) -> bool {
     match value {
-        Value::Str(text) => text.as_str().is_empty(),
-        Value::Null | Value::Int(_) | Value::Binary => false,
+        ValueView::Str(text) => text.is_empty(),
+        ValueView::Null | ValueView::Int(_) | ValueView::Binary => false,
     }
 }
 
-/// Adds that a column doesn't take the value of a row, if that is so, and that it is an empty text.
-fn add_refusal(table: &str, row: &str, refusal: Refusal<'_>, report: &mut Report<'_>) {
-    let Refusal { column, value } = refusal;
-    let cell = Place::Cell {
-        table,
-        row,
-        column: column.name(),
-    };
-    if !column.is_valid_value(value) {
+/// Adds that a column doesn't take the value of a cell, if that is so, and that it is an empty text.
+fn add_findings(cell: Place<'_>, is_taken: bool, refusal: Refusal<'_>, report: &mut Report<'_>) {
+    if !is_taken {
         report.add(cell, &refusal);
     }
-    if is_empty_text(value) {
+    if is_empty_text(refusal.value) {
         let empty = EmptyText {
             file: report.file(),
-            is_mended: column.is_nullable(),
+            is_mended: refusal.column.is_nullable(),
         };
         report.warn(cell, &empty);
     }
