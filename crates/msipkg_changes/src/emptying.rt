@@ -1,4 +1,4 @@
-//! Empty texts that are stored, which other programs take for places of the string pool that are free: they become null.
+//! Empty texts that are stored, which other programs take for free places of the string pool: they become null.
 
 use msipkg_packages::is_list;
 use msipkg_packages::msi::{
@@ -26,8 +26,8 @@ impl Drop for Emptied {
     }
 }
 
-/// Makes the empty texts of a package null where their columns take null, and returns how many there were. Where that is
-/// refused, as two rows would share a key then, they stay.
+/// Makes the empty texts of a package null where their columns take null, and returns how many there were. Where that
+/// is refused, as two rows would share a key then, they stay.
 ///
 /// # Errors
 /// Fails with `OutOfMemory`, and so do the other calls.

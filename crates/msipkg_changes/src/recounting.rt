@@ -18,8 +18,8 @@ const KEPT_TABLE: &str = "_Tables";
 /// something. Then `notes` gets lines that say how many.
 ///
 /// # Errors
-/// Fails as `Claim::take`, `open_package`, `Package::recount`, `bytes_to_write` and the calls of the system do. Then the
-/// file is as it was.
+/// Fails as `Claim::take`, `open_package`, `Package::recount`, `bytes_to_write` and the calls of the system do. Then
+/// the file is as it was.
 pub fn mend_counts(
     rt: &System,
     file: &PackageFile<'_>,

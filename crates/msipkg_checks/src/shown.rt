@@ -42,8 +42,8 @@ impl Display for ShownValue<'_> {
     }
 }
 
-/// Returns the name of the next row, which has this number: the values of its key, parted by slashes, as they are shown.
-/// A row without a key has its number.
+/// Returns the name of the next row, which has this number: the values of its key, parted by slashes, as they are
+/// shown. A row without a key has its number.
 ///
 /// # Errors
 /// Fails if memory is refused.

@@ -35,8 +35,8 @@ impl ArchivePage {
         !self.has_all || (!self.is_ascii && matches!(self.page, CodePage::Utf8))
     }
 
-    /// Returns the page: none where all texts are ASCII, and UTF-8 where the package's lacks a character. So no character
-    /// is written as `?`.
+    /// Returns the page: none where all texts are ASCII, and UTF-8 where the package's lacks a character. So no
+    /// character is written as `?`.
     pub(crate) fn page(self) -> Option<CodePage> {
         if self.is_ascii {
             None
