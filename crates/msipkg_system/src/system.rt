@@ -4,7 +4,7 @@ use crate::identity::Identity;
 use crate::meter::Meter;
 use std::alloc::{AllocError, Global};
 use std::fs::{self, File, Metadata, OpenFile, OpenOptions, Permissions, TryLockError};
-use std::io::{self, ErrorKind, Read, Write};
+use std::io::{self, Cursor, ErrorKind, Read, Write};
 use std::os::unix::fs::{MetadataExt, PermissionsExt, fchown};
 use std::thread;
 use std::time::Duration;
@@ -58,13 +58,21 @@ impl System {
     /// Fails as the call of the system does.
     pub fn open(&self, path: &str) -> io::Result<SystemFile> {
         if let Some(bytes) = self.input_at(path) {
-            return Ok(SystemFile {
-                source: Source::Input(bytes),
-                meter: None,
-            });
+            return self.opened_input(bytes);
         }
         let file = fs::open(&self.rt, path)?;
         Ok(self.watched(file))
+    }
+
+    /// The bytes of standard input as a file. It has a copy, since a type with a borrow of them can't be written to by
+    /// `write!` in a proved function.
+    fn opened_input(&self, bytes: &[u8]) -> io::Result<SystemFile> {
+        let mut copy = Vec::new(self.alloc());
+        copy.extend_from_slice(bytes)?;
+        Ok(SystemFile {
+            source: Source::Input(Cursor::new(copy)),
+            meter: None,
+        })
     }
 
     /// Returns the bytes of a file.
@@ -162,8 +170,8 @@ fn kept_bits(own: &Metadata, other: &Metadata) -> u32 {
 enum Source {
     /// Those of a file.
     File(File),
-    /// Those of standard input, which were read: the rest of them.
-    Input(&'static [u8]),
+    /// Those of standard input, which were read.
+    Input(Cursor<Vec<u8>>),
 }
 
 /// A file of the system, which is watched or not.
