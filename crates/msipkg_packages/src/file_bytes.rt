@@ -32,16 +32,16 @@ impl FileBytes {
     ///
     /// # Errors
     /// Fails with `InvalidInput` if a text wouldn't read back from its page, and as `Package::image` does.
-    pub fn of(package: &Package<Opened>) -> Result<FileBytes, Error>
-        ensures ok { IfOk result (λ bytes. image_of package.now.state 0 ≡ Ok bytes) }
-        ensures texts { OnOk result (TextsAreWritable package.now.state) }
-        ensures kind { TextsAreWritable package.now.state → IfErr result (IsRefusal (image_of package.now.state 0)) }
+    pub fn of(whole: &Package<Opened>) -> Result<FileBytes, Error>
+        ensures ok { IfOk result (λ bytes. image_of whole.now.state 0 ≡ Ok bytes) }
+        ensures texts { OnOk result (TextsAreWritable whole.now.state) }
+        ensures kind { TextsAreWritable whole.now.state → IfErr result (IsRefusal (image_of whole.now.state 0)) }
     {
-        if !package.is_writable() {
+        if !whole.is_writable() {
             return Err(Error::new(ErrorKind::InvalidInput, reasons::LOST_TEXT));
         }
         Ok(FileBytes {
-            bytes: package.image(0)?,
+            bytes: whole.image(0)?,
         })
     }
 
@@ -65,20 +65,17 @@ impl FileBytes {
 ///
 /// # Errors
 /// Fails as `FileBytes::of` does.
-pub fn bytes_to_write(
-    package: &Package<Opened>,
-    is_recoded: bool,
-) -> Result<Option<FileBytes>, Error>
-    ensures left_alone { let s = package.now.state in
+pub fn bytes_to_write(whole: &Package<Opened>, is_recoded: bool) -> Result<Option<FileBytes>, Error>
+    ensures left_alone { let s = whole.now.state in
         IfOk result (λ bytes. is_some bytes ≡ (s.is_unwritten || is_recoded)) }
-    ensures bytes { let s = package.now.state in IfOk result (λ bytes. IfSome bytes (λ file. image_of s 0 ≡ Ok file)) }
-    ensures texts { let s = package.now.state in
+    ensures bytes { let s = whole.now.state in IfOk result (λ bytes. IfSome bytes (λ file. image_of s 0 ≡ Ok file)) }
+    ensures texts { let s = whole.now.state in
         IfOk result (λ bytes. IfSome bytes (λ _. TextsAreWritable s)) }
 {
-    if !package.is_unwritten() && !is_recoded {
+    if !whole.is_unwritten() && !is_recoded {
         return Ok(None);
     }
-    Ok(Some(FileBytes::of(package)?))
+    Ok(Some(FileBytes::of(whole)?))
 }
 
 /// Returns these bytes, once a package was opened from them.
