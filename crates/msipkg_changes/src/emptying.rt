@@ -54,14 +54,19 @@ fn find_columns(
         }
         let count = count_of(alloc, package, table.name(), column.name())?;
         if count > 0 {
-            found.push(emptied(alloc, table.name(), column.name(), count)?)?;
+            found.push(emptied_column(alloc, table.name(), column.name(), count)?)?;
         }
     }
     Ok(())
 }
 
 /// A column with so many empty texts.
-fn emptied(alloc: Global, table: &str, column: &str, count: usize) -> Result<Emptied, AllocError> {
+fn emptied_column(
+    alloc: Global,
+    table: &str,
+    column: &str,
+    count: usize,
+) -> Result<Emptied, AllocError> {
     Ok(Emptied {
         table: String::from_str(alloc, table)?,
         column: String::from_str(alloc, column)?,

@@ -80,12 +80,14 @@ fn cell_text(
     place: usize,
 ) -> Result<String, AllocError> {
     let mut text = format!(in alloc; "{}, row ", table.name())?;
-    let mut before = "";
+    let mut is_first = true;
     for (place, column) in rows.columns().iter().enumerate() {
         if column.is_primary_key() {
-            text.push_str(before)?;
+            if !is_first {
+                text.push('/')?;
+            }
+            is_first = false;
             push_key(rows.peek(place).unwrap_or(ValueView::Null), &mut text)?;
-            before = "/";
         }
     }
     text.push_str(", column ")?;

@@ -77,10 +77,11 @@ fn write_text<W: fmt::Write>(
 /// Writes the texts that a column takes.
 fn write_listed<W: fmt::Write>(column: &Column, f: &mut fmt::Formatter<W>) -> fmt::Result {
     let listed = column.enum_values().unwrap_or(&[]);
-    let mut before = "";
-    for text in listed.iter().take(MOST_LISTED) {
-        write!(f, "{before}{}", Cut(text.as_str()))?;
-        before = ", ";
+    for (place, text) in listed.iter().take(MOST_LISTED).enumerate() {
+        if place > 0 {
+            f.write_str(", ")?;
+        }
+        write!(f, "{}", Cut(text.as_str()))?;
     }
     if listed.len() > MOST_LISTED {
         return f.write_str(", ...");

@@ -299,11 +299,13 @@ fn key_text(
     members: &[Member<'_>],
 ) -> Result<String, AllocError> {
     let mut text = String::new(alloc);
-    let mut before = "";
+    let mut is_first = true;
     for (column, member) in columns.iter().zip(members.iter()) {
         if column.is_primary_key() {
-            text.push_str(before)?;
-            before = "/";
+            if !is_first {
+                text.push('/')?;
+            }
+            is_first = false;
             push_content(member.content, &mut text)?;
         }
     }
@@ -333,10 +335,10 @@ fn add_all_rows(
 }
 
 /// Adds a row of such a table.
-fn add_row(
+fn add_row<'a>(
     change: Change,
-    table: &Table,
-    row: &Row,
+    table: &'a Table,
+    row: &'a Row,
     report: &mut Report<'_>,
 ) -> Result<(), AllocError> {
     let members = row_members(report.alloc, table.columns(), row)?;
