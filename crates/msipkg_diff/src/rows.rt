@@ -343,17 +343,18 @@ fn add_row<'a>(
 ) -> Result<(), AllocError> {
     let members = row_members(report.alloc, table.columns(), row)?;
     let key = key_text(report.alloc, table.columns(), members.as_slice())?;
-    let (old, new): (&[Member<'_>], &[Member<'_>]) = match change {
-        Change::Added => (&[], members.as_slice()),
-        Change::Removed | Change::Changed => (members.as_slice(), &[]),
+    let none = Vec::new(report.alloc);
+    let (old, new) = match change {
+        Change::Added => (none, members),
+        Change::Removed | Change::Changed => (members, none),
     };
     report.add(&Difference {
         change,
         kind: "row",
         table: table.name(),
         name: key.as_str(),
-        old,
-        new,
+        old: old.as_slice(),
+        new: new.as_slice(),
     });
     Ok(())
 }
