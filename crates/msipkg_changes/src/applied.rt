@@ -41,12 +41,14 @@ pub(crate) fn counted(
         Statement::Insert(insert) => Ok(Carried::Inserted(insert_parts(insert).rows.len())),
         Statement::Update(update) => {
             let parts = update_parts(update);
-            let count = count_rows(alloc, package, parts.table.as_str(), parts.condition)?;
+            let condition = parts.condition;
+            let count = count_rows(alloc, package, parts.table.as_str(), condition)?;
             Ok(Carried::Changed(count))
         }
         Statement::Delete(delete) => {
             let parts = delete_parts(delete);
-            let count = count_rows(alloc, package, parts.table.as_str(), parts.condition)?;
+            let condition = parts.condition;
+            let count = count_rows(alloc, package, parts.table.as_str(), condition)?;
             Ok(Carried::Deleted(count))
         }
     }
