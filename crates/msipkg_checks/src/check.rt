@@ -2,13 +2,13 @@
 
 use crate::counts::check_counts;
 use crate::references::check_references;
-use crate::report::Report;
+use crate::report::{Place, Report};
 use crate::streams::check_streams;
 use crate::validation::check_validation;
 use crate::values::check_values;
 use msipkg_packages::msi::Package;
 use msipkg_packages::output::{Failure, Opened, Output, System};
-use msipkg_packages::{PackageFile, open_package};
+use msipkg_packages::{Looked, PackageFile, open_to_look};
 use msipkg_texts::Style;
 use std::alloc::Global;
 
@@ -24,10 +24,10 @@ pub struct CheckOptions {
 }
 
 /// Prints each finding in the package of a file on a line as it is found, or all of them as JSON on one line. Returns
-/// whether there is no error among them.
+/// whether there is no error among them. A summary that can't be read is one, and `notes` gets a line that says why.
 ///
 /// # Errors
-/// Fails as `open_package` does, and if memory is refused for the check. Where that comes in the midst of JSON, the
+/// Fails as `open_to_look` does, and if memory is refused for the check. Where that comes in the midst of JSON, the
 /// line says so instead.
 pub fn check_file(
     rt: &System,
@@ -36,8 +36,8 @@ pub fn check_file(
     output: &mut Output,
     notes: &mut Output,
 ) -> Result<bool, Failure> {
-    let mut package = open_package(rt, file, notes)?;
-    print_check(rt.alloc(), options, file.path, &mut package, output)
+    let mut looked = open_to_look(rt, file, notes)?;
+    print_check(rt.alloc(), options, file.path, &mut looked, output)
 }
 
 /// Prints the findings in a package, and returns whether there is no error among them.
@@ -45,12 +45,15 @@ fn print_check(
     alloc: Global,
     options: CheckOptions,
     file: &str,
-    package: &mut Package<Opened>,
+    looked: &mut Looked,
     output: &mut Output,
 ) -> Result<bool, Failure> {
     let mut report = Report::new(alloc, options, file, output);
     report.begin();
-    let found = find_errors(alloc, package, &mut report);
+    if !looked.has_summary {
+        report.add(Place::Summary, &"it can't be read");
+    }
+    let found = find_errors(alloc, &mut looked.package, &mut report);
     report.end(found.as_ref().err());
     match found {
         Ok(()) => Ok(report.is_well()),

@@ -17,6 +17,7 @@ enum Severity {
 /// Where something was found. Rows have names, as `row_name` gives them.
 #[derive(Clone, Copy)]
 pub(crate) enum Place<'a> {
+    Summary,
     Pool,
     Stream(&'a str),
     Table(&'a str),
@@ -38,6 +39,7 @@ pub(crate) enum Place<'a> {
 impl fmt::Display for Place<'_> {
     fn fmt<W: fmt::Write>(&self, f: &mut fmt::Formatter<W>) -> fmt::Result {
         match *self {
+            Place::Summary => f.write_str("summary"),
             Place::Pool => f.write_str("string pool"),
             Place::Stream(name) => write!(f, "stream {}", Cut(name)),
             Place::Table(name) => write!(f, "table {}", Cut(name)),
