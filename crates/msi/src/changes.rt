@@ -148,10 +148,6 @@ impl<F: Source> Package<F> {
         self.make_table(name.as_str(), Items::from_vec(columns))
     }
 
-    /// Creates a table without rows.
-    ///
-    /// # Errors
-    /// Those of `create_table`.
     fn make_table(&mut self, name: &str, columns: Items<Column>) -> Result<(), Error>
         ensures ok { let change = changing (parts_of self.old.state)
             (λ d. creates.create_table d name.now columns) in

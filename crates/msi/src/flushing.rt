@@ -34,11 +34,8 @@ pub(crate) struct Root {
     pub(crate) has_storages: bool,
 }
 
-/// Puts the image of these contents over all that a device holds.
-///
-/// # Errors
-/// `InvalidInput` where storages lie below the root, or the image would pass 2^31 bytes; `OutOfMemory`; both before
-/// the first byte is written. `Io` where a call of the device fails: then a beginning of the image may stand there.
+/// Replaces all that the device holds. `InvalidInput` (storages below the root, or an image past 2^31 bytes) and
+/// `OutOfMemory` come before the first byte is written; after `Io` the device may hold the beginning of the image.
 fn write_image<F: Device>(
     alloc: Global,
     contents: &BorrowedContents,
@@ -54,10 +51,6 @@ fn write_image<F: Device>(
     hand_on(device)
 }
 
-/// Puts the image of these streams under a root over all that a device holds.
-///
-/// # Errors
-/// Fails as `write_image` does.
 fn write_streams<F: Device>(
     alloc: Global,
     root: Root,
@@ -73,11 +66,8 @@ fn write_streams<F: Device>(
     write_image(alloc, &contents, device)
 }
 
-/// Puts the image of a database's streams, with these anew, over all that a device holds. No stream is copied. After
-/// an error the database is as it was.
-///
-/// # Errors
-/// Fails as `write_image` does.
+/// Writes the database's streams with the `renewed` ones in place of their own. No stream is copied. After an error the
+/// database is as it was.
 pub(crate) fn write_with<F: Device>(
     alloc: Global,
     root: Root,
@@ -108,11 +98,8 @@ pub(crate) fn write_with<F: Device>(
     }
 }
 
-/// Writes an unwritten package: its root's streams, with those of the summary and the pool anew. It clears the
-/// device's flag first, so that the flag is set afterwards exactly where `Io` is returned.
-///
-/// # Errors
-/// `InvalidInput` where a page doesn't carry a text; else those of `write_image`. Then the database is as it was.
+/// Clears the device's flag first, so that afterwards the flag is set exactly where `Io` is returned. Fails with
+/// `InvalidInput` where a page can't hold a text. After an error the database is as it was.
 fn write_parts<F: Device>(
     alloc: Global,
     root: Root,

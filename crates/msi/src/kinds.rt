@@ -14,7 +14,7 @@ pub enum PackageType {
     Transform,
 }
 
-/// The CLSID of a package, as it is stored: the types differ in its first byte.
+/// Returns the CLSID of a package, as it is stored: the types differ in its first byte.
 fn clsid_with(first: u8) -> [u8; 16]
     ensures { result ≡ clsid_of_number first }
 {

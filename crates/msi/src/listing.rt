@@ -22,7 +22,6 @@ impl<'a> Model for Tables<'a> {
 }
 
 impl<'a> Tables<'a> {
-    /// Returns an iterator over these tables.
     pub(crate) fn new(tables: &'a [Table]) -> Tables<'a>
         ensures { result ≡ tables.now }
     {

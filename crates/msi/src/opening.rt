@@ -54,10 +54,6 @@ impl Model for Opened {
     ghost view = { λ o. state_of o.kind o.summary o.database o.has_storages false false false };
 }
 
-/// What the root's CLSID says that the package is for.
-///
-/// # Errors
-/// `InvalidData` where it is that of no package.
 fn kind_of(contents: &Contents) -> Result<PackageType, Error>
     ensures ok { IfOk result (λ kind. contents.now.clsid ≡ clsid_of kind) }
     ensures kind { IfErr result (FailsFirst contents.now (knows_kind ∷ [])) }
@@ -68,10 +64,6 @@ fn kind_of(contents: &Contents) -> Result<PackageType, Error>
     }
 }
 
-/// The bytes of the stream of a name.
-///
-/// # Errors
-/// `NotFound` where there is none, for this reason.
 fn bytes_at<'a>(streams: &'a StreamMap, name: &Name, missing: Reason) -> Result<&'a Bytes, Error>
     ensures ok { IfOk result (λ bytes. stream_at name.now (entries streams.now) ≡ Some bytes.now) }
     ensures kind { IfErr result (λ kind. (stream_at name.now (entries streams.now) ≡ None) × (kind ≡ NotFound)) }
@@ -82,10 +74,6 @@ fn bytes_at<'a>(streams: &'a StreamMap, name: &Name, missing: Reason) -> Result<
     }
 }
 
-/// The summary, read of its stream.
-///
-/// # Errors
-/// `NotFound` where there is no such stream, `InvalidData` where it encodes no summary; `OutOfMemory`.
 fn summary_in(alloc: Global, contents: &Contents) -> Result<SummaryInfo, Error>
     ensures ok { IfOk result (SummaryIs (entries contents.now.streams)) }
     ensures kind { IfErr result (StopsAmong contents.now (has_summary ∷ reads_summary ∷ [])) }
@@ -94,10 +82,6 @@ fn summary_in(alloc: Global, contents: &Contents) -> Result<SummaryInfo, Error>
     summary_of(alloc, bytes.as_slice())
 }
 
-/// What the pool's first stream says.
-///
-/// # Errors
-/// `NotFound` where it isn't there, `InvalidData` where it doesn't have its form; `OutOfMemory`.
 fn pool_stream_in(alloc: Global, contents: &Contents) -> Result<StringPoolBuilder, Error>
     ensures found { IfOk result (PoolStreamIs (entries contents.now.streams)) }
     ensures only { (stream : PoolStream)
@@ -108,11 +92,8 @@ fn pool_stream_in(alloc: Global, contents: &Contents) -> Result<StringPoolBuilde
     pool_builder_of(alloc, bytes.as_slice())
 }
 
-/// The pool, read of its two streams.
-///
-/// # Errors
-/// The first that holds: `NotFound` where the first stream isn't there, `InvalidData` where it doesn't have its form,
-/// `NotFound` where the stream of texts isn't there, `InvalidData` where it has no such texts; `OutOfMemory`.
+/// Checks in this order: `NotFound` without the first stream, `InvalidData` for its form, `NotFound` without the stream
+/// of texts, `InvalidData` for its texts.
 fn pool_in(alloc: Global, contents: &Contents) -> Result<StringPool, Error>
     ensures found { IfOk result (λ pool. RawPoolIs (entries contents.now.streams) (unindexed pool)) }
     ensures only { (raw : Pool) → RawPoolIs (entries contents.now.streams) raw
@@ -125,10 +106,6 @@ fn pool_in(alloc: Global, contents: &Contents) -> Result<StringPool, Error>
     pool_of(alloc, stream, bytes.as_slice(), shared_part(bytes))
 }
 
-/// What a container's contents say, as a package has it.
-///
-/// # Errors
-/// Those of `open_bytes`, once the container is read.
 fn open_contents(alloc: Global, contents: Contents) -> Result<Opened, Error>
     ensures ok { IfOk result (IsOpened contents) }
     ensures kind { IfErr result (StopsAmong contents open_steps) }
@@ -145,10 +122,7 @@ fn open_contents(alloc: Global, contents: Contents) -> Result<Opened, Error>
     })
 }
 
-/// What the bytes of a package say. They are given back to memory once no stream is a part of them.
-///
-/// # Errors
-/// Those of [`Package::open`], but `Io`.
+/// The bytes are freed once no stream is a part of them.
 pub(crate) fn open_bytes(alloc: Global, bytes: Vec<u8>) -> Result<Opened, Error>
     ensures ok { IfOk result (λ opened. OpensTo bytes.items (Ok opened)) }
     ensures kind { IfErr result (IsOpenRefusal bytes.items) }

@@ -195,10 +195,6 @@ impl<F: Source> Package<F> {
         self.database.select_rows(self.alloc, &query)
     }
 
-    /// Refuses a change of a package with storages below its root.
-    ///
-    /// # Errors
-    /// `InvalidInput` where it has some.
     pub(crate) fn check_storages(&self) -> Result<(), Error>
         ensures { result ≡ unless_refused (storage_refusal (parts_of self.now.state)) tt }
     {
@@ -221,7 +217,7 @@ impl<F: Source> Package<F> {
     }
 }
 
-/// Puts the open stream in its place. Its clause `kept` says what every database satisfies. It takes no memory.
+/// Puts the open stream in its place. It takes no memory.
 pub(crate) fn settle(database: &mut Database, name: &mut Option<Name>, current: &mut OpenStream)
     requires { IfSome name.old (IsOpen database.old) }
     ensures database { database.new ≡ with_open name.old current.old.bytes database.old }

@@ -134,14 +134,13 @@ impl<F: Source> Package<F> {
         Ok(())
     }
 
-    /// Whether there is a stream of a name of the container. The open one is there already.
+    /// The open stream counts too.
     fn contains(&self, key: &Name) -> bool
         ensures { result ≡ has_stream_at key.now self.now.state.kept.streams }
     {
         self.database.streams().contains(key)
     }
 
-    /// The bytes of the stream of a name of the container, if there is one.
     fn bytes_at(&self, key: &Name) -> Option<&[u8]>
         ensures { option_copied result ≡ stream_at key.now self.now.state.kept.streams }
     {
@@ -158,7 +157,6 @@ impl<F: Source> Package<F> {
     }
 }
 
-/// The bytes of the stream of a name of the container, if there is one.
 fn bytes_of<'a>(streams: &'a StreamMap, key: &Name) -> Option<&'a [u8]>
     ensures { option_copied result ≡ finite.get streams.now key.now }
 {

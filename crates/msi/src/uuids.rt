@@ -27,9 +27,6 @@ pub trait FromUuid: Sized {
 impl FromUuid for Value {
     /// Returns a UUID in braces and upper case (RFC 9562, section 4), as a text: a value for columns of the category
     /// `Guid`.
-    ///
-    /// # Errors
-    /// Fails with `OutOfMemory`.
     fn from_uuid(alloc: Global, uuid: Uuid) -> Result<Value, Error>
         ensures ok { IfOk result (λ value. value ≡ Str (braced_uuid_text uuid)) }
         ensures kind { OnlyMemory result }
@@ -50,7 +47,6 @@ pub trait HasUuid {
     fn set_uuid(&mut self, uuid: Uuid) -> Result<(), Error>;
 }
 
-/// The UUID that a text is, in any of its forms.
 fn uuid_in(text: &str) -> Option<Uuid>
     ensures { result ≡ parsed text.now }
 {
@@ -68,11 +64,8 @@ impl HasUuid for SummaryInfo {
         uuid_in(without_braces(text))
     }
 
-    /// Sets the UUID of the package (property 9), as a text in braces and in upper case. If it fails, the summary is
-    /// as before.
-    ///
-    /// # Errors
-    /// Fails with `OutOfMemory` if the text can't be made or stored.
+    /// Sets the UUID of the package (property 9), as a text in braces and in upper case. If it fails, the summary is as
+    /// before.
     fn set_uuid(&mut self, uuid: Uuid) -> Result<(), Error>
         ensures ok { OnOk result (self.new ≡ with_uuid uuid self.old) }
         ensures kind { OnlyMemory result }

@@ -25,7 +25,6 @@ impl<F: Source> Package<F> {
     }
 }
 
-/// Whether each text of the two reads back. It looks at both.
 fn all_read_back(pool: &StringPool, summary: &SummaryInfo) -> bool
     ensures exact { IsTrue result
         ↔ (pools.AreWritable (pools.unindexed pool.now) × properties.AreWritable summary.now) }

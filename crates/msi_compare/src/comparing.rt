@@ -26,7 +26,6 @@ pub enum Difference {
     Added(usize),
 }
 
-/// Whether the row at a place has these values.
 fn stands_at(rows: &[Items<Value>], place: usize, row: &[Value]) -> bool
     ensures { result ≡ stands_there rows.now place row.now }
 {
@@ -36,10 +35,6 @@ fn stands_at(rows: &[Items<Value>], place: usize, row: &[Value]) -> bool
     }
 }
 
-/// What an old row makes, if it makes a difference.
-///
-/// # Errors
-/// `OutOfMemory`.
 fn of_old(
     alloc: Global,
     columns: &[Column],
@@ -60,10 +55,6 @@ fn of_old(
     })
 }
 
-/// What a new row makes, if it makes a difference.
-///
-/// # Errors
-/// `OutOfMemory`.
 fn of_new(
     alloc: Global,
     columns: &[Column],
@@ -82,10 +73,6 @@ fn of_new(
     })
 }
 
-/// What the rows of the old table make.
-///
-/// # Errors
-/// `OutOfMemory`.
 fn of_old_rows(
     alloc: Global,
     columns: &[Column],
@@ -106,10 +93,6 @@ fn of_old_rows(
     Ok(found)
 }
 
-/// What the rows of the new table make.
-///
-/// # Errors
-/// `OutOfMemory`.
 fn of_new_rows(
     alloc: Global,
     columns: &[Column],

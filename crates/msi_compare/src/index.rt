@@ -12,10 +12,7 @@ use msi_text_base::text::Items;
 use std::alloc::Global;
 use std::collections::BTreeMap;
 
-/// The place of the last row of each key.
-///
-/// # Errors
-/// `OutOfMemory`.
+/// Maps each key to the place of the last row that has it.
 pub(crate) fn index_of(
     alloc: Global,
     columns: &[Column],

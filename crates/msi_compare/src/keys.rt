@@ -33,10 +33,6 @@ impl Model for Key {
 }
 
 impl Key {
-    /// The key of a row.
-    ///
-    /// # Errors
-    /// `OutOfMemory`.
     pub(crate) fn of_row(alloc: Global, columns: &[Column], row: &[Value]) -> Result<Key, Error>
         ensures ok { IfOk result (λ key. key ≡ key_of columns.now row.now) }
         ensures kind { OnlyMemory result }
@@ -46,10 +42,6 @@ impl Key {
     }
 }
 
-/// The values of a row's key columns.
-///
-/// # Errors
-/// `OutOfMemory`.
 fn key_values(alloc: Global, columns: &[Column], row: &[Value]) -> Result<Vec<Value>, Error>
     ensures ok { IfOk result (λ values. values.items ≡ key_of columns.now row.now) }
     ensures kind { OnlyMemory result }

@@ -92,7 +92,7 @@ impl Claims {
 }
 
 impl Claimed {
-    /// Why a number past the limit is refused.
+    /// Returns why a number past the limit is refused.
     fn outside(self) -> Reason {
         match self {
             Claimed::Sectors => reasons::SECTOR_OUTSIDE_FILE,
@@ -101,7 +101,7 @@ impl Claimed {
         }
     }
 
-    /// Why a number in use is refused.
+    /// Returns why a number in use is refused.
     fn twice(self) -> Reason {
         match self {
             Claimed::Sectors => reasons::SECTOR_USED_TWICE,

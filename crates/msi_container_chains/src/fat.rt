@@ -38,7 +38,8 @@ pub fn read_difat(alloc: Global, bytes: &[u8], claims: &mut Claims) -> Result<Ve
     Ok(difat)
 }
 
-/// The sector of the DIFAT behind those so far: the header names the first, and each ends in the number of the next.
+/// Returns the sector of the DIFAT behind those so far: the header names the first, and each ends in the number of the
+/// next.
 fn next_sector(bytes: &[u8], so_far: &[u32]) -> u32
     ensures { Some result ≡ follower (container.next_difat bytes.now) (container.difat_start bytes.now) so_far.now }
 {
@@ -76,7 +77,7 @@ pub fn read_fat(
     Ok(fat)
 }
 
-/// The number that the header and the DIFAT list at a place.
+/// Returns the number that the header and the DIFAT list at a place.
 fn listed(bytes: &[u8], difat: &[u32], place: u32) -> u32
     requires difat { IsDifat bytes.now difat.now }
     requires place { place < container.fat_count bytes.now }

@@ -29,7 +29,6 @@ pub fn check_header(bytes: &[u8]) -> Result<(), Error>
     }
 }
 
-/// The first rule that the header breaks.
 fn broken_rule(bytes: &[u8]) -> Option<Reason>
     ensures { MatchOption result (container.IsHeader bytes.now) (λ _. container.IsHeader bytes.now → ⊥) }
 {
@@ -51,14 +50,12 @@ fn broken_rule(bytes: &[u8]) -> Option<Reason>
     }
 }
 
-/// Whether a major version is one that there is.
 fn is_known(version: u16) -> bool
     ensures { IsTrue result ↔ ((version ≡ 3) ⊎ (version ≡ 4)) }
 {
     version == VERSION_3 || version == VERSION_4
 }
 
-/// The sector shift of a major version: sectors of 512 or of 4096 bytes.
 fn sector_shift(version: u16) -> u16
     ensures { result ≡ (if version == 4 then 12 else 9) }
 {
@@ -69,7 +66,6 @@ fn sector_shift(version: u16) -> u16
     }
 }
 
-/// Whether the file begins with the signature.
 fn is_signed(bytes: &[u8]) -> bool
     ensures { IsTrue result ↔ (spelled.bytes_at bytes.now 0 8 ≡ marks.signature) }
 {

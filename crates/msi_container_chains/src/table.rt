@@ -37,7 +37,6 @@ impl Steps {
         self.count
     }
 
-    /// One more was looked up.
     fn take(&mut self)
         requires { self.old + 1 < 2 ^ 64 }
         ensures { self.new ≡ self.old + 1 }
@@ -64,7 +63,7 @@ impl<'a> AllocationTable<'a> {
         AllocationTable { bytes, sectors }
     }
 
-    /// The successor of a sector, where the table has one. It is the only way to an entry, and takes a step.
+    /// This is the only way to an entry, and takes a step.
     pub(crate) fn successor(&self, sector: u32, steps: &mut Steps) -> Option<u32>
         requires { steps.old + 1 < 2 ^ 64 }
         ensures value { result ≡ container.successor self.now.bytes.now self.now.sectors.now sector }

@@ -16,7 +16,6 @@ use msi_container_format::format::END_OF_CHAIN;
 use msi_text_base::{Error, ErrorKind};
 use std::alloc::Global;
 
-/// The member that comes after those so far.
 fn next_member(
     table: &AllocationTable,
     start: u32,

@@ -91,7 +91,6 @@ impl<F: Write + Drop> Buffered<F> {
         }
     }
 
-    /// Hands on what is collected, if anything may be.
     fn hand_on(&mut self) -> io::Result<()>
         ensures empty { OnOk result (self.new.collected ≡ []) }
         ensures inner { self.old.pending ≡ false → self.new.inner ≡ self.old.inner }
@@ -122,7 +121,6 @@ impl<F: Write + Drop> Buffered<F> {
 }
 
 impl<F: Write + Seek + Drop> Buffered<F> {
-    /// Hands on what is collected, and seeks.
     fn seek(&mut self, to: SeekFrom) -> io::Result<u64>
         ensures passed { self.old.pending ≡ false → SeekMoves (F.stream_position self.old.inner)
             (F.stream_position self.new.inner) (F.stream_bytes self.old.inner) to result }
@@ -136,7 +134,7 @@ impl<F: Write + Seek + Drop> Buffered<F> {
 }
 
 impl<F: Read + Write + Drop> Buffered<F> {
-    /// Hands on what is collected, so that it is read too, and reads.
+    /// Hands on what is collected first, so that it is read too.
     fn read_on(&mut self, buf: &mut [u8]) -> io::Result<usize>
         ensures count { IfOk result (λ n. n ≤ length buf.old) }
         ensures passed { self.old.pending ≡ false

@@ -84,7 +84,6 @@ impl Source for Memory {
         Ok(())
     }
 
-    /// Fills the buffer, or reads all that lies ahead where that is less.
     fn read(&mut self, buf: &mut [u8]) -> io::Result<usize>
         ensures count { result ≡ Ok (min (length buf.old) (length self.old.held.ahead)) }
         ensures read { IfOk result (λ n. take n buf.new ≡ take n self.old.held.ahead) }

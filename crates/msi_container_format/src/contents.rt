@@ -55,7 +55,6 @@ impl Bytes {
         }
     }
 
-    /// The stream that has a part of some bytes. It shares them.
     pub(crate) fn from_part(part: Part) -> Bytes
         ensures { result ≡ part }
     {
@@ -64,7 +63,6 @@ impl Bytes {
         }
     }
 
-    /// The part of shared bytes that the stream is, unless it has its bytes alone.
     pub(crate) fn part(&self) -> Option<&Part>
         ensures { IfSome result (λ part. part.now ≡ self.now) }
     {
@@ -179,8 +177,8 @@ impl StreamMap {
         self.map.insert(name, bytes)
     }
 
-    /// Puts back what `replace` handed back: these bytes, or no stream. A stream of that name has to be there, so it
-    /// takes no memory.
+    /// Puts back what `replace` returned: these bytes, or no stream. A stream of that name has to exist, so it takes no
+    /// memory.
     pub(crate) fn put_back(&mut self, name: &Name, bytes: Option<Bytes>)
         requires { finite.contains_key self.old name.now ≡ true }
         ensures { self.new ≡ with_or_without self.old name.now bytes }

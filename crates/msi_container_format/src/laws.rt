@@ -28,7 +28,6 @@ pub fn names_spell_one_text(name: &Name)
     look_at_units(name.units());
 }
 
-/// A unit is below 65536.
 fn look_at_units(units: &[u16])
     ensures { AllByRecursion (λ unit. unit < 2 ^ 16) units.now }
 {}

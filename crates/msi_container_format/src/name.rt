@@ -115,7 +115,6 @@ impl Name {
     }
 }
 
-/// Whether each surrogate has its partner.
 fn is_well_formed(units: &[u16]) -> bool
     ensures { result ≡ is_text units.now }
 {
@@ -129,21 +128,18 @@ fn is_well_formed(units: &[u16]) -> bool
     !awaits_low
 }
 
-/// Whether a unit is the first of a pair.
 fn is_high_surrogate(unit: u16) -> bool
     ensures { result ≡ is_high_surrogate unit }
 {
     (0xD800..0xDC00).contains(&unit)
 }
 
-/// Whether a unit is the second of a pair.
 fn is_low_surrogate(unit: u16) -> bool
     ensures { result ≡ is_low_surrogate unit }
 {
     (0xDC00..0xE000).contains(&unit)
 }
 
-/// A unit with an ASCII small letter as its capital.
 fn capital_of(unit: u16) -> u16
     ensures { result ≡ capital unit }
 {
@@ -153,8 +149,7 @@ fn capital_of(unit: u16) -> u16
     }
 }
 
-/// Compares two rows of as many units with small letters as capitals. Most units of names beside one another are the
-/// same, and need no capital.
+/// Most units of names beside one another are the same, and need no capital.
 fn cmp_capitals(a: &[u16], b: &[u16]) -> Ordering
     requires { length a.now ≡ length b.now }
     ensures { result ≡ slice_cmp nat_cmp (capitals a.now) (capitals b.now) }

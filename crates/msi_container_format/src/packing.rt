@@ -20,7 +20,7 @@ pub fn packed_name(name: &str, is_table: bool) -> Option<Name>
     Name::from_units(units.as_slice())
 }
 
-/// Returns the UTF-16 units of a container's name, unless these are more than an entry's name may have.
+/// Returns `None` where the name has more UTF-16 units than an entry's name may have.
 pub(crate) fn packed_units(name: &str, is_table: bool) -> Option<Units>
     ensures units { IfSome result (λ units. units ≡ utf16_units (encoded_name is_table (chars name.now))) }
     ensures few { is_some result ≡ nat_le (encoded_units is_table (chars name.now)) 31 }
@@ -37,7 +37,7 @@ pub(crate) fn packed_units(name: &str, is_table: bool) -> Option<Units>
     Some(units)
 }
 
-/// The first character of a packed name, and the text that the other characters are packed of.
+/// Returns the first character of a packed name, and the text from which the other characters are packed.
 pub(crate) fn next_packed(name: &str) -> Option<(char, &str)>
     ensures { MatchOption result (packed (chars name.now) ≡ [])
         (λ (c, rest). (packed (chars name.now) ≡ c ∷ packed (chars rest.now)) × (length rest.now < length name.now)) }
@@ -57,7 +57,6 @@ pub(crate) fn next_packed(name: &str) -> Option<(char, &str)>
     }
 }
 
-/// The first character of a text, and the text behind it.
 fn split_first(text: &str) -> Option<(char, &str)>
     ensures { MatchOption result (chars text.now ≡ [])
         (λ (c, rest). (chars text.now ≡ c ∷ chars rest.now) × (length rest.now < length text.now)) }
@@ -69,7 +68,6 @@ fn split_first(text: &str) -> Option<(char, &str)>
     }
 }
 
-/// The value of a character that is packed.
 fn value_of(c: char) -> Option<u32>
     ensures value { result ≡ value_of c }
     ensures below { IfSome result (λ value. value < 64) }
@@ -84,7 +82,6 @@ fn value_of(c: char) -> Option<u32>
     }
 }
 
-/// The character of two values.
 fn packed_pair(first: u32, second: u32) -> char
     requires first_below { first < 64 }
     requires second_below { second < 64 }
@@ -93,7 +90,6 @@ fn packed_pair(first: u32, second: u32) -> char
     char::from_u32(0x3800 + 64 * second + first).unwrap()
 }
 
-/// The character of a value that has no partner.
 fn packed_single(value: u32) -> char
     requires { value < 64 }
     ensures { result ≡ packed_single value }

@@ -67,7 +67,6 @@ pub fn decode(alloc: Global, name: &str) -> Result<(String, bool), Error>
     }
 }
 
-/// The characters that those of a container's name stand for.
 fn unpack(alloc: Global, name: &str) -> Result<String, Error>
     ensures ok { IfOk result (λ text. chars (string_bytes text) ≡ flat_map unpacked (chars name.now)) }
     ensures memory { IsErr result → IsErrOf result OutOfMemory }
@@ -79,7 +78,6 @@ fn unpack(alloc: Global, name: &str) -> Result<String, Error>
     Ok(text)
 }
 
-/// Appends the one or two characters that a character of a container's name stands for.
 fn push_unpacked(text: &mut String, c: char) -> Result<(), Error>
     ensures ok { OnOk result (string_bytes text.new ≡ string_bytes text.old ++ encode_utf8_all (unpacked c)) }
     ensures memory { IsErr result → IsErrOf result OutOfMemory }
@@ -111,28 +109,24 @@ pub fn is_valid(name: &str, is_table: bool) -> bool
         && packed_units(name, is_table).is_some()
 }
 
-/// Whether a text begins with the mark of a table.
 fn is_marked(name: &str) -> bool
     ensures { result ≡ is_marked (chars name.now) }
 {
     name.starts_with(TABLE_MARK)
 }
 
-/// Whether a text has a character that names may not have.
 fn has_forbidden(name: &str) -> bool
     ensures { result ≡ list_any is_forbidden (chars name.now) }
 {
     name.chars().any(is_forbidden)
 }
 
-/// Whether names may not have a character.
 fn is_forbidden(c: char) -> bool
     ensures { result ≡ is_forbidden c }
 {
     matches!(c, '/' | '\\' | ':' | '!' | '\0' | '\u{3800}'..='\u{483F}')
 }
 
-/// The character that has a value.
 fn character_with(value: u32) -> char
     requires { value < 64 }
     ensures { result ≡ character_with value }

@@ -24,7 +24,6 @@ impl Model for Units {
 }
 
 impl Units {
-    /// No units.
     pub(crate) fn new() -> Units
         ensures { result ≡ [] }
     {
@@ -34,14 +33,12 @@ impl Units {
         }
     }
 
-    /// The units.
     pub(crate) fn as_slice(&self) -> &[u16]
         ensures { result.now ≡ self.now }
     {
         &self.held[..self.len]
     }
 
-    /// Puts the one or two units of a character behind the others, unless they would be too many.
     pub(crate) fn push(&mut self, c: char) -> Option<()>
         ensures put { IfSome result (λ _. self.new ≡ self.old ++ encode_utf16 c) }
         ensures fits { is_some result ≡ nat_le (length self.old + length (encode_utf16 c)) 31 }
@@ -53,14 +50,12 @@ impl Units {
         Some(())
     }
 
-    /// How many more units there may be.
     fn room(&self) -> usize
         ensures { result + length self.now ≡ 31 }
     {
         MAX_UNITS - self.len
     }
 
-    /// Puts the one or two units of a character behind the others.
     fn put(&mut self, c: char)
         requires { length self.old + length (encode_utf16 c) ≤ 31 }
         ensures { self.new ≡ self.old ++ encode_utf16 c }
@@ -75,7 +70,6 @@ impl Units {
         }
     }
 
-    /// Puts a unit behind the others.
     fn put_unit(&mut self, unit: u16)
         requires { length self.old < 31 }
         ensures { self.new ≡ self.old ++ unit ∷ [] }

@@ -31,14 +31,12 @@ pub(crate) struct Directory<'a> {
 }
 
 impl<'a> Directory<'a> {
-    /// How many entries there are.
     pub(crate) fn entry_count(&self) -> usize
         ensures { result ≡ container.entry_count self.now.bytes.now self.now.sectors.now }
     {
         self.sectors.len() * (sector_size(self.bytes) / ENTRY_SIZE)
     }
 
-    /// Where a field of an entry stands.
     fn field(&self, entry: u32, offset: usize) -> usize
         requires entry { entry < container.entry_count self.now.bytes.now self.now.sectors.now }
         requires offset { offset < 128 }
@@ -52,7 +50,6 @@ impl<'a> Directory<'a> {
         )
     }
 
-    /// The type of an entry.
     pub(crate) fn kind(&self, entry: u32) -> u8
         requires { entry < container.entry_count self.now.bytes.now self.now.sectors.now }
         ensures { result ≡ container.kind self.now.bytes.now self.now.sectors.now entry }
@@ -60,7 +57,6 @@ impl<'a> Directory<'a> {
         byte(self.bytes, self.field(entry, KIND_AT))
     }
 
-    /// The left sibling.
     pub(crate) fn left(&self, entry: u32) -> u32
         requires { entry < container.entry_count self.now.bytes.now self.now.sectors.now }
         ensures { result ≡ container.left self.now.bytes.now self.now.sectors.now entry }
@@ -68,7 +64,6 @@ impl<'a> Directory<'a> {
         number32(self.bytes, self.field(entry, LEFT_AT))
     }
 
-    /// The right sibling.
     pub(crate) fn right(&self, entry: u32) -> u32
         requires { entry < container.entry_count self.now.bytes.now self.now.sectors.now }
         ensures { result ≡ container.right self.now.bytes.now self.now.sectors.now entry }
@@ -76,7 +71,6 @@ impl<'a> Directory<'a> {
         number32(self.bytes, self.field(entry, RIGHT_AT))
     }
 
-    /// The entry at the top of the tree below an entry.
     pub(crate) fn child(&self, entry: u32) -> u32
         requires { entry < container.entry_count self.now.bytes.now self.now.sectors.now }
         ensures { result ≡ container.child self.now.bytes.now self.now.sectors.now entry }
@@ -84,7 +78,6 @@ impl<'a> Directory<'a> {
         number32(self.bytes, self.field(entry, CHILD_AT))
     }
 
-    /// The CLSID of the root, as it is stored.
     pub(crate) fn clsid(&self) -> [u8; 16]
         requires { 0 < container.entry_count self.now.bytes.now self.now.sectors.now }
         ensures { result ≡ container.clsid self.now.bytes.now self.now.sectors.now }
@@ -97,7 +90,6 @@ impl<'a> Directory<'a> {
         clsid
     }
 
-    /// The first sector of an entry's stream.
     pub(crate) fn start_sector(&self, entry: u32) -> u32
         requires { entry < container.entry_count self.now.bytes.now self.now.sectors.now }
         ensures { result ≡ container.start_sector self.now.bytes.now self.now.sectors.now entry }
@@ -105,7 +97,7 @@ impl<'a> Directory<'a> {
         number32(self.bytes, self.field(entry, START_AT))
     }
 
-    /// The number of bytes of an entry's stream. Version 3 uses the low half alone.
+    /// Version 3 uses the low half alone.
     pub(crate) fn size(&self, entry: u32) -> u64
         requires { entry < container.entry_count self.now.bytes.now self.now.sectors.now }
         ensures { result ≡ container.size self.now.bytes.now self.now.sectors.now entry }
@@ -118,7 +110,7 @@ impl<'a> Directory<'a> {
         }
     }
 
-    /// The name of an entry. `InvalidData` where it is odd, empty, too long or no text.
+    /// Fails with `InvalidData` where the name's length is odd, or the name is empty, too long or no text.
     pub(crate) fn name(&self, entry: u32) -> Result<Name, Error>
         requires { entry < container.entry_count self.now.bytes.now self.now.sectors.now }
         ensures found { IfOk result (λ name. name ≡ container.name self.now.bytes.now self.now.sectors.now entry) }
@@ -138,7 +130,6 @@ impl<'a> Directory<'a> {
         }
     }
 
-    /// The first units of an entry's name, and zeros behind them.
     fn units(&self, entry: u32, len: usize) -> [u16; MAX_UNITS]
         requires entry { entry < container.entry_count self.now.bytes.now self.now.sectors.now }
         requires len { len ≤ 31 }
@@ -154,8 +145,8 @@ impl<'a> Directory<'a> {
     }
 }
 
-/// The entries that links lead to from `child`, each once: first an entry, then those on its left, then those on its
-/// right.
+/// Lists the entries that links lead to from `child`, each once: first an entry, then those on its left, then those on
+/// its right.
 pub(crate) fn reach(alloc: Global, directory: &Directory, child: u32) -> Result<Vec<u32>, Error>
     ensures found { IfOk result
         (λ reached. (tree : Tree)
@@ -182,7 +173,6 @@ pub(crate) fn reach(alloc: Global, directory: &Directory, child: u32) -> Result<
     Ok(claims.into_list())
 }
 
-/// Checks that entries are storages and streams. The only error is `InvalidData`.
 pub(crate) fn check_kinds(directory: &Directory, entries: &[u32]) -> Result<(), Error>
     requires { AreBelow (container.entry_count directory.now.bytes.now directory.now.sectors.now) entries.now }
     ensures ok { OnOk result (spec.AreOfKinds directory.now.bytes.now directory.now.sectors.now entries.now) }

@@ -49,8 +49,6 @@ pub fn list(alloc: Global, bytes: &[u8]) -> Result<Listing, Error>
     })
 }
 
-/// The sizes of these entries' streams, by name. `InvalidData` where a name isn't well formed, or two storages or
-/// streams have one; `OutOfMemory`.
 fn sizes_of(
     alloc: Global,
     directory: &Directory,

@@ -19,7 +19,6 @@ use msi_text_base::{Error, ErrorKind};
 use std::alloc::Global;
 use std::collections::BTreeSet;
 
-/// The names of these entries. `InvalidData` where one isn't well formed, or two are the same; `OutOfMemory`.
 pub(crate) fn names_of(
     alloc: Global,
     directory: &Directory,
@@ -43,7 +42,6 @@ pub(crate) fn names_of(
     Ok(names)
 }
 
-/// The name of an entry, where none of these is the same. `InvalidData` where it isn't well formed, or one is.
 pub(crate) fn own_name(
     directory: &Directory,
     entry: u32,
@@ -66,7 +64,6 @@ pub(crate) fn own_name(
     Ok(name)
 }
 
-/// Puts a stream at its name. `InvalidData` where there is one of that name; `OutOfMemory`.
 pub(crate) fn insert_stream(streams: &mut StreamMap, name: Name, bytes: Bytes) -> Result<(), Error>
     ensures ok { OnOk result (streams.new ≡ finite.insert streams.old name bytes) }
     ensures free { OnOk result (finite.contains_key streams.old name ≡ false) }
@@ -81,7 +78,6 @@ pub(crate) fn insert_stream(streams: &mut StreamMap, name: Name, bytes: Bytes) -
     Ok(())
 }
 
-/// Puts a size at its name. `InvalidData` where there is one at that name; `OutOfMemory`.
 pub(crate) fn insert_size(sizes: &mut Sizes, name: Name, size: u64) -> Result<(), Error>
     ensures ok { OnOk result (sizes.new ≡ finite.insert sizes.old name size) }
     ensures free { OnOk result (finite.contains_key sizes.old name ≡ false) }

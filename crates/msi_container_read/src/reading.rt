@@ -92,8 +92,7 @@ pub fn read_shared(alloc: Global, bytes: Rc<Vec<u8>>) -> Result<Contents, Error>
     read_from(alloc, bytes.as_slice(), Some(&bytes), &mut steps)
 }
 
-/// The contents that the bytes hold, by steps that are counted from 0 on. Where there is an image, it has these bytes,
-/// and the streams that lie in one piece are parts of it. Errors are those of `read`.
+/// Counts the steps from 0 on. An image has the same bytes; the streams that lie in it in one piece are parts of it.
 fn read_from(
     alloc: Global,
     bytes: &[u8],
@@ -155,8 +154,7 @@ impl Drop for Outline {
     }
 }
 
-/// Where the streams of the container stand that the bytes hold. The names of entries aren't looked at yet. Errors
-/// and steps are else those of `read_counted`.
+/// Locates the streams without reading them. The names of entries aren't looked at yet.
 pub(crate) fn read_outline(alloc: Global, bytes: &[u8], steps: &mut Steps) -> Result<Outline, Error>
     requires { steps.old ≤ 2 ^ 63 }
     ensures found { IfOk result (λ o. (plan : container.Plan)
@@ -260,7 +258,6 @@ impl Drop for Mini {
     }
 }
 
-/// Checks the header, and claims the sectors of the DIFAT, the FAT and the directory.
 fn read_start(
     alloc: Global,
     bytes: &[u8],
@@ -297,7 +294,6 @@ fn read_start(
     })
 }
 
-/// Checks the root, and sorts the entries below it into storages and streams.
 fn read_entries(alloc: Global, directory: &Directory) -> Result<Entries, Error>
     requires { 0 < container.entry_count directory.now.bytes.now directory.now.sectors.now }
     ensures found { IfOk result
@@ -328,7 +324,6 @@ fn read_entries(alloc: Global, directory: &Directory) -> Result<Entries, Error>
     })
 }
 
-/// Checks the root, and lists the entries below it in the tree's order.
 fn read_listing(alloc: Global, directory: &Directory) -> Result<Vec<u32>, Error>
     requires { 0 < container.entry_count directory.now.bytes.now directory.now.sectors.now }
     ensures found { IfOk result
@@ -348,7 +343,6 @@ fn read_listing(alloc: Global, directory: &Directory) -> Result<Vec<u32>, Error>
     Ok(entries)
 }
 
-/// Claims the sectors of the mini FAT, where it has any.
 fn read_mini_fat(
     alloc: Global,
     bytes: &[u8],
@@ -378,7 +372,6 @@ fn read_mini_fat(
     }
 }
 
-/// Claims the sectors of the mini FAT and of the mini stream.
 fn read_mini(
     alloc: Global,
     fat: &AllocationTable,
@@ -417,7 +410,6 @@ fn read_mini(
     })
 }
 
-/// Claims the members of the streams that these entries are.
 fn read_chains<'a>(
     alloc: Global,
     fat: &AllocationTable<'a>,

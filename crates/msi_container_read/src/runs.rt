@@ -8,7 +8,6 @@ ghost use Rattle.msi_container_read.specs.Runs.{IsRun};
 
 use msi_container_chains::parts::sector_size;
 
-/// Whether each sector is the one behind the sector before it.
 fn is_run(sectors: &[u32], first: u32) -> bool
     ensures { IsTrue result → IsRun first sectors.now }
 {
@@ -20,8 +19,8 @@ fn is_run(sectors: &[u32], first: u32) -> bool
     true
 }
 
-/// Where the first `count` bytes of some sectors begin in the file, if they lie there in one piece. It returns `None`
-/// where one of the sectors isn't behind the one before it, and where the file ends before these bytes do.
+/// Returns where the first `count` bytes of some sectors begin in the file. It is `None` where one of the sectors isn't
+/// behind the one before it, and where the file ends before these bytes do.
 pub(crate) fn run_start(bytes: &[u8], sectors: &[u32], count: usize) -> Option<usize>
     requires { count ≤ length sectors.now * container.sector_size bytes.now }
     ensures within { IfSome result (λ start. start + count ≤ length bytes.now) }

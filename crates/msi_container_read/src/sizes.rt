@@ -30,7 +30,6 @@ impl Model for Sizes {
 }
 
 impl Sizes {
-    /// No streams.
     pub(crate) fn new(alloc: Global) -> Sizes
         ensures { result ≡ finite.empty }
     {
@@ -39,7 +38,6 @@ impl Sizes {
         }
     }
 
-    /// Puts a size at a name. The only error is `OutOfMemory`.
     pub(crate) fn insert(&mut self, name: Name, size: u64) -> Result<(), Error>
         ensures ok { OnOk result (self.new ≡ finite.insert self.old name size) }
         ensures memory { IsErr result → IsErrOf result OutOfMemory }

@@ -40,7 +40,6 @@ pub(crate) struct Uses {
     pub(crate) mini_sectors: Claims,
 }
 
-/// Those entries that are of this kind, in their order. The only error is `OutOfMemory`.
 pub(crate) fn of_kind(
     alloc: Global,
     directory: &Directory,
@@ -63,7 +62,6 @@ pub(crate) fn of_kind(
     Ok(found)
 }
 
-/// Whether a storage is among these entries.
 pub(crate) fn has_storage(directory: &Directory, entries: &[u32]) -> bool
     requires { AreBelow (container.entry_count directory.now.bytes.now directory.now.sectors.now) entries.now }
     ensures { result ≡ container.has_storage directory.now.bytes.now directory.now.sectors.now entries.now }
@@ -76,9 +74,8 @@ pub(crate) fn has_storage(directory: &Directory, entries: &[u32]) -> bool
     false
 }
 
-/// The members of an entry's stream, all claimed: mini sectors below 4096 bytes, and sectors from there on.
-/// `InvalidData` where a chain ends early, leaves the file or the mini stream, or uses a member that is in use;
-/// `OutOfMemory`.
+/// Claims the members of an entry's stream: mini sectors below 4096 bytes, and sectors from there on. Fails with
+/// `InvalidData` where a chain ends early, leaves the file or the mini stream, or uses a member that is in use.
 fn walk_stream(
     alloc: Global,
     tables: &Tables,
@@ -135,7 +132,6 @@ fn walk_stream(
     }
 }
 
-/// The members of each entry's stream, all claimed. Errors as those of one stream.
 pub(crate) fn walk_each(
     alloc: Global,
     tables: &Tables,
@@ -185,8 +181,6 @@ pub(crate) fn walk_each(
     Ok(chains)
 }
 
-/// The first `count` bytes of some sectors: what lies behind them in the last one is no content. The only error is
-/// `OutOfMemory`.
 fn sector_bytes(
     alloc: Global,
     bytes: &[u8],
@@ -207,8 +201,6 @@ fn sector_bytes(
     Ok(held)
 }
 
-/// The first `count` bytes of some mini sectors of the mini stream, which lies in these sectors. The only error is
-/// `OutOfMemory`.
 fn mini_sector_bytes(
     alloc: Global,
     bytes: &[u8],
@@ -232,8 +224,7 @@ fn mini_sector_bytes(
     Ok(held)
 }
 
-/// The stream of the first `count` bytes of some sectors. It is a part of the image, where there is one in which they
-/// lie in one piece, and else a copy. The only error is `OutOfMemory`.
+/// The stream is a part of the image, if one exists and the sectors lie in it in one piece, and else a copy.
 fn sector_stream(
     alloc: Global,
     bytes: &[u8],
@@ -256,7 +247,6 @@ fn sector_stream(
     Ok(Bytes::from_vec(held))
 }
 
-/// An entry's stream, which lies in these members. The only error is `OutOfMemory`.
 fn stream_of(
     alloc: Global,
     directory: &Directory,
@@ -282,8 +272,8 @@ fn stream_of(
     }
 }
 
-/// The streams of these entries, by name. Those that lie in one piece in the image, where there is one, are parts of
-/// it. `InvalidData` where a name isn't well formed, or two storages or streams have one; `OutOfMemory`.
+/// Streams that lie in one piece in the image, if one exists, are parts of it. Fails with `InvalidData` where a name
+/// isn't well formed, or two storages or streams share one.
 pub(crate) fn collect(
     alloc: Global,
     directory: &Directory,

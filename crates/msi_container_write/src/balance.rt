@@ -6,7 +6,7 @@ ghost use Rattle.msi_container_format.specs.Format.{NO_ENTRY};
 
 use msi_container_format::format;
 
-/// The entry that `count` entries from `lo` on hang from.
+/// Returns the root of the subtree of the `count` entries from `lo` on.
 pub(crate) fn middle(lo: u32, count: u32) -> u32
     requires { lo + count < NO_ENTRY }
     ensures { result ≡ spec.middle lo count }
@@ -18,7 +18,7 @@ pub(crate) fn middle(lo: u32, count: u32) -> u32
     }
 }
 
-/// The left and the right link of entry `k` of `n`.
+/// Returns the left and the right link of entry `k` of `n`.
 pub(crate) fn links(n: u32, k: u32) -> (u32, u32)
     requires few { n + 1 < NO_ENTRY }
     requires first { 1 ≤ k }

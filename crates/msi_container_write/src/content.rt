@@ -34,7 +34,6 @@ pub(crate) fn fill_mini_stream(sector: &mut [u8; SECTOR_SIZE_3], places: &[Place
     }
 }
 
-/// Fills a unit with bytes as far as they go, and with zeros behind them.
 fn fill_unit(unit: &mut [u8], bytes: &[u8])
     ensures { unit.new ≡ bytes_at bytes.now 0 (length unit.old) }
 {

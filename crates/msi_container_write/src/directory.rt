@@ -27,8 +27,6 @@ const NO_CLSID: [u8; 16] = [0; 16];
 /// How many entries a sector has.
 const ENTRIES: usize = SECTOR_SIZE_3 / ENTRY_SIZE;
 
-/// Fills sector `m` of the directory of these streams, below a root with this CLSID. The small streams take
-/// `mini_sectors`.
 pub(crate) fn fill_directory(
     sector: &mut [u8; SECTOR_SIZE_3],
     clsid: [u8; 16],
@@ -50,7 +48,7 @@ pub(crate) fn fill_directory(
     }
 }
 
-/// Entry `k` of the directory: the root, the streams in order, and entries that aren't in use.
+/// Returns entry `k` of the directory: the root, the streams in order, and entries that aren't in use.
 fn entry(clsid: [u8; 16], places: &[Place], mini_sectors: usize, k: usize) -> [u8; ENTRY_SIZE]
     requires indexed { IsIndex places.now }
     requires names { HaveNames (streams_of places.now) }
@@ -72,7 +70,7 @@ fn entry(clsid: [u8; 16], places: &[Place], mini_sectors: usize, k: usize) -> [u
     }
 }
 
-/// The root above these streams, whose chain is the mini stream, from sector `first` on.
+/// Returns the root's entry, whose chain is the mini stream, from sector `first` on.
 fn root_entry(
     clsid: [u8; 16],
     places: &[Place],
@@ -97,7 +95,7 @@ fn root_entry(
     })
 }
 
-/// Entry `k` of `count` streams, the large ones of which lie from sector `large` on.
+/// Returns entry `k` of `count` streams, the large ones of which lie from sector `large` on.
 fn stream_entry(place: &Place, k: u32, count: u32, large: u32) -> [u8; ENTRY_SIZE]
     requires few { count + 1 < marks.NO_ENTRY }
     requires some { 1 ≤ k }
@@ -121,7 +119,6 @@ fn stream_entry(place: &Place, k: u32, count: u32, large: u32) -> [u8; ENTRY_SIZ
     })
 }
 
-/// Where a stream of `size` bytes starts: at the next sector or the next mini sector, unless it is empty.
 fn stream_start(size: usize, next: u32, next_mini: u32) -> u32
     ensures { result ≡ spec.stream_start next next_mini size }
 {

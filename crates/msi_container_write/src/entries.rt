@@ -39,7 +39,7 @@ impl<'a> Model for Entry<'a> {
     } };
 }
 
-/// The bytes of an entry that is in use. Its state bits and times are zero.
+/// Encodes an entry that is in use. Its state bits and times are zero.
 pub(crate) fn entry_bytes(entry: &Entry) -> [u8; ENTRY_SIZE]
     requires { length entry.now.name ≤ 31 }
     ensures { result ≡ spec.entry_bytes entry.now }
@@ -58,7 +58,6 @@ pub(crate) fn entry_bytes(entry: &Entry) -> [u8; ENTRY_SIZE]
     bytes
 }
 
-/// A name, and zeros behind it.
 fn name_field(name: &[u16]) -> [u8; NAME_SIZE_AT]
     requires { length name.now ≤ 31 }
     ensures { result ≡ spec.name_field name.now }
@@ -70,7 +69,6 @@ fn name_field(name: &[u16]) -> [u8; NAME_SIZE_AT]
     field
 }
 
-/// An entry that isn't in use: it has no links, and is zero elsewhere.
 pub(crate) fn unused_entry() -> [u8; ENTRY_SIZE]
     ensures { result ≡ spec.unused_entry }
 {
@@ -79,7 +77,6 @@ pub(crate) fn unused_entry() -> [u8; ENTRY_SIZE]
     bytes
 }
 
-/// Writes a piece over the bytes from a position on.
 pub(crate) fn put(bytes: &mut [u8], at: usize, piece: &[u8])
     requires { at + length piece.now ≤ length bytes.old }
     ensures { bytes.new ≡ take at bytes.old ++ piece.now ++ drop (at + length piece.now) bytes.old }

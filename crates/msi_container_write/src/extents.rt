@@ -6,7 +6,7 @@ ghost use Rattle.msi_container_write.specs.Extents as spec;
 
 use msi_container_format::format::{END_OF_CHAIN, MINI_STREAM_CUTOFF};
 
-/// What of a stream's bytes lies in mini sectors: all where it is shorter than 4096 bytes, or none.
+/// Returns the part of a stream that lies in mini sectors: all where it is shorter than 4096 bytes, or none.
 pub(crate) fn mini_part(bytes: &[u8]) -> &[u8]
     ensures { result.now ≡ (if container.is_mini (length bytes.now) then bytes.now else []) }
 {
@@ -17,7 +17,7 @@ pub(crate) fn mini_part(bytes: &[u8]) -> &[u8]
     }
 }
 
-/// What of a stream's bytes lies in sectors: all where it has 4096 bytes or more, or none.
+/// Returns the part of a stream that lies in sectors: all where it has 4096 bytes or more, or none.
 pub(crate) fn large_part(bytes: &[u8]) -> &[u8]
     ensures { result.now ≡ (if container.is_mini (length bytes.now) then [] else bytes.now) }
 {
@@ -28,7 +28,6 @@ pub(crate) fn large_part(bytes: &[u8]) -> &[u8]
     }
 }
 
-/// How many units some bytes take.
 pub(crate) fn units(part: &[u8], size: usize) -> usize
     requires { 0 < size }
     ensures { result ≡ spec.units size part.now }
@@ -36,14 +35,15 @@ pub(crate) fn units(part: &[u8], size: usize) -> usize
     part.len().div_ceil(size)
 }
 
-/// Where a chain of `count` units starts, the first of which is given: at the end mark, if it has none.
+/// Returns the first unit of a chain of `count` units, or the end mark if it has none.
 pub(crate) fn start_of(first: u32, count: u32) -> u32
     ensures { result ≡ spec.start_of first count }
 {
     if count == 0 { END_OF_CHAIN } else { first }
 }
 
-/// The entry for unit `k` of such a chain: it names the next unit, and the last ends the chain.
+/// Returns the table's entry for unit `k` of a chain of `count` units from `first` on: it names the next unit, and the
+/// last ends the chain.
 pub(crate) fn chain_entry(first: u32, count: u32, k: u32) -> u32
     requires few { first + count < 2 ^ 31 }
     requires within { k < count }

@@ -30,28 +30,26 @@ impl<'a> Model for Place<'a> {
 }
 
 impl<'a> Place<'a> {
-    /// The UTF-16 units of the stream's name.
     pub(crate) fn name(&self) -> &'a [u16]
         ensures { result.now ≡ self.now.stream.0 }
     {
         self.name
     }
 
-    /// The stream's bytes.
     pub(crate) fn bytes(&self) -> &'a [u8]
         ensures { result.now ≡ self.now.stream.1 }
     {
         self.bytes
     }
 
-    /// How many sectors the large streams before it take.
+    /// Returns how many sectors the large streams before it take.
     pub(crate) fn first(&self) -> u32
         ensures { result ≡ self.now.first }
     {
         self.first
     }
 
-    /// How many mini sectors the small streams before it take.
+    /// Returns how many mini sectors the small streams before it take.
     pub(crate) fn first_mini(&self) -> u32
         ensures { result ≡ self.now.first_mini }
     {
@@ -59,7 +57,6 @@ impl<'a> Place<'a> {
     }
 }
 
-/// The index of the streams, in the container's order of names.
 pub(crate) fn index<'a>(alloc: Global, streams: &'a StreamMap) -> Result<Vec<Place<'a>>, AllocError>
     requires few { spec.taken_by (finite.entries streams.now) < 2 ^ 22 }
     ensures indexed { IfOk result (λ places. places.items ≡ placed 0 0 (finite.entries streams.now)) }
@@ -83,8 +80,8 @@ pub(crate) fn index<'a>(alloc: Global, streams: &'a StreamMap) -> Result<Vec<Pla
     Ok(places)
 }
 
-/// What stands from sector `m` of the large streams on, to the end of the stream that has it. Past the last stream
-/// there is nothing.
+/// Returns the bytes from sector `m` of the large streams on, to the end of the stream that has it. Past the last
+/// stream they are empty.
 pub(crate) fn from_sector<'a>(places: &[Place<'a>], m: usize) -> &'a [u8]
     requires indexed { IsIndex places.now }
     requires few { m < 2 ^ 32 }
@@ -106,8 +103,8 @@ pub(crate) fn from_sector<'a>(places: &[Place<'a>], m: usize) -> &'a [u8]
     )
 }
 
-/// What stands from mini sector `m` of the small streams on, to the end of the stream that has it. Past the last
-/// stream there is nothing.
+/// Returns the bytes from mini sector `m` of the small streams on, to the end of the stream that has it. Past the last
+/// stream they are empty.
 pub(crate) fn from_mini_sector<'a>(places: &[Place<'a>], m: usize) -> &'a [u8]
     requires indexed { IsIndex places.now }
     requires few { m < 2 ^ 32 }
@@ -129,7 +126,6 @@ pub(crate) fn from_mini_sector<'a>(places: &[Place<'a>], m: usize) -> &'a [u8]
     )
 }
 
-/// What a part has from its unit `k` on.
 fn from_unit(part: &[u8], size: usize, k: usize) -> &[u8]
     requires most { size ≤ 512 }
     requires few { k < 2 ^ 32 }

@@ -35,7 +35,6 @@ pub(crate) struct Layout<'a> {
     pub(crate) extent: Extent,
 }
 
-/// Streams below a root, which take so much.
 pub(crate) fn layout_of<'a>(clsid: [u8; 16], places: &'a [Place<'a>], extent: Extent) -> Layout<'a>
     requires indexed { IsIndex places.now }
     requires names { HaveNames (streams_of places.now) }
@@ -95,7 +94,7 @@ fn fill_part(sector: &mut [u8; SECTOR_SIZE_3], layout: &Layout, m: usize)
     }
 }
 
-/// Fills sector `m` of what stands behind the streams: the FAT, the DIFAT, and free sectors.
+/// Fills sector `m` of the part behind the streams: the FAT, the DIFAT, and free sectors.
 fn fill_behind(sector: &mut [u8; SECTOR_SIZE_3], layout: &Layout, m: usize)
     requires { IsLaidOut layout.now }
     ensures { sector.new ≡ sector_of layout.now (layout.now.extent.taken + 1 + m) }

@@ -21,8 +21,6 @@ pub(crate) struct Regions {
     pub(crate) fat: usize,
 }
 
-/// The regions of a file of streams whose small ones take `mini_sectors`; all that stands before the FAT takes
-/// `taken` sectors.
 pub(crate) fn regions_of(places: &[Place], mini_sectors: usize, taken: usize) -> Regions
     requires few { spec.taken_by (streams_of places.now) < 2 ^ 22 }
     requires counted { mini_sectors ≡ spec.mini_sectors (streams_of places.now) }
@@ -56,7 +54,6 @@ impl Model for Run {
     ghost inverse = { λ r. record { first = r.first; count = r.count } };
 }
 
-/// The sectors of the mini FAT, behind the directory.
 pub(crate) fn mini_fat_run(places: &[Place], mini_sectors: usize) -> Run
     requires counted { mini_sectors ≡ spec.mini_sectors (streams_of places.now) }
     requires few { spec.taken_by (streams_of places.now) < 2 ^ 22 }
@@ -68,7 +65,6 @@ pub(crate) fn mini_fat_run(places: &[Place], mini_sectors: usize) -> Run
     }
 }
 
-/// The sectors of the FAT, behind those that are taken.
 pub(crate) fn fat_run(taken: usize, total: usize) -> Run
     requires room { taken + image.fat_sectors total ≤ total }
     requires most { total < 2 ^ 22 }
@@ -81,7 +77,6 @@ pub(crate) fn fat_run(taken: usize, total: usize) -> Run
     }
 }
 
-/// The sectors of the DIFAT, behind the FAT.
 pub(crate) fn difat_run(taken: usize, total: usize) -> Run
     requires room { taken + image.fat_sectors total + image.difat_sectors total ≤ total }
     requires most { total < 2 ^ 22 }

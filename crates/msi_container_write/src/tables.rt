@@ -25,7 +25,6 @@ use msi_container_format::format::{
 /// sectors of 64, and six bytes that are reserved.
 const VERSIONS: [u8; 16] = [0x3E, 0, 3, 0, 0xFE, 0xFF, 9, 0, 6, 0, 0, 0, 0, 0, 0, 0];
 
-/// Fills sector `m` of the FAT of a file of `total` sectors.
 pub(crate) fn fill_fat(
     sector: &mut [u8; SECTOR_SIZE_3],
     places: &[Place],
@@ -47,7 +46,6 @@ pub(crate) fn fill_fat(
     LittleEndian::write_u32_into(&entries, sector);
 }
 
-/// Fills sector `m` of the mini FAT.
 pub(crate) fn fill_mini_fat(sector: &mut [u8; SECTOR_SIZE_3], places: &[Place], m: usize)
     requires indexed { IsIndex places.now }
     requires within { m < 2 ^ 22 }
@@ -61,7 +59,6 @@ pub(crate) fn fill_mini_fat(sector: &mut [u8; SECTOR_SIZE_3], places: &[Place], 
     LittleEndian::write_u32_into(&entries, sector);
 }
 
-/// Fills sector `m` of the DIFAT of a file of `total` sectors, the FAT of which stands behind those that are `taken`.
 pub(crate) fn fill_difat(sector: &mut [u8; SECTOR_SIZE_3], taken: usize, total: usize, m: usize)
     requires room { taken + spec.fat_sectors total + spec.difat_sectors total ≤ total }
     requires most { total < 2 ^ 22 }
@@ -77,7 +74,6 @@ pub(crate) fn fill_difat(sector: &mut [u8; SECTOR_SIZE_3], taken: usize, total: 
     LittleEndian::write_u32_into(&entries, sector);
 }
 
-/// Fills the header, which ends in the list of the first FAT sectors.
 pub(crate) fn fill_header(sector: &mut [u8; SECTOR_SIZE_3], mini_fat: Run, fat: Run, difat: Run)
     requires { fat.first + fat.count < 2 ^ 31 }
     ensures { sector.new ≡ spec.front fat.count mini_fat difat
@@ -90,8 +86,8 @@ pub(crate) fn fill_header(sector: &mut [u8; SECTOR_SIZE_3], mini_fat: Run, fat: 
     fill_list(&mut sector[76..], fat);
 }
 
-/// The header's numbers of 32 bits: no directory sector count, the number of FAT sectors, the directory in sector 0,
-/// no transaction, the least size of a stream outside the mini stream, the mini FAT, and the DIFAT.
+/// Returns the header's numbers of 32 bits: no directory sector count, the number of FAT sectors, the directory in
+/// sector 0, no transaction, the least size of a stream outside the mini stream, the mini FAT, and the DIFAT.
 fn front_numbers(fat: Run, mini_fat: Run, difat: Run) -> [u32; 9]
     ensures { result ≡ spec.front_numbers fat.count mini_fat difat }
 {
@@ -108,7 +104,6 @@ fn front_numbers(fat: Run, mini_fat: Run, difat: Run) -> [u32; 9]
     ]
 }
 
-/// Fills a list of FAT sectors.
 fn fill_list(list: &mut [u8], fat: Run)
     requires long { length list.old ≡ 436 }
     requires few { fat.first + fat.count < 2 ^ 31 }
@@ -122,7 +117,6 @@ fn fill_list(list: &mut [u8], fat: Run)
     LittleEndian::write_u32_into(&entries, list);
 }
 
-/// Entry `k` of the list of FAT sectors.
 fn listed_entry(fat: Run, k: u32) -> u32
     requires { fat.first + fat.count < 2 ^ 31 }
     ensures { result ≡ spec.listed_entry fat.first fat.count k }
@@ -134,8 +128,8 @@ fn listed_entry(fat: Run, k: u32) -> u32
     }
 }
 
-/// Entry `k` of the DIFAT: each of its sectors has entries of the list of FAT sectors, from where the header's part
-/// ends, and then the number of its next sector.
+/// Returns entry `k` of the DIFAT: each of its sectors has entries of the list of FAT sectors, from where the header's
+/// part ends, and then the number of its next sector.
 fn difat_entry(fat: Run, difat: Run, k: u32) -> u32
     requires fat { fat.first + fat.count < 2 ^ 31 }
     requires difat { difat.first + difat.count < 2 ^ 22 }
@@ -155,7 +149,7 @@ fn difat_entry(fat: Run, difat: Run, k: u32) -> u32
     }
 }
 
-/// Entry `n` of the FAT: the chain of the part that has sector `n`, marks for the sectors of the FAT and of the
+/// Returns entry `n` of the FAT: the chain of the part that has sector `n`, marks for the sectors of the FAT and of the
 /// DIFAT, and free entries behind them.
 fn fat_entry(places: &[Place], regions: Regions, total: usize, n: usize) -> u32
     requires indexed { IsIndex places.now }
@@ -179,7 +173,6 @@ fn fat_entry(places: &[Place], regions: Regions, total: usize, n: usize) -> u32
     }
 }
 
-/// Entry `n` of the FAT where the directory, the mini FAT and the mini stream stand.
 fn front_entry(regions: Regions, n: usize) -> u32
     requires { n < 2 ^ 31 }
     ensures { result ≡ (if n + 1 == regions.mini_fat || n + 1 == regions.mini_stream
@@ -193,7 +186,6 @@ fn front_entry(regions: Regions, n: usize) -> u32
     }
 }
 
-/// Entry `n` of the mini FAT: the chain of the stream that has mini sector `n`, and free entries behind the last one.
 fn mini_fat_entry(places: &[Place], n: usize) -> u32
     requires indexed { IsIndex places.now }
     requires few { n < 2 ^ 31 }
@@ -207,8 +199,8 @@ fn mini_fat_entry(places: &[Place], n: usize) -> u32
     }
 }
 
-/// The entry of unit `n`, from which on its part has these bytes: it names the next unit, and the last ends the
-/// chain.
+/// Returns the entry of unit `n`, where `rest` is its part from that unit on: it names the next unit, and the last ends
+/// the chain.
 fn unit_entry(rest: &[u8], size: usize, n: usize) -> u32
     requires { n < 2 ^ 31 }
     ensures { result ≡ (if nat_le (length rest.now) size then END_OF_CHAIN else n + 1) }

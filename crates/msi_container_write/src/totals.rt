@@ -13,35 +13,32 @@ use msi_container_format::format::{
 /// A file that is written has fewer sectors than this: with the header they take 2^31 bytes at most.
 pub(crate) const MAX_SECTORS: usize = 1 << 22;
 
-/// How many sectors the root and `count` streams take, four entries each.
 pub(crate) fn directory_sectors(count: usize) -> usize
     ensures { result ≡ layout.directory_sectors count }
 {
     count / 4 + 1
 }
 
-/// How many sectors the mini FAT of so many mini sectors takes, 128 entries each (MS-CFB 2.4).
+/// A sector of the mini FAT has 128 entries (MS-CFB 2.4).
 pub(crate) fn mini_fat_sectors(mini_sectors: usize) -> usize
     ensures { result ≡ div_ceil mini_sectors 128 }
 {
     mini_sectors.div_ceil(FAT_ENTRIES)
 }
 
-/// How many sectors the mini stream of so many mini sectors takes, eight to a sector.
 pub(crate) fn mini_stream_sectors(mini_sectors: usize) -> usize
     ensures { result ≡ div_ceil mini_sectors 8 }
 {
     mini_sectors.div_ceil(SECTOR_SIZE_3 / MINI_SECTOR_SIZE)
 }
 
-/// How many sectors the FAT takes, which has an entry for each of `total` sectors.
 pub(crate) fn fat_sectors(total: usize) -> usize
     ensures { result ≡ spec.fat_sectors total }
 {
     total.div_ceil(FAT_ENTRIES)
 }
 
-/// How many sectors the DIFAT takes, which lists the sectors of such a FAT beyond those that the header lists.
+/// The DIFAT lists those sectors of the FAT that the header doesn't list.
 pub(crate) fn difat_sectors(total: usize) -> usize
     ensures { result ≡ spec.difat_sectors total }
 {
@@ -50,8 +47,8 @@ pub(crate) fn difat_sectors(total: usize) -> usize
         .div_ceil(DIFAT_ENTRIES)
 }
 
-/// The least number of sectors that has room for those that are `taken`, the FAT's and the DIFAT's, and makes the
-/// file no shorter than one of `earlier_len` bytes. `None` where that is `MAX_SECTORS` or more.
+/// Returns the least number of sectors that has room for those that are `taken`, the FAT's and the DIFAT's, and makes
+/// the file no shorter than one of `earlier_len` bytes. It is `None` where that is `MAX_SECTORS` or more.
 pub(crate) fn least_total(taken: usize, earlier_len: u64) -> Option<usize>
     requires { taken ≤ 2 ^ 23 }
     ensures some { IfSome result (λ total. total ≡ spec.least_total taken earlier_len) }

@@ -90,7 +90,6 @@ pub fn is_writable(contents: &Contents, earlier_len: u64) -> bool
     check(&borrowed(contents), earlier_len).is_ok()
 }
 
-/// Contents as they are.
 fn borrowed(contents: &Contents) -> BorrowedContents<'_>
     ensures { contents_of result ≡ contents.now }
 {
@@ -151,7 +150,6 @@ pub fn image_to<W: Device>(
     write_sectors(&layout, device)
 }
 
-/// The file in one vector.
 fn image(alloc: Global, layout: &Layout) -> Result<Vec<u8>, AllocError>
     requires { IsLaidOut layout.now }
     ensures { IfOk result (λ image. image.items ≡ file_of layout.now) }
@@ -166,7 +164,6 @@ fn image(alloc: Global, layout: &Layout) -> Result<Vec<u8>, AllocError>
     Ok(image)
 }
 
-/// Writes the file to a device.
 fn write_sectors<W: Device>(layout: &Layout, device: &mut W) -> Result<(), Error>
     requires { IsLaidOut layout.now }
     ensures ok { OnOk result (W.held device.new ≡ option_map (with_piece (file_of layout.now)) (W.held device.old)) }
@@ -183,7 +180,6 @@ fn write_sectors<W: Device>(layout: &Layout, device: &mut W) -> Result<(), Error
     Ok(())
 }
 
-/// Checks that the contents can be written, and returns how much space they take.
 fn check(contents: &BorrowedContents, earlier_len: u64) -> Result<Extent, Error>
     ensures mini_sectors { IfOk result (λ extent.
         extent.mini_sectors ≡ spec.mini_sectors (finite.entries contents.now.streams.now)) }
@@ -202,7 +198,7 @@ fn check(contents: &BorrowedContents, earlier_len: u64) -> Result<Extent, Error>
     }
 }
 
-/// How much the streams take, unless the file would pass 2^31 bytes.
+/// Returns `None` where the file would pass 2^31 bytes.
 fn measure(streams: &StreamMap, earlier_len: u64) -> Option<Extent>
     ensures mini_sectors { IfSome result
         (λ extent. extent.mini_sectors ≡ spec.mini_sectors (finite.entries streams.now)) }
@@ -228,7 +224,6 @@ fn measure(streams: &StreamMap, earlier_len: u64) -> Option<Extent>
     })
 }
 
-/// How many mini sectors and sectors the streams take, unless they alone pass the greatest size.
 fn count(streams: &StreamMap) -> Option<Counts>
     ensures mini { IfSome result (λ counts. counts.mini_sectors ≡ spec.mini_sectors (finite.entries streams.now)) }
     ensures large { IfSome result

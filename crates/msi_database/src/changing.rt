@@ -53,10 +53,7 @@ pub(crate) struct TablesAnew {
 }
 
 impl Database {
-    /// Refuses a change of a database that isn't sound, and one that is barred.
-    ///
-    /// # Errors
-    /// `InvalidData` where it isn't sound, then `InvalidInput` where it is barred.
+    /// Fails with `InvalidData` where the database isn't sound, then with `InvalidInput` where the change is barred.
     pub(crate) fn refuse_change(&self, is_barred: bool) -> Result<(), Error>
         ensures passed { OnOk result (first_refusal (barred_refusals self.now.database is_barred) ≡ None) }
         ensures sound { OnOk result (is_sound_one self.now.database ≡ true) }
@@ -73,7 +70,6 @@ impl Database {
         Ok(())
     }
 
-    /// The table of a name, of a sound database.
     pub(crate) fn known_table(&self, name: &str) -> Option<&Table>
         requires { is_sound_one self.now.database ≡ true }
         ensures { MatchOption (option_copied result) (table_at name.now self.now.database ≡ None)
@@ -82,10 +78,6 @@ impl Database {
         self.get_table(name)
     }
 
-    /// The table whose rows are to be changed. It takes no memory.
-    ///
-    /// # Errors
-    /// `InvalidData` where the database isn't sound, `InvalidInput` where the change is barred, then `NotFound`.
     pub(crate) fn table_to_change(&self, name: &str, is_barred: bool) -> Result<&Table, Error>
         ensures sound { OnOk result (is_sound_one self.now.database ≡ true) }
         ensures free { OnOk result (is_barred ≡ false) }
@@ -101,10 +93,6 @@ impl Database {
         }
     }
 
-    /// The rows of a table of a sound database.
-    ///
-    /// # Errors
-    /// `OutOfMemory`.
     pub(crate) fn sound_rows(&self, table: &Table) -> Result<Vec<Items<ValueRef>>, Error>
         requires sound { is_sound_one self.now.database ≡ true }
         requires listed { table_def_at table.now.name self.now.database ≡ Some table.now }
@@ -115,11 +103,7 @@ impl Database {
         stored_rows(self.alloc, &self.streams, table)
     }
 
-    /// What a change makes that gives a table these rows: its stream is stored over this database, or over one with
-    /// wider references where those of the pool have widened.
-    ///
-    /// # Errors
-    /// `OutOfMemory`.
+    /// The stream is stored over this database, or over one with wider references where those of the pool have widened.
     pub(crate) fn rows_anew(
         &self,
         table: &Table,
@@ -154,10 +138,6 @@ impl Database {
         })
     }
 
-    /// Stores a table's stream, and takes the pool in place of its own.
-    ///
-    /// # Errors
-    /// `OutOfMemory`; then nothing is changed.
     fn store_rows(&mut self, stored: Stored, pool: StringPool) -> Result<(), Error>
         requires sound { is_sound_one self.old.database ≡ true }
         requires kept { let streams = stored_in (stored ∷ []) self.old.streams in
@@ -174,12 +154,8 @@ impl Database {
         Ok(())
     }
 
-    /// Ends a change of rows: stores the table's stream, and takes the pool in place of its own; where references
-    /// widen, the wider database takes the place of this one. Returns whether a text was taken from the pool or given
-    /// back.
-    ///
-    /// # Errors
-    /// `OutOfMemory`; then nothing is changed.
+    /// Stores the table's stream and takes the pool; where references widen, the wider database replaces this one.
+    /// Returns whether a text was taken from the pool or given back. After an error nothing is changed.
     pub(crate) fn finish_rows(&mut self, new: RowsAnew) -> Result<bool, Error>
         requires sound { is_sound_one (base_with new.wide self.old).database ≡ true }
         requires kept { let base = base_with new.wide self.old in
@@ -209,10 +185,6 @@ impl Database {
         Ok(is_pool_used)
     }
 
-    /// Stores these streams, and takes the pool and the tables in place of its own.
-    ///
-    /// # Errors
-    /// `OutOfMemory`; then nothing is changed.
     fn store_tables(
         &mut self,
         stored: Vec<Stored>,
@@ -233,11 +205,8 @@ impl Database {
         Ok(())
     }
 
-    /// Ends a change of tables: stores these streams, and takes the pool and the tables in place of its own; where
-    /// references widen, the wider database takes the place of this one.
-    ///
-    /// # Errors
-    /// `OutOfMemory`; then nothing is changed.
+    /// Stores the streams and takes the pool and the tables; where references widen, the wider database replaces this
+    /// one. After an error nothing is changed.
     pub(crate) fn finish_tables(&mut self, new: TablesAnew) -> Result<(), Error>
         requires names { HaveOwnNames new.stored.items }
         requires sound { is_sound_one (base_with new.wide self.old).database ≡ true }
@@ -265,10 +234,6 @@ impl Database {
         }
     }
 
-    /// The tables without the one of a name.
-    ///
-    /// # Errors
-    /// `OutOfMemory`.
     pub(crate) fn tables_without(&self, name: &str) -> Result<Items<Table>, Error>
         ensures ok { IfOk result (λ tables. tables ≡ without_table_kept name.now (tables_listed self.now.database)) }
         ensures kind { OnlyMemory result }

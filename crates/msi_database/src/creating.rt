@@ -44,7 +44,6 @@ struct Created {
     is_pool_used: bool,
 }
 
-/// What creating a table makes, of its parts: the pool after it is that in use.
 fn creation(
     wide: Option<Database>,
     stored: Vec<Stored>,
@@ -71,11 +70,8 @@ fn creation(
 }
 
 impl Database {
-    /// Refuses a name and columns of which this database makes no table.
-    ///
-    /// # Errors
-    /// The first that holds: `InvalidData` where it isn't sound; those of `refuse_table`; `AlreadyExists` where there
-    /// is such a table; `NotFound` where `_Validation` is no table.
+    /// Checks in this order: `InvalidData` where the database isn't sound, the errors of `refuse_table`,
+    /// `AlreadyExists`, and `NotFound` where `_Validation` is no table.
     fn refuse_create(&self, name: &str, columns: &[Column]) -> Result<(), Error>
         ensures value { result ≡ unless_refused (create_refusals self.now.database name.now columns.now) tt }
         ensures sound { OnOk result (is_sound_one self.now.database ≡ true) }
@@ -94,11 +90,6 @@ impl Database {
         Ok(())
     }
 
-    /// The rows of a table with new ones, whose texts the pool takes.
-    ///
-    /// # Errors
-    /// `NotFound` where there is no such table; then those of `refuse_rows`; `InvalidInput` where the pool is full.
-    /// It may fail with `OutOfMemory` in place of any of these.
     fn rows_with(
         &self,
         pool: &mut PoolInUse,
@@ -128,10 +119,6 @@ impl Database {
         add_rows(self.alloc, columns, pool, held, values)
     }
 
-    /// The rows of the system tables with those that describe a new table.
-    ///
-    /// # Errors
-    /// Those of the three tables, in order.
     fn rows_described(
         &self,
         pool: &mut PoolInUse,
@@ -161,10 +148,6 @@ impl Database {
         })
     }
 
-    /// The stream of the table of a name, which has these rows.
-    ///
-    /// # Errors
-    /// `OutOfMemory`.
     fn stream_for(&self, name: &str, rows: Vec<Items<ValueRef>>) -> Result<Stored, Error>
         requires sound { is_sound_one self.now.database ≡ true }
         requires held { CanHold self.now.database name.now rows.items }
@@ -177,11 +160,7 @@ impl Database {
         stream_of(self.alloc, table, rows)
     }
 
-    /// The streams of the system tables with these rows, which describe a new table. Its own stream goes, if one is
-    /// left over.
-    ///
-    /// # Errors
-    /// `OutOfMemory`.
+    /// Makes the streams of the system tables. The new table's own stream goes, if one is left over.
     fn streams_for(&self, name: &str, rows: SystemRows) -> Result<Vec<Stored>, Error>
         requires sound { is_sound_one self.now.database ≡ true }
         requires named { is_name_of_table name.now ≡ true }
@@ -201,10 +180,6 @@ impl Database {
         Ok(Vec::from_array(self.alloc, [in_columns, in_tables, in_validation, own])?)
     }
 
-    /// The tables with a new one, in the order of their names.
-    ///
-    /// # Errors
-    /// `OutOfMemory`.
     fn tables_with(&self, name: &str, columns: Items<Column>) -> Result<Items<Table>, Error>
         requires { length columns ≤ most_columns }
         ensures ok { let new = new_table self.now.database name.now columns in
@@ -215,11 +190,6 @@ impl Database {
         copies_with(self.alloc, self.tables(), new)
     }
 
-    /// What creating a table makes whose rows in the system tables are these: over this database, or over one with
-    /// wider references where those of the pool have widened.
-    ///
-    /// # Errors
-    /// `OutOfMemory`.
     fn created_over(
         &self,
         name: &str,
@@ -246,10 +216,6 @@ impl Database {
         Ok(creation(None, stored, tables, pool))
     }
 
-    /// What creating a table makes.
-    ///
-    /// # Errors
-    /// Those of `create_table`.
     fn table_created(&self, name: &str, columns: Items<Column>) -> Result<Created, Error>
         ensures ok { let change = creates.create_table self.now.database name.now columns in
             IfOk result (λ made. Makes self.now change (base_with made.new.wide self.now)

@@ -120,10 +120,6 @@ impl Database {
         let _is_sound = self.is_sound;
     }
 
-    /// Refuses a change of a database that isn't sound.
-    ///
-    /// # Errors
-    /// `InvalidData` where it isn't sound.
     pub(crate) fn check_sound(&self) -> Result<(), Error>
         ensures { result ≡ unless_refused (sound_refusal self.now.database) tt }
     {
@@ -147,10 +143,6 @@ impl Database {
         Ok(())
     }
 
-    /// The columns and the rows of the table of a name, where they stand in its stream. It takes no memory.
-    ///
-    /// # Errors
-    /// `NotFound` where there is none; `InvalidData` where it can't be read.
     fn rows_of(&self, name: &str) -> Result<StoredRows<'_>, Error>
         ensures ok { IfOk result (λ stored.
             whole_table (λ q. table_at q self.now.database) name.now ≡ Ok (cells_of name.now stored)) }

@@ -43,10 +43,6 @@ struct Dropped {
 }
 
 impl Database {
-    /// Refuses a drop of a database that isn't sound, one that is barred, and one of a name that no table may have.
-    ///
-    /// # Errors
-    /// `InvalidData` where it isn't sound, then `InvalidInput`.
     fn refuse_drop(&self, name: &str) -> Result<(), Error>
         ensures sound { OnOk result (is_sound_one self.now.database ≡ true) }
         ensures free { OnOk result (is_of_system name.now ≡ false) }
@@ -63,10 +59,6 @@ impl Database {
         Ok(())
     }
 
-    /// The table that is to be dropped. It takes no memory.
-    ///
-    /// # Errors
-    /// Those of `drop_table`.
     fn table_to_drop(&self, name: &str) -> Result<&Table, Error>
         ensures sound { OnOk result (is_sound_one self.now.database ≡ true) }
         ensures free { OnOk result (is_of_system name.now ≡ false) }
@@ -85,9 +77,6 @@ impl Database {
     }
 
     /// Begins with the table itself: the texts of its rows are given back, and its stream is to go.
-    ///
-    /// # Errors
-    /// `OutOfMemory`.
     fn drop_rows(&self, dropping: &mut Dropping, table: &Table) -> Result<(), Error>
         requires sound { is_sound_one self.now.database ≡ true }
         requires known { IsKnown self.now.database table.now.name table.now }
@@ -106,11 +95,8 @@ impl Database {
         Ok(())
     }
 
-    /// Goes on with a system table, where it is one: the texts of its rows about the table of a name are given back,
-    /// and the stream of the others is to be stored.
-    ///
-    /// # Errors
-    /// `OutOfMemory`.
+    /// Goes on with a system table, where it is one: the texts of its rows about the table `name` are given back, and
+    /// the stream of the others is to be stored.
     fn forget(&self, dropping: &mut Dropping, name: &str, system: &str) -> Result<(), Error>
         requires sound { is_sound_one self.now.database ≡ true }
         ensures pool { OnOk result (in_use dropping.new.pool
@@ -131,10 +117,6 @@ impl Database {
         Ok(())
     }
 
-    /// What dropping a table makes that may be dropped.
-    ///
-    /// # Errors
-    /// `OutOfMemory`.
     fn dropped(&self, name: &str, table: &Table) -> Result<Dropped, Error>
         requires sound { is_sound_one self.now.database ≡ true }
         requires free { is_of_system name.now ≡ false }
@@ -170,10 +152,6 @@ impl Database {
         })
     }
 
-    /// What dropping a table makes.
-    ///
-    /// # Errors
-    /// Those of `drop_table`.
     fn table_dropped(&self, name: &str) -> Result<Dropped, Error>
         ensures ok { let change = drops.drop_table self.now.database name.now in IfOk result (λ dropped.
             Makes self.now change (base_with dropped.made.wide self.now) (unindexed dropped.made.pool)

@@ -13,7 +13,6 @@ use msi_container_format::name::Name;
 use msi_container_format::parts::put_back;
 use msi_text_base::errors::Error;
 
-/// Tells that a name has the length of one, which its units do.
 fn know_length(name: &Name)
     ensures { is_name_length (length name.now) ≡ true }
 {
@@ -21,11 +20,8 @@ fn know_length(name: &Name)
 }
 
 impl Database {
-    /// Stores a stream under a name that is no table's, and returns the bytes of the one that was there. Replacing
-    /// one takes no memory.
-    ///
-    /// # Errors
-    /// `OutOfMemory`, and only if there was none; then nothing has changed.
+    /// The name must be no table's. Replacing a stream takes no memory; adding one may fail, and then nothing has
+    /// changed.
     pub(crate) fn replace_stream(
         &mut self,
         name: Name,
@@ -43,8 +39,8 @@ impl Database {
         Ok(self.streams.replace(name, bytes)?)
     }
 
-    /// Puts back what `replace_stream` handed back: these bytes, or no stream. A stream of that name has to be there,
-    /// so it takes no memory.
+    /// Puts back what `replace_stream` returned: these bytes, or no stream. A stream of that name has to exist, so it
+    /// takes no memory.
     pub(crate) fn put_back_stream(&mut self, name: &Name, bytes: Option<Bytes>)
         requires other { IsOther self.old.database name.now }
         requires there { has_stream_at name.now self.old.streams ≡ true }
@@ -54,8 +50,6 @@ impl Database {
         put_back(&mut self.streams, name, bytes);
     }
 
-    /// Takes the stream of a name that is no table's out, if there is one, and hands its bytes back. It takes no
-    /// memory.
     pub(crate) fn remove_stream(&mut self, name: &Name) -> Option<Bytes>
         requires { IsOther self.old.database name.now }
         ensures held { result ≡ stream_at name.now self.old.streams }

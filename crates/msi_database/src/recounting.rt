@@ -24,7 +24,6 @@ use msi_table_values::column::Column;
 use msi_text_base::errors::{Error, ErrorKind, Reason};
 use msi_text_pool::parts::set_counts;
 
-/// `InvalidData`, for people with this reason.
 fn invalid(reason: Reason) -> Error
     ensures { result ≡ InvalidData }
 {
@@ -32,11 +31,8 @@ fn invalid(reason: Reason) -> Error
 }
 
 impl Database {
-    /// Refuses a recount for what is seen without memory.
-    ///
-    /// # Errors
-    /// `InvalidData` where a table can't be read or has a name that isn't accepted, and where the pool has more places
-    /// than its references can name.
+    /// Checks what needs no memory: a table that can't be read or has a name that isn't accepted, and a pool with more
+    /// places than its references can name.
     fn check_countable(&self) -> Result<(), Error>
         ensures { result ≡ unless_refused (early_recount_refusals self.now.database) tt }
     {
@@ -49,10 +45,6 @@ impl Database {
         Ok(())
     }
 
-    /// The census of all cells, by the standard columns of `_Validation`.
-    ///
-    /// # Errors
-    /// `OutOfMemory`.
     fn cells(&self, standard: &Table) -> Result<Census, Error>
         requires { standard.now ≡ table_with self.now.database.pool.long (validation_name, columns_of_validation) }
         ensures ok { let d = self.now.database in
@@ -68,11 +60,8 @@ impl Database {
         )
     }
 
-    /// Refuses a recount for the columns of `_Validation` and for what the census of all cells says.
-    ///
-    /// # Errors
-    /// `InvalidData` where a listed `_Validation` lacks the standard columns, where a cell names past the pool, and
-    /// where a place has more than 65535 cells.
+    /// Refuses a listed `_Validation` without the standard columns, a cell that names past the pool, and a place with
+    /// more than 65535 cells.
     fn check_cells(&self, standard: &[Column], census: &Census) -> Result<(), Error>
         requires standard { standard.now ≡ columns_of_validation }
         requires census { let d = self.now.database in
@@ -92,10 +81,6 @@ impl Database {
         Ok(())
     }
 
-    /// The census of all cells, if a recount is accepted.
-    ///
-    /// # Errors
-    /// Those of `recount`.
     fn accepted_census(&self) -> Result<Census, Error>
         ensures ok { OnOk result (first_refusal (recount_refusals self.now.database) ≡ None) }
         ensures counts { IfOk result (λ census. census.counts ≡ cell_counts self.now.database) }

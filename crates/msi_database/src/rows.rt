@@ -32,10 +32,6 @@ use msi_table::Table;
 use msi_text_base::errors::Error;
 
 impl Database {
-    /// The table into which rows are to be inserted. It takes no memory.
-    ///
-    /// # Errors
-    /// Those of `insert_rows` that come before the keys.
     fn table_to_insert_into(&self, insert: &InsertParts) -> Result<&Table, Error>
         ensures sound { OnOk result (is_sound_one self.now.database ≡ true) }
         ensures free { OnOk result (is_of_system insert.now.table ≡ false) }
@@ -52,10 +48,6 @@ impl Database {
         Ok(table)
     }
 
-    /// What inserting rows into a table makes.
-    ///
-    /// # Errors
-    /// Those of `insert_rows` from its rows on.
     fn inserted(&self, insert: InsertParts, table: &Table) -> Result<RowsAnew, Error>
         requires sound { is_sound_one self.now.database ≡ true }
         requires free { is_of_system insert.table ≡ false }
@@ -78,10 +70,6 @@ impl Database {
         self.rows_anew(table, all, pool)
     }
 
-    /// What inserting rows makes.
-    ///
-    /// # Errors
-    /// Those of `insert_rows`.
     fn rows_inserted(&self, insert: InsertParts) -> Result<RowsAnew, Error>
         ensures ok { let change = inserts.insert_rows self.now.database (insert_of insert) in
             IfOk result (λ new.
@@ -95,10 +83,6 @@ impl Database {
         self.inserted(insert, table)
     }
 
-    /// The table of which rows are to be updated. It takes no memory.
-    ///
-    /// # Errors
-    /// Those of `update_rows` that come before its keys.
     fn table_to_update(&self, update: &UpdateParts) -> Result<&Table, Error>
         ensures sound { OnOk result (is_sound_one self.now.database ≡ true) }
         ensures free { OnOk result (updates.is_update_barred (update_of update.now) ≡ false) }
@@ -117,10 +101,6 @@ impl Database {
         Ok(table)
     }
 
-    /// What updating rows of a table makes that takes the new values.
-    ///
-    /// # Errors
-    /// Those of `update_rows` from its keys on.
     fn updated(&self, update: &UpdateParts, table: &Table) -> Result<RowsAnew, Error>
         requires sound { is_sound_one self.now.database ≡ true }
         requires free { updates.is_update_barred (update_of update.now) ≡ false }
@@ -141,10 +121,6 @@ impl Database {
         self.rows_anew(table, all, pool)
     }
 
-    /// What updating rows makes.
-    ///
-    /// # Errors
-    /// Those of `update_rows`.
     fn rows_updated(&self, update: &UpdateParts) -> Result<RowsAnew, Error>
         ensures ok { let change = updates.update_rows self.now.database (update_of update.now) in
             IfOk result (λ new.
@@ -158,10 +134,6 @@ impl Database {
         self.updated(update, table)
     }
 
-    /// The table of which rows are to be deleted. It takes no memory.
-    ///
-    /// # Errors
-    /// Those of `delete_rows`.
     fn table_to_delete_from(&self, delete: &DeleteParts) -> Result<&Table, Error>
         ensures sound { OnOk result (is_sound_one self.now.database ≡ true) }
         ensures free { OnOk result (is_of_system delete.now.table ≡ false) }
@@ -180,10 +152,6 @@ impl Database {
         Ok(table)
     }
 
-    /// What deleting rows of a table makes of which they may be deleted.
-    ///
-    /// # Errors
-    /// `OutOfMemory`.
     fn deleted(&self, delete: &DeleteParts, table: &Table) -> Result<RowsAnew, Error>
         requires sound { is_sound_one self.now.database ≡ true }
         requires free { is_of_system delete.now.table ≡ false }
@@ -203,10 +171,6 @@ impl Database {
         self.rows_anew(table, all, pool)
     }
 
-    /// What deleting rows makes.
-    ///
-    /// # Errors
-    /// Those of `delete_rows`.
     fn rows_deleted(&self, delete: &DeleteParts) -> Result<RowsAnew, Error>
         ensures ok { let change = deletes.delete_rows self.now.database (delete_of delete.now) in
             IfOk result (λ new.

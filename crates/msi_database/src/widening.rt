@@ -16,10 +16,6 @@ use msi_database_system::system::{VALIDATION, validation_columns};
 use msi_text_base::errors::Error;
 
 impl Database {
-    /// Stores the rows of each table with long references.
-    ///
-    /// # Errors
-    /// `OutOfMemory`.
     fn store_tables_long(&self, streams: &mut StreamMap) -> Result<(), Error>
         requires { is_sound_one self.now.database ≡ true }
         ensures ok { OnOk result (entries streams.new
@@ -34,9 +30,6 @@ impl Database {
     }
 
     /// Stores the rows of the stream of `_Validation` with long references, where it is no table.
-    ///
-    /// # Errors
-    /// `OutOfMemory`.
     fn store_unlisted_long(&self, streams: &mut StreamMap) -> Result<(), Error>
         requires { is_sound_one self.now.database ≡ true }
         ensures ok { OnOk result (entries streams.new
@@ -53,11 +46,8 @@ impl Database {
         store_long(self.alloc, streams, &validation, rows.as_slice())
     }
 
-    /// The same database with references of three bytes, made beside this one: the rows of its tables are stored anew,
+    /// Makes the same database with references of three bytes beside this one: the rows of its tables are stored anew,
     /// and all other streams are copied.
-    ///
-    /// # Errors
-    /// `OutOfMemory`.
     pub(crate) fn widened(&self) -> Result<Database, Error>
         requires { is_sound_one self.now.database ≡ true }
         ensures ok { IfOk result (λ wide. wide ≡ kept_widened self.now) }

@@ -64,10 +64,6 @@ impl<'a> Key<'a> {
     }
 }
 
-/// The values of a row's key columns.
-///
-/// # Errors
-/// `OutOfMemory`.
 fn key_values<'a>(
     alloc: Global,
     columns: &[Column],
@@ -125,10 +121,6 @@ impl Eq for Key<'_> {
     ghost laws = { eq_by_cmp_equiv (lists_total value_cmp-total) };
 }
 
-/// The key of a row of values.
-///
-/// # Errors
-/// `OutOfMemory`.
 fn key_of_values<'a>(alloc: Global, columns: &[Column], row: &'a [Value]) -> Result<Key<'a>, Error>
     ensures ok { IfOk result (λ key. key ≡ key_of columns.now row.now) }
     ensures kind { OnlyMemory result }
@@ -137,10 +129,6 @@ fn key_of_values<'a>(alloc: Global, columns: &[Column], row: &'a [Value]) -> Res
     Key::of_row(alloc, columns, views.as_slice())
 }
 
-/// The keys of rows of cells, in the rows' order.
-///
-/// # Errors
-/// `OutOfMemory`.
 fn keys_of_cells<'a>(
     alloc: Global,
     pool: &'a StringPool,
@@ -180,11 +168,7 @@ pub fn distinct_keys<'a>(
     Ok(if repeats { None } else { Some(set) })
 }
 
-/// Refuses new rows, row by row, for a key that is among the held ones, and for one of an earlier new row.
-///
-/// # Errors
-/// The first that holds: `AlreadyExists` where a row's key is held, `InvalidInput` where an earlier row has it. It
-/// may fail with `OutOfMemory` in place of any of these.
+/// Checks row by row: `AlreadyExists` where a row's key is held, `InvalidInput` where an earlier new row has it.
 fn refuse_held<'a>(
     alloc: Global,
     columns: &[Column],

@@ -38,7 +38,6 @@ pub fn places_of(
     Ok(places)
 }
 
-/// Puts a view at a place, unless that is past the end.
 fn set_view<'a>(row: &mut Vec<ValueView<'a>>, place: usize, view: ValueView<'a>)
     ensures { row.new.items ≡ set row.old.items place view.entry }
 {
@@ -57,7 +56,6 @@ pub fn set_views<'a>(row: &mut Vec<ValueView<'a>>, places: &[usize], sets: &'a [
     }
 }
 
-/// The cell at a place of a row, or null.
 fn cell_at(row: &[ValueRef], place: usize) -> ValueRef
     ensures { result ≡ cell_of row.now place }
 {
@@ -67,7 +65,6 @@ fn cell_at(row: &[ValueRef], place: usize) -> ValueRef
     }
 }
 
-/// Puts a cell at a place, unless that is past the end.
 fn set_cell(row: &mut Vec<ValueRef>, place: usize, cell: ValueRef)
     ensures { row.new.items ≡ set row.old.items place cell }
 {
@@ -76,10 +73,7 @@ fn set_cell(row: &mut Vec<ValueRef>, place: usize, cell: ValueRef)
     }
 }
 
-/// Puts a value into a row's cell: the pool gets the old text back, and then the new one is taken from it.
-///
-/// # Errors
-/// `InvalidInput` if the pool is full, or `OutOfMemory`, which may come before.
+/// The pool gets the old text back before the new one is taken from it. Fails with `InvalidInput` if the pool is full.
 fn exchange(
     alloc: Global,
     pool: &mut PoolInUse,

@@ -214,10 +214,6 @@ impl PoolInUse {
     }
 }
 
-/// Gives a place back, unless it is free or past the end.
-///
-/// # Errors
-/// `OutOfMemory`.
 fn give_back(pool: &mut StringPool, reference: StringRef) -> Result<(), Error>
     ensures ok { OnOk result (pool.new.places ≡ unwrap_or (given_back pool.old.places reference) pool.old.places) }
     ensures kind { OnlyMemory result }

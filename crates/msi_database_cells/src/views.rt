@@ -35,10 +35,6 @@ pub fn views_of_cells<'a>(
     Ok(views)
 }
 
-/// The values of a row.
-///
-/// # Errors
-/// `OutOfMemory`.
 pub(crate) fn views_of_values<'a>(
     alloc: Global,
     row: &'a [Value],
@@ -53,7 +49,6 @@ pub(crate) fn views_of_values<'a>(
     Ok(views)
 }
 
-/// How lists of values stand to one another: the first value that differs decides, and else the lengths do.
 pub(crate) fn compare_views(row: &[ValueView], other: &[ValueView]) -> Ordering
     ensures { result ≡ slice_cmp value_cmp (seen_row row.now) (seen_row other.now) }
 {

@@ -7,7 +7,6 @@ use msi_query_expressions::expr::Expr;
 use msi_query_expressions::parts::knows_names;
 use msi_table_values::column::Column;
 
-/// Whether each name in a condition is that of a column.
 pub(crate) fn knows_condition(columns: &[Column], condition: Option<&Expr>) -> bool
     ensures { result ≡ has_columns columns.now (condition_names (option_copied condition.entry)) }
 {

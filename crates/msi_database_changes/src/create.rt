@@ -47,14 +47,12 @@ impl Model for SystemRows {
     } };
 }
 
-/// Whether one of the columns has this name.
 fn is_name_of(name: &str, columns: &[Column]) -> bool
     ensures { result ≡ list_any (λ c. bytes_eq name.now c.name) columns.now }
 {
     columns.iter().any(|column| name == column.name())
 }
 
-/// Whether two columns have one name.
 fn repeats_name(columns: &[Column]) -> bool
     ensures { result ≡ has_pair (λ c d. bytes_eq c.name d.name) columns.now }
 {
@@ -64,7 +62,6 @@ fn repeats_name(columns: &[Column]) -> bool
     }
 }
 
-/// Whether each column's name is an identifier.
 fn has_identifiers(columns: &[Column]) -> bool
     ensures { result ≡ list_all (λ c. is_identifier c.name) columns.now }
 {
@@ -73,21 +70,19 @@ fn has_identifiers(columns: &[Column]) -> bool
         .all(|column| Category::Identifier.validate(column.name()))
 }
 
-/// Whether each column's name is an identifier, and no other's.
 fn are_named(columns: &[Column]) -> bool
     ensures { result ≡ columns_are_named columns.now }
 {
     has_identifiers(columns) && !repeats_name(columns)
 }
 
-/// Whether one of the columns is a key.
 fn has_key(columns: &[Column]) -> bool
     ensures { result ≡ list_any (λ c. c.is_primary_key) columns.now }
 {
     columns.iter().any(Column::is_primary_key)
 }
 
-/// Whether a column limits its texts to a number of characters that its type's bits don't tell.
+/// Returns whether a column limits its texts to a number of characters that its type's bits don't hold.
 fn is_long(column: &Column) -> bool
     ensures { result ≡ is_too_long column.now.coltype }
 {
@@ -97,14 +92,13 @@ fn is_long(column: &Column) -> bool
     }
 }
 
-/// Whether one of the columns does.
 fn has_long(columns: &[Column]) -> bool
     ensures { result ≡ list_any (λ c. is_too_long c.coltype) columns.now }
 {
     columns.iter().any(is_long)
 }
 
-/// Whether a column of streams is a key or localizable, which its type's bits don't tell.
+/// Returns whether a column of streams is a key or localizable, which its type's bits don't hold.
 fn is_marked_binary(column: &Column) -> bool
     ensures { result ≡ (is_binary column.now.coltype && (column.now.is_primary_key || column.now.is_localizable)) }
 {
@@ -112,21 +106,19 @@ fn is_marked_binary(column: &Column) -> bool
         && (column.is_primary_key() || column.is_localizable())
 }
 
-/// Whether one of the columns is such a one.
 fn has_marked_binary(columns: &[Column]) -> bool
     ensures { result ≡ list_any (λ c. is_binary c.coltype && (c.is_primary_key || c.is_localizable)) columns.now }
 {
     columns.iter().any(is_marked_binary)
 }
 
-/// Whether a text has a semicolon.
 fn has_semicolon(text: &Text) -> bool
     ensures { result ≡ list_any (λ b. b == 59) text.now }
 {
     text.as_str().as_bytes().iter().any(|byte| *byte == b';')
 }
 
-/// Whether one of the texts that a column takes has a semicolon, by which they are told apart.
+/// Returns whether one of the texts that a column takes has a semicolon, which is their separator.
 fn lists_semicolon(column: &Column) -> bool
     ensures { result ≡ list_any (list_any (λ b. b == 59)) column.now.enum_values }
 {
@@ -136,14 +128,12 @@ fn lists_semicolon(column: &Column) -> bool
     }
 }
 
-/// Whether one of the columns takes such a text.
 fn has_listed_semicolon(columns: &[Column]) -> bool
     ensures { result ≡ list_any (λ c. list_any (list_any (λ b. b == 59)) c.enum_values) columns.now }
 {
     columns.iter().any(lists_semicolon)
 }
 
-/// A refusal for a reason.
 fn refused(reason: Reason) -> Result<(), Error>
     ensures { result ≡ Err InvalidInput }
 {

@@ -35,10 +35,7 @@ pub fn refuse_delete(columns: &[Column], delete: &DeleteParts) -> Result<(), Err
     Ok(())
 }
 
-/// The rows that fail a test by the texts of the old pool. The pool in use gets the texts of the others back.
-///
-/// # Errors
-/// `OutOfMemory`.
+/// Tests rows by the texts of the old pool. The pool in use gets the texts of the other rows back.
 fn rows_failing(
     alloc: Global,
     old: &StringPool,

@@ -14,7 +14,7 @@ use msi_text_base::text::Items;
 use msi_text_pool::stringpool::StringPool;
 use std::alloc::Global;
 
-/// Whether a row of a system table is about the table of a name: its first value is that name.
+/// Returns whether a row of a system table is about the table `name`: its first value is that name.
 fn is_row_about(pool: &StringPool, name: &str, row: &[ValueRef]) -> bool
     ensures { result ≡ is_about pool.now.places name.now row.now }
 {

@@ -22,7 +22,6 @@ use msi_text_base::text::Items;
 use msi_text_pool::stringpool::StringPool;
 use std::alloc::Global;
 
-/// Whether a row has a value for each column, which the column takes.
 fn row_fits(columns: &[Column], row: &[Value]) -> bool
     ensures { result ≡ fits_columns columns.now row.now }
 {
@@ -37,10 +36,6 @@ fn row_fits(columns: &[Column], row: &[Value]) -> bool
     true
 }
 
-/// Refuses rows that don't fit the columns.
-///
-/// # Errors
-/// `InvalidInput` where a row doesn't fit.
 fn refuse_misfits(columns: &[Column], rows: &[Items<Value>]) -> Result<(), Error>
     ensures { result ≡ unless_refused (misfit_refusals columns.now rows.now) tt }
 {

@@ -37,14 +37,12 @@ use std::marker::Model;
 /// The column of `_Validation` that may be set.
 const DESCRIPTION: &str = "Description";
 
-/// Whether a new value is for the column Description.
 fn is_description(set: &Assignment) -> bool
     ensures { result ≡ bytes_eq set.now.0 (codes "Description") }
 {
     set.column() == DESCRIPTION
 }
 
-/// Whether each new value is for the column Description.
 fn sets_description_alone(sets: &[Assignment]) -> bool
     ensures { result ≡ list_all (λ s. bytes_eq s.0 (codes "Description")) sets.now }
 {
@@ -59,7 +57,6 @@ pub fn is_barred(update: &UpdateParts) -> bool
     is_schema_table(name) || (name == VALIDATION && !sets_description_alone(update.sets.as_slice()))
 }
 
-/// Whether a new value names a column, which takes it.
 fn is_valid_set(columns: &[Column], set: &Assignment) -> bool
     ensures { result ≡ set_is_valid columns.now set.now }
 {
@@ -72,7 +69,6 @@ fn is_valid_set(columns: &[Column], set: &Assignment) -> bool
     }
 }
 
-/// Whether a new value is for a key column.
 fn is_key_set(columns: &[Column], set: &Assignment) -> bool
     ensures { result ≡ option_map_or (λ c. c.is_primary_key) (column_named set.now.0 columns.now) false }
 {
@@ -85,14 +81,12 @@ fn is_key_set(columns: &[Column], set: &Assignment) -> bool
     }
 }
 
-/// Whether each new value names a column, which takes it.
 fn are_valid_sets(columns: &[Column], sets: &[Assignment]) -> bool
     ensures { result ≡ list_all (set_is_valid columns.now) sets.now }
 {
     sets.iter().all(|set| is_valid_set(columns, set))
 }
 
-/// Whether one of the new values is for a key column.
 fn sets_key(columns: &[Column], sets: &[Assignment]) -> bool
     ensures { result ≡ sets_a_key columns.now sets.now }
 {
@@ -127,10 +121,6 @@ impl<'a> Model for RowUpdate<'a> {
 }
 
 impl<'a> RowUpdate<'a> {
-    /// An update, of the parts of a query.
-    ///
-    /// # Errors
-    /// `OutOfMemory`.
     fn new(
         alloc: Global,
         columns: &'a [Column],
@@ -149,10 +139,6 @@ impl<'a> RowUpdate<'a> {
         })
     }
 
-    /// The key that a row has after the update. No text is copied.
-    ///
-    /// # Errors
-    /// `OutOfMemory`.
     fn key_after(
         &self,
         alloc: Global,
@@ -174,10 +160,8 @@ impl<'a> RowUpdate<'a> {
         Key::of_row(alloc, self.columns, views.as_slice())
     }
 
-    /// A row after the update. Whether it is meant is judged by the texts of the old pool.
-    ///
-    /// # Errors
-    /// `InvalidInput` where the pool is full, or with `OutOfMemory`, which may come before.
+    /// Whether the update applies to the row is judged by the texts of the old pool. Fails with `InvalidInput` where
+    /// the pool is full.
     fn row_after(
         &self,
         alloc: Global,
@@ -200,10 +184,6 @@ impl<'a> RowUpdate<'a> {
         Ok(Items::from_vec(cells))
     }
 
-    /// The keys that rows have after the update, in the rows' order.
-    ///
-    /// # Errors
-    /// `OutOfMemory`.
     fn keys_after(
         &self,
         alloc: Global,
@@ -221,10 +201,6 @@ impl<'a> RowUpdate<'a> {
         Ok(keys)
     }
 
-    /// Whether two rows share a key after the update. It takes the rows times a logarithm.
-    ///
-    /// # Errors
-    /// `OutOfMemory`.
     fn keys_collide(
         &self,
         alloc: Global,
@@ -240,10 +216,6 @@ impl<'a> RowUpdate<'a> {
         Ok(distinct_keys(alloc, keys)?.is_none())
     }
 
-    /// The rows after the update, in their order.
-    ///
-    /// # Errors
-    /// `InvalidInput` where the pool is full, or with `OutOfMemory`, which may come before.
     fn rows_after(
         &self,
         alloc: Global,
@@ -266,10 +238,6 @@ impl<'a> RowUpdate<'a> {
     }
 }
 
-/// Whether two rows of a table share a key after an update.
-///
-/// # Errors
-/// `OutOfMemory`.
 fn shares_key(
     alloc: Global,
     pool: &StringPool,

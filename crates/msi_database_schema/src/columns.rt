@@ -27,7 +27,6 @@ use msi_text_base::text::Items;
 use msi_text_categories::category::Category;
 use std::alloc::Global;
 
-/// Lets a column take null where a row of `_Validation` says `Y`.
 fn with_nullable(builder: ColumnBuilder, row: &SchemaRow) -> ColumnBuilder
     ensures { result ≡ (if bytes_eq (text_in 2 row.now) (codes "Y") then record builder { is_nullable = true }
         else builder) }
@@ -39,7 +38,6 @@ fn with_nullable(builder: ColumnBuilder, row: &SchemaRow) -> ColumnBuilder
     }
 }
 
-/// Sets a column's range where a row of `_Validation` has both ends.
 fn with_range(builder: ColumnBuilder, row: &SchemaRow) -> ColumnBuilder
     ensures { result ≡ option_map_or (λ range. record builder { value_range = Some range })
         (both_set number_of number_of (value_at 3 row.now) (value_at 4 row.now)) builder }
@@ -51,10 +49,6 @@ fn with_range(builder: ColumnBuilder, row: &SchemaRow) -> ColumnBuilder
     }
 }
 
-/// Sets what a column refers to where a row of `_Validation` has a table and a number.
-///
-/// # Errors
-/// `OutOfMemory`.
 fn with_foreign_key(
     alloc: Global,
     builder: ColumnBuilder,
@@ -70,7 +64,6 @@ fn with_foreign_key(
     builder.foreign_key(shared_text_at(alloc, row, 5)?, number_at(row, 6))
 }
 
-/// Sets a column's category where a row of `_Validation` names one.
 fn with_category(builder: ColumnBuilder, row: &SchemaRow) -> ColumnBuilder
     ensures { result ≡ option_map_or (λ category. record builder { category = Some category })
         (category_named (text_in 7 row.now)) builder }
@@ -81,10 +74,6 @@ fn with_category(builder: ColumnBuilder, row: &SchemaRow) -> ColumnBuilder
     }
 }
 
-/// Sets the texts that a column takes where a row of `_Validation` lists some.
-///
-/// # Errors
-/// `OutOfMemory`.
 fn with_values(builder: ColumnBuilder, row: &SchemaRow) -> Result<ColumnBuilder, Error>
     ensures ok { IfOk result (λ listing. listing ≡ record builder { enum_values = values_in (value_at 8 row.now) }) }
     ensures kind { OnlyMemory result }
@@ -92,10 +81,6 @@ fn with_values(builder: ColumnBuilder, row: &SchemaRow) -> Result<ColumnBuilder,
     Ok(with_shared_values(builder, shared_values_at(row, 8)?))
 }
 
-/// Begins a column of a name with what a row of `_Validation` says of it.
-///
-/// # Errors
-/// `OutOfMemory`.
 fn described_column(
     alloc: Global,
     name: SharedText,
@@ -110,7 +95,7 @@ fn described_column(
     with_values(builder, row)
 }
 
-/// The bits of a column's type in its row of `_Columns`, where negative numbers stand for those from 32768 on.
+/// Returns the bits of a column's type from its row of `_Columns`, where negative numbers mean those from 32768 on.
 fn bits_in(row: &SchemaRow) -> u16
     requires { is_of_16_bits (number_of (value_at 3 row.now)) ≡ true }
     ensures { result ≡ bits_of_row row.now }
@@ -118,11 +103,7 @@ fn bits_in(row: &SchemaRow) -> u16
     (number_at(row, 3) as i16).cast_unsigned()
 }
 
-/// Begins a column of a name with what `_Validation` says of it, whose rows stand in the order of their tables and
-/// columns.
-///
-/// # Errors
-/// `OutOfMemory`.
+/// The rows of `_Validation` have to be in the order of their tables and columns.
 fn begun_column_of(
     alloc: Global,
     validation: &[SchemaRow],
@@ -140,18 +121,15 @@ fn begun_column_of(
     }
 }
 
-/// The error of columns whose numbers aren't 1 to n.
+/// Returns the error for columns whose numbers aren't 1 to n.
 fn misnumbered() -> Error
     ensures { result ≡ InvalidData }
 {
     Error::new(ErrorKind::InvalidData, reasons::COLUMN_NUMBERS)
 }
 
-/// The column that a row of `_Columns` describes, with the row of `_Validation` about it where there is one; the rows
-/// of `_Validation` stand in the order of their tables and columns.
-///
-/// # Errors
-/// `InvalidData` where the row's bits name no type; `OutOfMemory`.
+/// The rows of `_Validation` have to be in the order of their tables and columns; one about the column is used if it
+/// exists. Fails with `InvalidData` where the bits name no type.
 fn column_of_row(
     alloc: Global,
     validation: &[SchemaRow],
@@ -168,11 +146,8 @@ fn column_of_row(
     column_of_bits(builder, bits_in(row))
 }
 
-/// The column of a table that has a number. The rows of `_Columns` stand in the order of their tables and numbers,
-/// those of `_Validation` in the order of their tables and columns.
-///
-/// # Errors
-/// `InvalidData` where no row has the number, and where its bits name no type; `OutOfMemory`.
+/// The rows of `_Columns` have to be in the order of their tables and numbers, those of `_Validation` in the order of
+/// their tables and columns. Fails with `InvalidData` where no row has the number, and where its bits name no type.
 fn numbered_column(
     alloc: Global,
     columns: &[SchemaRow],
@@ -193,11 +168,9 @@ fn numbered_column(
     }
 }
 
-/// The columns of a table that is neither `_Tables` nor `_Columns`, by their numbers. The rows of `_Columns` stand in
-/// the order of their tables and numbers, those of `_Validation` in the order of their tables and columns.
-///
-/// # Errors
-/// `InvalidData` where the numbers aren't 1 to n, n at least 1, and where a row's bits name no type; `OutOfMemory`.
+/// Serves tables other than `_Tables` and `_Columns`. The rows of `_Columns` have to be sorted by table and number,
+/// those of `_Validation` by table and column. Fails with `InvalidData` where the numbers aren't 1 to n, n at least 1,
+/// and where a row's bits name no type.
 pub(crate) fn columns_of_table(
     alloc: Global,
     columns: &[SchemaRow],

@@ -40,7 +40,6 @@ impl<'a> Model for Copies<'a> {
 }
 
 impl<'a> Copies<'a> {
-    /// A pool without copies.
     pub(crate) fn none(alloc: Global, pool: &'a StringPool) -> Copies<'a>
         ensures { result ≡ pool.now.places }
     {
@@ -52,11 +51,8 @@ impl<'a> Copies<'a> {
         }
     }
 
-    /// A pool with copies of the texts that rows of `_Columns` and `_Validation` describe columns with: their names,
-    /// the tables that they refer to, and the texts that they take.
-    ///
-    /// # Errors
-    /// `OutOfMemory`.
+    /// Copies the texts that rows of `_Columns` and `_Validation` describe columns with: their names, the tables that
+    /// they refer to, and the texts that they take.
     pub(crate) fn of(
         alloc: Global,
         pool: &'a StringPool,
@@ -79,17 +75,12 @@ impl<'a> Copies<'a> {
         })
     }
 
-    /// The pool.
     pub(crate) fn pool(&self) -> &'a StringPool
         ensures { result.now.places ≡ self.now }
     {
         self.pool
     }
 
-    /// The text of a place, which is shared if there is a copy.
-    ///
-    /// # Errors
-    /// `OutOfMemory`.
     pub(crate) fn text(&self, reference: StringRef) -> Result<SharedText, Error>
         ensures ok { IfOk result (λ text. text ≡ text_at self.now reference) }
         ensures kind { OnlyMemory result }
@@ -100,10 +91,7 @@ impl<'a> Copies<'a> {
         }
     }
 
-    /// The texts between each two semicolons in the text of a place, which are shared if there is a copy.
-    ///
-    /// # Errors
-    /// `OutOfMemory`.
+    /// Returns the texts between each two semicolons, which are shared if they have a copy.
     pub(crate) fn list(&self, reference: StringRef) -> Result<SharedTexts, Error>
         ensures ok { IfOk result (λ texts. texts ≡ parted (text_at self.now reference)) }
         ensures kind { OnlyMemory result }
@@ -115,10 +103,6 @@ impl<'a> Copies<'a> {
     }
 }
 
-/// Puts the places that cells of one column name behind others.
-///
-/// # Errors
-/// `OutOfMemory`.
 fn put_references(
     rows: &[Items<ValueRef>],
     column: usize,
@@ -134,10 +118,6 @@ fn put_references(
     Ok(())
 }
 
-/// The places in the order of their numbers, each once.
-///
-/// # Errors
-/// `OutOfMemory`.
 fn each_once(references: Vec<StringRef>) -> Result<Vec<StringRef>, Error>
     ensures rises { IfOk result (λ once. IsStrictlyIncreasing once.items) }
     ensures keeps { IfOk result (λ once. (x : ℕ) → Contains references.items x → Contains once.items x) }
@@ -150,10 +130,6 @@ fn each_once(references: Vec<StringRef>) -> Result<Vec<StringRef>, Error>
     Ok(references)
 }
 
-/// Places with copies of their texts.
-///
-/// # Errors
-/// `OutOfMemory`.
 fn copied_texts(
     alloc: Global,
     pool: &StringPool,
@@ -170,10 +146,6 @@ fn copied_texts(
     Ok(copies)
 }
 
-/// Places with copies of the texts between the semicolons of theirs.
-///
-/// # Errors
-/// `OutOfMemory`.
 fn copied_lists(
     alloc: Global,
     pool: &StringPool,
@@ -190,20 +162,13 @@ fn copied_lists(
     Ok(copies)
 }
 
-/// The pieces of a text between each two semicolons.
-///
-/// # Errors
-/// Where memory is refused.
+/// Splits a text at its semicolons.
 fn pieces<'a>(alloc: Global, text: &'a str) -> Result<Vec<&'a str>, AllocError>
     ensures { IfOk result (λ pieces. map (λ piece. piece.now) pieces.items ≡ slice_split (λ c. c == 59) text.now) }
 {
     text.split(';').collect(alloc)
 }
 
-/// Copies of the texts between each two semicolons of a text.
-///
-/// # Errors
-/// `OutOfMemory`.
 fn parts_of(alloc: Global, text: &str) -> Result<SharedTexts, Error>
     ensures ok { IfOk result (λ texts. texts ≡ parted text.now) }
     ensures kind { OnlyMemory result }
@@ -212,7 +177,7 @@ fn parts_of(alloc: Global, text: &str) -> Result<SharedTexts, Error>
     SharedTexts::from_items(copied_list(alloc, pieces.as_slice())?)
 }
 
-/// What stands beside a place among copies in the order of their numbers, if it is there.
+/// The copies are in the order of their numbers.
 fn copy_of<T>(copies: &[(StringRef, T)], reference: StringRef) -> Option<&T>
     ensures { IfSome result (λ copy. Contains copies.now (reference, copy.now)) }
 {

@@ -21,14 +21,13 @@ use msi_database_system::names::is_pool_name;
 use msi_database_system::system::is_schema_table;
 use msi_text_base::errors::Error;
 
-/// Whether a number takes at most 16 bits.
 fn is_of_16_bits(number: i32) -> bool
     ensures { result ≡ fits_16_bits number }
 {
     -32768 <= number && number <= 32767
 }
 
-/// Whether a row of `_Columns` has a number that no cell of 16 bits holds.
+/// Returns whether a row of `_Columns` has a number that no cell of 16 bits holds.
 fn is_long(row: &SchemaRow) -> bool
     ensures { result ≡ not (fits_16_bits (number_of (value_at 1 row.now))
         && fits_16_bits (number_of (value_at 3 row.now))) }
@@ -36,56 +35,52 @@ fn is_long(row: &SchemaRow) -> bool
     !(is_of_16_bits(number_at(row, 1)) && is_of_16_bits(number_at(row, 3)))
 }
 
-/// Whether a row of `_Columns` has a number that no cell of 16 bits holds.
 fn has_long_number(rows: &[SchemaRow]) -> bool
     ensures { result ≡ has_long rows.now }
 {
     rows.iter().any(is_long)
 }
 
-/// Whether a row of `_Tables` has no text for a name.
+/// Returns whether a row of `_Tables` has no text for a name.
 fn is_odd(row: &SchemaRow) -> bool
     ensures { result ≡ not (is_text (value_at 0 row.now)) }
 {
     !is_text_at(row, 0)
 }
 
-/// Whether a row of `_Tables` has no text for a name.
 fn has_odd_name(rows: &[SchemaRow]) -> bool
     ensures { result ≡ has_odd rows.now }
 {
     rows.iter().any(is_odd)
 }
 
-/// Whether rows of `_Tables` and `_Columns` have values that no cells give.
+/// Returns whether rows of `_Tables` and `_Columns` have values that can't come from cells.
 pub(crate) fn has_odd_value(tables: &[SchemaRow], columns: &[SchemaRow]) -> bool
     ensures { result ≡ (has_odd tables.now || has_long columns.now) }
 {
     has_odd_name(tables) || has_long_number(columns)
 }
 
-/// Whether a value of one of the rows is null.
 fn has_null(rows: &[SchemaRow]) -> bool
     ensures { result ≡ has_one_null rows.now }
 {
     rows.iter().any(holds_null)
 }
 
-/// Whether a row is about neither `_Tables` nor `_Columns`.
+/// Returns whether a row is about neither `_Tables` nor `_Columns`.
 pub(crate) fn is_counted(row: &SchemaRow) -> bool
     ensures { result ≡ not (is_of_schema (text_in 0 row.now)) }
 {
     !is_schema_table(text_at(row, 0))
 }
 
-/// Whether a row of `_Tables` lists a stream of the string pool.
+/// Returns whether a row of `_Tables` lists a stream of the string pool.
 fn is_of_pool(row: &SchemaRow) -> bool
     ensures { result ≡ (not (is_of_schema (text_in 0 row.now)) && is_of_pool_name (text_in 0 row.now)) }
 {
     is_counted(row) && is_pool_name(text_at(row, 0))
 }
 
-/// Whether `_Tables` lists a stream of the string pool.
 fn lists_pool(tables: &[SchemaRow]) -> bool
     ensures { result ≡ list_any
         (λ row. not (is_of_schema (text_in 0 row)) && is_of_pool_name (text_in 0 row)) tables.now }
@@ -93,8 +88,8 @@ fn lists_pool(tables: &[SchemaRow]) -> bool
     tables.iter().any(is_of_pool)
 }
 
-/// Whether a row of `_Columns` is about a table that isn't listed; the rows of `_Tables` stand in the order of their
-/// names.
+/// Returns whether a row of `_Columns` is about a table that isn't listed; the rows of `_Tables` have to be in the
+/// order of their names.
 fn is_unlisted(tables: &[SchemaRow], row: &SchemaRow) -> bool
     requires { IsSorted (by_texts 0) tables.now }
     ensures { result ≡ (not (is_of_schema (text_in 0 row.now))
@@ -104,8 +99,6 @@ fn is_unlisted(tables: &[SchemaRow], row: &SchemaRow) -> bool
     is_counted(row) && find_by_texts(tables, 0, table, table).is_none()
 }
 
-/// Whether a row of `_Columns` is about a table that isn't listed; the rows of `_Tables` stand in the order of their
-/// names.
 fn has_unlisted(tables: &[SchemaRow], columns: &[SchemaRow]) -> bool
     requires { IsSorted (by_texts 0) tables.now }
     ensures { result ≡ list_any (λ row. not (is_of_schema (text_in 0 row))
@@ -114,8 +107,8 @@ fn has_unlisted(tables: &[SchemaRow], columns: &[SchemaRow]) -> bool
     columns.iter().any(|row| is_unlisted(tables, row))
 }
 
-/// Whether a row of `_Validation` is about a column that `_Columns` describes; the rows of `_Columns` stand in the
-/// order of their tables and names.
+/// Returns whether a row of `_Validation` is about a column that `_Columns` describes; the rows of `_Columns` have to
+/// be in the order of their tables and names.
 fn describes_column(columns: &[SchemaRow], row: &SchemaRow) -> bool
     requires { IsSorted (by_texts 2) columns.now }
     ensures { result ≡ is_described (listing [] columns.now) row.now }
@@ -123,8 +116,8 @@ fn describes_column(columns: &[SchemaRow], row: &SchemaRow) -> bool
     is_counted(row) && find_by_texts(columns, 2, text_at(row, 0), text_at(row, 1)).is_some()
 }
 
-/// Whether a row of `_Validation` lacks a value that it needs; the rows of `_Columns` stand in the order of their
-/// tables and names.
+/// Returns whether a row of `_Validation` lacks a value that it needs; the rows of `_Columns` have to be in the order
+/// of their tables and names.
 fn lacks_value(columns: &[SchemaRow], row: &SchemaRow) -> bool
     requires { IsSorted (by_texts 2) columns.now }
     ensures { result ≡ lacks_one (listing [] columns.now) row.now }
@@ -134,8 +127,6 @@ fn lacks_value(columns: &[SchemaRow], row: &SchemaRow) -> bool
         || (describes_column(columns, row) && is_null_at(row, 2))
 }
 
-/// Whether a row of `_Validation` lacks a value that it needs; the rows of `_Columns` stand in the order of their
-/// tables and names.
 fn has_lack(columns: &[SchemaRow], validation: &[SchemaRow]) -> bool
     requires { IsSorted (by_texts 2) columns.now }
     ensures { result ≡ list_any (lacks_one (listing [] columns.now)) validation.now }
@@ -143,10 +134,6 @@ fn has_lack(columns: &[SchemaRow], validation: &[SchemaRow]) -> bool
     validation.iter().any(|row| lacks_value(columns, row))
 }
 
-/// Whether two rows that count share their first values and those at a place, which is 0 or 1.
-///
-/// # Errors
-/// `OutOfMemory`.
 fn repeats_counted(rows: Vec<SchemaRow>, place: usize) -> Result<bool, Error>
     requires { place ≤ 1 }
     ensures ok { IfOk result (λ found. found ≡ has_pair (share_key (place + 1)) (counted rows.entry.items)) }
@@ -157,8 +144,8 @@ fn repeats_counted(rows: Vec<SchemaRow>, place: usize) -> Result<bool, Error>
     has_repeat(rows, place)
 }
 
-/// Whether rows break a rule that each row decides, beside the other tables' rows: those of `_Tables` stand in the
-/// order of their names, those of `_Columns` in the order of their tables and names.
+/// Checks the rules that each row decides alone: the rows of `_Tables` have to be in the order of their names, those of
+/// `_Columns` in the order of their tables and names.
 fn has_fault_in_row(tables: &[SchemaRow], columns: &[SchemaRow], validation: &[SchemaRow]) -> bool
     requires by_name { IsSorted (by_texts 0) tables.now }
     requires by_column { IsSorted (by_texts 2) columns.now }
@@ -171,10 +158,6 @@ fn has_fault_in_row(tables: &[SchemaRow], columns: &[SchemaRow], validation: &[S
         || has_unlisted(tables, columns)
 }
 
-/// Whether two rows of one of the tables share a key, of those that count.
-///
-/// # Errors
-/// `OutOfMemory`.
 fn has_shared_key(
     tables: Vec<SchemaRow>,
     columns: Vec<SchemaRow>,
@@ -193,10 +176,7 @@ fn has_shared_key(
     has_repeat(validation, 1)
 }
 
-/// Whether the rows of the three tables break a rule. Their order doesn't matter.
-///
-/// # Errors
-/// `OutOfMemory`.
+/// The order of the rows doesn't matter.
 pub(crate) fn is_faulty(
     tables: Vec<SchemaRow>,
     columns: Vec<SchemaRow>,

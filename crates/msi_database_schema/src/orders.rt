@@ -15,7 +15,6 @@ use crate::rows::{SchemaRow, compare_at, number_at, text_at};
 use msi_text_base::errors::Error;
 use std::cmp::Ordering;
 
-/// How a row's table and its text at a place stand to two texts.
 fn texts_order(row: &SchemaRow, place: usize, table: &str, text: &str) -> Ordering
     ensures { result ≡ texts_cmp (texts_at place row.now) (table.now, text.now) }
 {
@@ -24,7 +23,6 @@ fn texts_order(row: &SchemaRow, place: usize, table: &str, text: &str) -> Orderi
         .then(text_at(row, place).cmp(text))
 }
 
-/// How a row's table and its number stand to a text and a number.
 fn number_order(row: &SchemaRow, table: &str, number: i32) -> Ordering
     ensures { result ≡ numbers_cmp (number_in row.now) (table.now, number) }
 {
@@ -33,7 +31,6 @@ fn number_order(row: &SchemaRow, table: &str, number: i32) -> Ordering
         .then(number_at(row, 1).cmp(&number))
 }
 
-/// How a row's table and its number stand to a text and a column's number.
 fn numbered_order(row: &SchemaRow, table: &str, number: u16) -> Ordering
     ensures { result ≡ numbers_cmp (number_in row.now) (table.now, pos number) }
 {
@@ -42,17 +39,13 @@ fn numbered_order(row: &SchemaRow, table: &str, number: u16) -> Ordering
         .then(number_at(row, 1).cmp(&i32::from(number)))
 }
 
-/// How the first values of two rows, and those at a place, stand to one another.
+/// Compares the first values of two rows, then those at `place`.
 fn compare_values(row: &SchemaRow, other: &SchemaRow, place: usize) -> Ordering
     ensures { result ≡ by_values place row.now other.now }
 {
     compare_at(row, other, 0).then(compare_at(row, other, place))
 }
 
-/// Puts rows into the order of their tables and their texts at a place.
-///
-/// # Errors
-/// `OutOfMemory`.
 pub(crate) fn sort_by_texts(rows: &mut Vec<SchemaRow>, place: usize) -> Result<(), Error>
     ensures ok { OnOk result (rows.new.items ≡ stable_sort (by_texts place) rows.old.items) }
     ensures kind { OnlyMemory result }
@@ -61,10 +54,6 @@ pub(crate) fn sort_by_texts(rows: &mut Vec<SchemaRow>, place: usize) -> Result<(
     Ok(())
 }
 
-/// Puts rows into the order of their tables and their numbers.
-///
-/// # Errors
-/// `OutOfMemory`.
 pub(crate) fn sort_by_numbers(rows: &mut Vec<SchemaRow>) -> Result<(), Error>
     ensures ok { OnOk result (rows.new.items ≡ stable_sort by_numbers rows.old.items) }
     ensures kind { OnlyMemory result }
@@ -73,21 +62,19 @@ pub(crate) fn sort_by_numbers(rows: &mut Vec<SchemaRow>) -> Result<(), Error>
     Ok(())
 }
 
-/// Whether a row is about a table.
 pub(crate) fn is_about(row: &SchemaRow, table: &str) -> bool
     ensures { result ≡ is_of_table table.now row.now }
 {
     text_at(row, 0) == table
 }
 
-/// The row at a place, where there is one.
 fn row_at<'r, 'a>(rows: &'r [SchemaRow<'a>], at: usize) -> Option<&'r SchemaRow<'a>>
     ensures { option_copied result ≡ slice_get rows.now at }
 {
     rows.get(at)
 }
 
-/// The first row about a table with a text at a place, of rows that `sort_by_texts` ordered.
+/// The rows have to be ordered by `sort_by_texts`.
 pub(crate) fn find_by_texts<'r, 'a>(
     rows: &'r [SchemaRow<'a>],
     place: usize,
@@ -111,7 +98,7 @@ pub(crate) fn find_by_texts<'r, 'a>(
     }
 }
 
-/// The first row about a table with a number, of rows that `sort_by_numbers` ordered.
+/// The rows have to be ordered by `sort_by_numbers`.
 pub(crate) fn find_by_number<'r, 'a>(
     rows: &'r [SchemaRow<'a>],
     table: &str,
@@ -133,7 +120,7 @@ pub(crate) fn find_by_number<'r, 'a>(
     }
 }
 
-/// How many rows are about a table, of rows that `sort_by_numbers` ordered.
+/// The rows have to be ordered by `sort_by_numbers`.
 pub(crate) fn count_about(rows: &[SchemaRow], table: &str) -> usize
     requires { IsSorted by_numbers rows.now }
     ensures { result ≡ length (filter (is_of_table table.now) rows.now) }
@@ -143,10 +130,6 @@ pub(crate) fn count_about(rows: &[SchemaRow], table: &str) -> usize
     end - start
 }
 
-/// Puts rows into the order of their first values and those at a place.
-///
-/// # Errors
-/// `OutOfMemory`.
 fn sort_by_values(rows: &mut Vec<SchemaRow>, place: usize) -> Result<(), Error>
     ensures ok { OnOk result (rows.new.items ≡ stable_sort (by_values place) rows.old.items) }
     ensures kind { OnlyMemory result }
@@ -155,17 +138,13 @@ fn sort_by_values(rows: &mut Vec<SchemaRow>, place: usize) -> Result<(), Error>
     Ok(())
 }
 
-/// Whether each row stands before the next by its first value and that at a place.
 fn ascends_strictly(rows: &[SchemaRow], place: usize) -> bool
     ensures { IsAllAdjacentAnswer (λ row other b. b ≡ is_lt (by_values place row other)) rows.now result }
 {
     rows.is_sorted_by(|row, other| compare_values(row, other, place).is_lt())
 }
 
-/// Whether two rows share their first values and those at a place, which is 0 or 1.
-///
-/// # Errors
-/// `OutOfMemory`.
+/// Returns whether two rows share their first values and those at `place`, which is 0 or 1.
 pub(crate) fn has_repeat(rows: Vec<SchemaRow>, place: usize) -> Result<bool, Error>
     requires { place ≤ 1 }
     ensures ok { IfOk result (λ found. found ≡ has_pair (share_key (place + 1)) rows.entry.items) }

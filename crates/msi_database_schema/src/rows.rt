@@ -38,10 +38,6 @@ impl<'a> Model for SchemaRow<'a> {
     ghost view = { λ r. row_values r.copies.now r.cells.now };
 }
 
-/// Rows of cells, borrowed, as the values that these stand for.
-///
-/// # Errors
-/// `OutOfMemory`.
 pub(crate) fn rows_of_cells<'a>(
     alloc: Global,
     copies: &'a Copies<'a>,
@@ -58,7 +54,7 @@ pub(crate) fn rows_of_cells<'a>(
     Ok(seen)
 }
 
-/// The value at a place, borrowed; null where there is none.
+/// Returns null where the place has no value.
 #[tactic(auto, using(crate::proofs::SeenRowLemmas::cell_found))]
 pub(crate) fn view_at<'a>(row: &SchemaRow<'a>, place: usize) -> ValueView<'a>
     ensures { seen_value result ≡ value_at place row.now }
@@ -69,7 +65,7 @@ pub(crate) fn view_at<'a>(row: &SchemaRow<'a>, place: usize) -> ValueView<'a>
     }
 }
 
-/// The text at a place; the empty one where there is none.
+/// Returns the empty text where the place has none.
 pub(crate) fn text_at<'a>(row: &SchemaRow<'a>, place: usize) -> &'a str
     ensures { result.now ≡ text_in place row.now }
 {
@@ -79,10 +75,6 @@ pub(crate) fn text_at<'a>(row: &SchemaRow<'a>, place: usize) -> &'a str
     }
 }
 
-/// The text at a place, which other columns share; the empty one where there is none.
-///
-/// # Errors
-/// `OutOfMemory`.
 #[tactic(auto, using(crate::proofs::SeenRowLemmas::cell_found))]
 pub(crate) fn shared_text_at(
     alloc: Global,
@@ -98,11 +90,6 @@ pub(crate) fn shared_text_at(
     }
 }
 
-/// The texts between each two semicolons of the text at a place, which other columns share; none where there is no
-/// text.
-///
-/// # Errors
-/// `OutOfMemory`.
 #[tactic(auto, using(crate::proofs::SeenRowLemmas::cell_found))]
 pub(crate) fn shared_values_at(row: &SchemaRow, place: usize) -> Result<SharedTexts, Error>
     ensures ok { IfOk result (λ texts. texts ≡ values_in (value_at place row.now)) }
@@ -114,7 +101,7 @@ pub(crate) fn shared_values_at(row: &SchemaRow, place: usize) -> Result<SharedTe
     }
 }
 
-/// The number at a place; 0 where there is none.
+/// Returns 0 where the place has no number.
 pub(crate) fn number_at(row: &SchemaRow, place: usize) -> i32
     ensures { result ≡ number_of (value_at place row.now) }
 {
@@ -124,49 +111,42 @@ pub(crate) fn number_at(row: &SchemaRow, place: usize) -> i32
     }
 }
 
-/// Whether the value at a place is null.
 pub(crate) fn is_null_at(row: &SchemaRow, place: usize) -> bool
     ensures { result ≡ is_null (value_at place row.now) }
 {
     matches!(view_at(row, place), ValueView::Null)
 }
 
-/// Whether the value at a place is a text.
 pub(crate) fn is_text_at(row: &SchemaRow, place: usize) -> bool
     ensures { result ≡ is_text (value_at place row.now) }
 {
     matches!(view_at(row, place), ValueView::Str(_))
 }
 
-/// Whether a cell stands for null.
 fn is_null_cell(pool: &StringPool, cell: ValueRef) -> bool
     ensures { result ≡ is_null (value_of_cell pool.now.places cell) }
 {
     matches!(view_of_cell(pool, cell), ValueView::Null)
 }
 
-/// Whether a cell of some stands for null.
 fn has_null_cell(pool: &StringPool, cells: &[ValueRef]) -> bool
     ensures { result ≡ list_any (λ cell. is_null (value_of_cell pool.now.places cell)) cells.now }
 {
     cells.iter().any(|cell| is_null_cell(pool, *cell))
 }
 
-/// Whether a value that cells stand for is null.
 fn stand_for_null(pool: &StringPool, cells: &[ValueRef]) -> bool
     ensures { result ≡ list_any is_null (row_values pool.now.places cells.now) }
 {
     has_null_cell(pool, cells)
 }
 
-/// Whether a value of a row is null.
 pub(crate) fn holds_null(row: &SchemaRow) -> bool
     ensures { result ≡ list_any is_null row.now }
 {
     stand_for_null(row.copies.pool(), row.cells)
 }
 
-/// How the values of two rows at a place stand to one another.
 pub(crate) fn compare_at(row: &SchemaRow, other: &SchemaRow, place: usize) -> Ordering
     ensures { result ≡ value_cmp (value_at place row.now) (value_at place other.now) }
 {

@@ -31,10 +31,6 @@ use msi_text_base::text::{IntoText, Items};
 use msi_text_pool::stringpool::StringPool;
 use std::alloc::Global;
 
-/// The table of a name and columns, which are at most 32767.
-///
-/// # Errors
-/// `OutOfMemory`.
 pub(crate) fn named_table(
     alloc: Global,
     name: &str,
@@ -51,10 +47,6 @@ pub(crate) fn named_table(
     }
 }
 
-/// The two tables that are always there.
-///
-/// # Errors
-/// `OutOfMemory`.
 fn system_tables(alloc: Global, long: bool) -> Result<Vec<Table>, Error>
     ensures ok { IfOk result (λ tables. tables.items ≡ tables_of_system long) }
     ensures kind { OnlyMemory result }
@@ -66,11 +58,6 @@ fn system_tables(alloc: Global, long: bool) -> Result<Vec<Table>, Error>
     Ok(Vec::from_array(alloc, tables)?)
 }
 
-/// A listed table. The rows of `_Columns` stand in the order of their tables and numbers, those of `_Validation` in
-/// the order of their tables and columns.
-///
-/// # Errors
-/// `InvalidData` where its columns aren't numbered from 1 on, and where their bits name no type; `OutOfMemory`.
 fn listed_table(
     alloc: Global,
     columns: &[SchemaRow],
@@ -89,12 +76,8 @@ fn listed_table(
     named_table(alloc, name, columns, long)
 }
 
-/// The tables that are always there, and then those that `_Tables` lists, in its order. The rows of `_Columns` stand
-/// in the order of their tables and numbers, those of `_Validation` in the order of their tables and columns.
-///
-/// # Errors
-/// `InvalidData` where the columns of a listed table aren't numbered from 1 on, and where their bits name no type;
-/// `OutOfMemory`.
+/// Puts the two tables that always exist before those of `_Tables`, in its order. The rows of `_Columns` have to be in
+/// the order of their tables and numbers, those of `_Validation` in the order of their tables and columns.
 fn listed_tables(
     alloc: Global,
     tables: &[SchemaRow],
@@ -118,10 +101,6 @@ fn listed_tables(
     Ok(read)
 }
 
-/// Puts tables into the order of their names.
-///
-/// # Errors
-/// `OutOfMemory`.
 fn sort_by_names(tables: &mut Vec<Table>) -> Result<(), Error>
     ensures ok { OnOk result (tables.new.items ≡ stable_sort by_names tables.old.items) }
     ensures kind { OnlyMemory result }
@@ -130,10 +109,8 @@ fn sort_by_names(tables: &mut Vec<Table>) -> Result<(), Error>
     Ok(())
 }
 
-/// Fails where rows describe no tables, whatever the types and the numbers of columns are.
-///
-/// # Errors
-/// `InvalidData` for values that no cells give, and for rows that break a rule; `OutOfMemory`.
+/// Fails with `InvalidData` for values that can't come from cells and for rows that break a rule, whatever the types
+/// and the numbers of columns are.
 fn refuse_faults(
     tables: Vec<SchemaRow>,
     columns: Vec<SchemaRow>,
@@ -155,11 +132,8 @@ fn refuse_faults(
     Ok(())
 }
 
-/// The tables that rows without a fault describe, in the order of their names.
-///
-/// # Errors
-/// `InvalidData` where the columns of a listed table aren't numbered from 1 on, and where their bits name no type;
-/// `OutOfMemory`.
+/// The rows have to be without a fault. Fails with `InvalidData` where the columns of a listed table aren't numbered
+/// from 1 on, and where their bits name no type.
 fn described(
     alloc: Global,
     tables: Vec<SchemaRow>,
@@ -187,10 +161,6 @@ fn described(
     Ok(Items::from_vec(read))
 }
 
-/// Fails where the cells of rows describe no tables, whatever the types and the numbers of columns are.
-///
-/// # Errors
-/// `InvalidData` for values that no cells give, and for rows that break a rule; `OutOfMemory`.
 fn refuse_faulty_cells(
     alloc: Global,
     pool: &StringPool,

@@ -18,7 +18,7 @@ use msi_text_base::errors::Error;
 use msi_text_base::text::Items;
 use std::alloc::Global;
 
-/// The bytes of a table's stream; none where there is no stream.
+/// Returns no bytes where the stream doesn't exist.
 pub(crate) fn stream_bytes<'a>(streams: &'a StreamMap, name: &str) -> &'a [u8]
     requires { HaveShortNames (entries streams.now) }
     ensures { result.now ≡ unwrap_or (stream_at (key_of name.now) (entries streams.now)) [] }

@@ -49,10 +49,6 @@ struct SystemTables {
     validation: Table,
 }
 
-/// The system tables.
-///
-/// # Errors
-/// `OutOfMemory`.
 fn system_tables(alloc: Global) -> Result<SystemTables, Error>
     ensures columns { IfOk result (λ system. system.columns ≡ columns_table) }
     ensures tables { IfOk result (λ system. system.tables ≡ tables_table) }
@@ -66,10 +62,6 @@ fn system_tables(alloc: Global) -> Result<SystemTables, Error>
     })
 }
 
-/// The rows of a table that gets its first ones, whose texts the pool takes.
-///
-/// # Errors
-/// `OutOfMemory`.
 fn first_cells(
     alloc: Global,
     columns: &[Column],
@@ -87,10 +79,6 @@ fn first_cells(
     add_rows(alloc, columns, pool, Vec::new(alloc), rows)
 }
 
-/// The stream of a table that gets its first rows.
-///
-/// # Errors
-/// `OutOfMemory`.
 fn first_rows(
     alloc: Global,
     table: &Table,
@@ -109,10 +97,6 @@ fn first_rows(
     stream_of(alloc, table, all)
 }
 
-/// The streams of the system tables, whose rows describe `_Validation`. The pool is a new one.
-///
-/// # Errors
-/// `OutOfMemory`.
 fn described_streams(
     alloc: Global,
     system: &SystemTables,

@@ -25,14 +25,12 @@ pub fn table_named<'a>(tables: &'a [Table], name: &str) -> Option<&'a Table>
     None
 }
 
-/// Whether a table's name stands before a name in order.
 fn is_before(table: &Table, name: &str) -> bool
     ensures { result ≡ is_lt (list_cmp table.now.name name.now) }
 {
     table.name() < name
 }
 
-/// How many of the first of these tables stand before a name in order.
 fn place_of(tables: &[Table], name: &str) -> usize
     ensures value { result ≡ prefix_len (λ t. is_lt (list_cmp t.name name.now)) tables.now }
     ensures within { result ≤ length tables.now }
@@ -45,10 +43,6 @@ fn place_of(tables: &[Table], name: &str) -> usize
     tables.len()
 }
 
-/// Puts copies of tables behind others.
-///
-/// # Errors
-/// `OutOfMemory`.
 fn push_copies(alloc: Global, copies: &mut Vec<Table>, tables: &[Table]) -> Result<(), Error>
     ensures ok { OnOk result (copies.new.items ≡ copies.old.items ++ tables.now) }
     ensures kind { OnlyMemory result }

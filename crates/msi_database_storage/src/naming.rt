@@ -45,17 +45,12 @@ pub fn tables_census(
     Ok(census)
 }
 
-/// Whether a place with this count is named, or it is by the other count.
 fn is_named(count: u16, other: u16) -> bool
     ensures { result ≡ (nat_lt 0 count || nat_lt 0 other) }
 {
     count > 0 || other > 0
 }
 
-/// For each place, whether a cell of one census names it or a cell of the other.
-///
-/// # Errors
-/// `OutOfMemory`.
 fn named_places(alloc: Global, census: &Census, other: &Census) -> Result<Vec<bool>, Error>
     requires { length census.now.counts ≡ length other.now.counts }
     ensures ok { IfOk result (λ named.

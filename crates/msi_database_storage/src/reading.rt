@@ -41,7 +41,6 @@ pub struct DescribedTables {
     pub validation: Vec<Items<ValueRef>>,
 }
 
-/// A byte is below 256.
 fn look_at_bytes(bytes: &[u8])
     ensures { All (λ b. b < 256) bytes.now }
 {}
@@ -57,10 +56,6 @@ pub fn look_at(streams: &StreamMap)
     }
 }
 
-/// The rows of a table that is known by its name and columns, which are at most 32767.
-///
-/// # Errors
-/// `InvalidData` where its stream can't be read; `OutOfMemory`.
 fn described_rows(
     alloc: Global,
     pool: &StringPool,
@@ -79,11 +74,7 @@ fn described_rows(
     stored_rows(alloc, streams, &table)
 }
 
-/// The tables that the rows of the system tables describe: those of `_Tables` and `_Columns` are read of their
-/// streams, those of `_Validation` are these.
-///
-/// # Errors
-/// `InvalidData` where a stream can't be read, and where the rows describe no tables; `OutOfMemory`.
+/// Reads the rows of `_Tables` and `_Columns` from their streams; those of `_Validation` are `validation`.
 fn tables_beside(
     alloc: Global,
     pool: &StringPool,
@@ -111,10 +102,6 @@ fn tables_beside(
     )
 }
 
-/// The table `_Validation` of its standard columns.
-///
-/// # Errors
-/// `OutOfMemory`.
 fn standard_table(alloc: Global, pool: &StringPool) -> Result<Table, Error>
     ensures ok { IfOk result (λ table. table ≡ table_with pool.now.long (validation_name, columns_of_validation)) }
     ensures kind { OnlyMemory result }

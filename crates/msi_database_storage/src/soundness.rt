@@ -32,7 +32,6 @@ pub fn fits_width(pool: &StringPool) -> bool
     pool.num_strings() as usize <= most_places(pool.long_string_refs())
 }
 
-/// Whether two types are the same.
 fn same_kind(coltype: ColumnType, other: ColumnType) -> bool
     ensures { result ≡ same_kinds coltype other }
 {
@@ -44,7 +43,7 @@ fn same_kind(coltype: ColumnType, other: ColumnType) -> bool
     }
 }
 
-/// Whether two columns agree in name, type and key.
+/// Returns whether two columns agree in name, type and key.
 fn is_alike(column: &Column, other: &Column) -> bool
     ensures { result ≡ (bytes_eq column.now.name other.now.name && same_kinds column.now.coltype other.now.coltype
         && same_bool column.now.is_primary_key other.now.is_primary_key) }
@@ -54,7 +53,6 @@ fn is_alike(column: &Column, other: &Column) -> bool
         && column.is_primary_key() == other.is_primary_key()
 }
 
-/// Whether columns agree with others in order.
 fn are_alike(columns: &[Column], others: &[Column]) -> bool
     ensures { result ≡ alike columns.now others.now }
 {
@@ -80,8 +78,8 @@ pub fn is_standard(tables: &[Table], standard: &[Column]) -> bool
     }
 }
 
-/// Whether each place's count is at least the number of the cells that name it. No place has one above the most that a
-/// census counts.
+/// Returns whether each place's count is at least the number of the cells that name it. No place has one above the most
+/// that a census counts.
 fn counts_suffice(pool: &StringPool, census: &Census) -> bool
     requires { length census.now.counts ≡ length pool.now.places }
     ensures { (numbers : List ℕ) → IsCensus (length pool.now.places) numbers census.now
@@ -96,7 +94,6 @@ fn counts_suffice(pool: &StringPool, census: &Census) -> bool
     census.fits()
 }
 
-/// Whether a table has an accepted name and rows that can be read.
 fn is_sound_table(streams: &StreamMap, table: &Table) -> bool
     requires { HaveShortNames (entries streams.now) }
     ensures { result ≡ is_readable_table (table_kept (entries streams.now) table.now.long table.now) }

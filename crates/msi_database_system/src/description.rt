@@ -48,10 +48,7 @@ pub fn tables_row(alloc: Global, name: &str) -> Result<Items<Value>, Error>
     Ok(Items::from_vec(Vec::from_array(alloc, [name])?))
 }
 
-/// The row of `_Columns` that describes a table's column of a number, which counts from 1 on.
-///
-/// # Errors
-/// `OutOfMemory`.
+/// The column's number counts from 1 on.
 fn column_row(
     alloc: Global,
     table: &str,
@@ -73,10 +70,7 @@ fn column_row(
     Ok(Items::from_vec(Vec::from_array(alloc, row)?))
 }
 
-/// The rows of `_Columns` that describe a table's columns, in order. The bits of their types hold their lengths.
-///
-/// # Errors
-/// `OutOfMemory`.
+/// The bits of the columns' types must hold their lengths.
 pub(crate) fn column_rows(
     alloc: Global,
     table: &str,
@@ -94,10 +88,7 @@ pub(crate) fn column_rows(
     Ok(rows)
 }
 
-/// Texts with a semicolon between each two, or null where there is none.
-///
-/// # Errors
-/// `OutOfMemory`.
+/// Joins texts with semicolons, or returns null where there are none.
 fn joined(alloc: Global, texts: &[Text]) -> Result<Value, Error>
     ensures ok { IfOk result (λ value. value ≡ text_or_null (joined_values texts.now)) }
     ensures kind { OnlyMemory result }
@@ -113,10 +104,6 @@ fn joined(alloc: Global, texts: &[Text]) -> Result<Value, Error>
     Ok(Value::Str(Text::from_string(text)))
 }
 
-/// The texts that a column takes, joined, or null where none is listed.
-///
-/// # Errors
-/// `OutOfMemory`.
 fn listed_values(alloc: Global, column: &Column) -> Result<Value, Error>
     ensures ok { IfOk result (λ value. value ≡ text_or_null (joined_values column.now.enum_values)) }
     ensures kind { OnlyMemory result }
@@ -127,7 +114,6 @@ fn listed_values(alloc: Global, column: &Column) -> Result<Value, Error>
     }
 }
 
-/// The least number that a column takes, or null.
 fn least(column: &Column) -> Value
     ensures { result ≡ int_or_null (option_map (λ range. range.0) column.now.value_range) }
 {
@@ -137,7 +123,6 @@ fn least(column: &Column) -> Value
     }
 }
 
-/// The greatest number that a column takes, or null.
 fn greatest(column: &Column) -> Value
     ensures { result ≡ int_or_null (option_map (λ range. range.1) column.now.value_range) }
 {
@@ -147,10 +132,6 @@ fn greatest(column: &Column) -> Value
     }
 }
 
-/// The table that a column refers to, or null.
-///
-/// # Errors
-/// `OutOfMemory`.
 fn key_table(alloc: Global, column: &Column) -> Result<Value, Error>
     ensures ok { IfOk result (λ value. value ≡ text_or_null (option_map (λ key. key.0) column.now.foreign_key)) }
     ensures kind { OnlyMemory result }
@@ -161,7 +142,6 @@ fn key_table(alloc: Global, column: &Column) -> Result<Value, Error>
     }
 }
 
-/// The number of the column that a column refers to, or null.
 fn key_column(column: &Column) -> Value
     ensures { result ≡ int_or_null (option_map (λ key. key.1) column.now.foreign_key) }
 {
@@ -171,10 +151,6 @@ fn key_column(column: &Column) -> Value
     }
 }
 
-/// The name of a column's category, or null.
-///
-/// # Errors
-/// `OutOfMemory`.
 fn category(alloc: Global, column: &Column) -> Result<Value, Error>
     ensures ok { IfOk result (λ value. value ≡ text_or_null (option_map category_name column.now.category)) }
     ensures kind { OnlyMemory result }
@@ -185,7 +161,6 @@ fn category(alloc: Global, column: &Column) -> Result<Value, Error>
     }
 }
 
-/// Whether a column takes null, as `_Validation` spells it.
 fn nullability(column: &Column) -> &'static str
     ensures { result.now ≡ (if column.now.is_nullable then codes "Y" else codes "N") }
 {

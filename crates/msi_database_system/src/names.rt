@@ -46,7 +46,6 @@ pub fn is_table_name(name: &str) -> bool
     is_short_identifier(name) && !is_pool_name(name)
 }
 
-/// Whether a name is an identifier that is short enough for the name of a table's stream.
 fn is_short_identifier(name: &str) -> bool
     ensures { result ≡ (is_identifier name.now && nat_le (encoded_units true (chars name.now)) 31) }
 {
@@ -65,7 +64,7 @@ pub fn table_key(name: &str) -> Option<Name>
     packed_name(name, true)
 }
 
-/// The container's name of the stream of a table whose name isn't too long for one. It takes no memory.
+/// The name has to be short enough for a stream of a table. It takes no memory.
 pub(crate) fn short_table_key(name: &str) -> Name
     requires { is_name_length (length (key_of_table name.now)) ≡ true }
     ensures { result ≡ key_of_table name.now }
@@ -87,7 +86,6 @@ pub fn string_data_key() -> Name
     short_table_key(STRING_DATA)
 }
 
-/// The container's name of a text that has the length of one.
 fn fixed_name(text: &str) -> Name
     requires { IsTrue (is_name_length (length (units_of text.now))) }
     ensures { result ≡ units_of text.now }

@@ -89,10 +89,6 @@ pub fn validation_columns(alloc: Global) -> Result<Items<Column>, Error>
     Ok(Items::from_vec(columns))
 }
 
-/// The first columns of `_Validation`: which column a row describes, and whether it takes null.
-///
-/// # Errors
-/// `OutOfMemory`.
 fn naming_columns(alloc: Global) -> Result<Vec<Column>, Error>
     ensures ok { IfOk result (λ columns. columns.items ≡ naming_columns) }
     ensures kind { OnlyMemory result }
@@ -105,10 +101,6 @@ fn naming_columns(alloc: Global) -> Result<Vec<Column>, Error>
     Ok(Vec::from_array(alloc, columns)?)
 }
 
-/// The next columns of `_Validation`: numbers that a column takes, and the column that it refers to.
-///
-/// # Errors
-/// `OutOfMemory`.
 fn referring_columns(alloc: Global) -> Result<Vec<Column>, Error>
     ensures ok { IfOk result (λ columns. columns.items ≡ referring_columns) }
     ensures kind { OnlyMemory result }
@@ -122,10 +114,6 @@ fn referring_columns(alloc: Global) -> Result<Vec<Column>, Error>
     Ok(Vec::from_array(alloc, columns)?)
 }
 
-/// The last columns of `_Validation`: a column's category, the texts that it takes, and what it is for.
-///
-/// # Errors
-/// `OutOfMemory`.
 fn describing_columns(alloc: Global) -> Result<Vec<Column>, Error>
     ensures ok { IfOk result (λ columns. columns.items ≡ describing_columns) }
     ensures kind { OnlyMemory result }
@@ -138,10 +126,6 @@ fn describing_columns(alloc: Global) -> Result<Vec<Column>, Error>
     Ok(Vec::from_array(alloc, columns)?)
 }
 
-/// A key column of `_Validation`: the name of what a row describes.
-///
-/// # Errors
-/// `OutOfMemory`.
 fn described_name(alloc: Global, name: &str) -> Result<Column, Error>
     ensures ok { IfOk result (λ column. column
         ≡ key (of_category categories.Identifier (plain_column name.now (types.Str 32)))) }
@@ -150,10 +134,6 @@ fn described_name(alloc: Global, name: &str) -> Result<Column, Error>
     Ok(Column::build(alloc, name)?.primary_key().id_string(32))
 }
 
-/// The column that tells whether a described column takes null.
-///
-/// # Errors
-/// `OutOfMemory`.
 fn nullable_column(alloc: Global) -> Result<Column, Error>
     ensures ok { IfOk result (λ column. column
         ≡ one_of (codes "Y" ∷ codes "N" ∷ []) (plain_column (codes "Nullable") (types.Str 4))) }
@@ -163,10 +143,6 @@ fn nullable_column(alloc: Global) -> Result<Column, Error>
     Ok(builder.enum_values(&["Y", "N"])?.string(4))
 }
 
-/// A column of the least or the greatest number that a described column takes.
-///
-/// # Errors
-/// `OutOfMemory`.
 fn bound_column(alloc: Global, name: &str) -> Result<Column, Error>
     ensures ok { IfOk result (λ column. column
         ≡ nullable (in_range (negsuc 2147483646) (pos 2147483647) (plain_column name.now types.Int32))) }
@@ -176,10 +152,6 @@ fn bound_column(alloc: Global, name: &str) -> Result<Column, Error>
     Ok(builder.range(-GREATEST, GREATEST).int32())
 }
 
-/// The column of the table that a described column refers to.
-///
-/// # Errors
-/// `OutOfMemory`.
 fn key_table_column(alloc: Global) -> Result<Column, Error>
     ensures ok { IfOk result (λ column. column
         ≡ nullable (of_category categories.Identifier (plain_column (codes "KeyTable") (types.Str 255)))) }
@@ -188,10 +160,6 @@ fn key_table_column(alloc: Global) -> Result<Column, Error>
     Ok(Column::build(alloc, "KeyTable")?.nullable().id_string(255))
 }
 
-/// The column of the number of the column that a described column refers to.
-///
-/// # Errors
-/// `OutOfMemory`.
 fn key_column_column(alloc: Global) -> Result<Column, Error>
     ensures ok { IfOk result (λ column. column
         ≡ nullable (in_range (pos 1) (pos 32) (plain_column (codes "KeyColumn") types.Int16))) }
@@ -201,10 +169,6 @@ fn key_column_column(alloc: Global) -> Result<Column, Error>
     Ok(builder.range(1, 32).int16())
 }
 
-/// The names of all categories, in order.
-///
-/// # Errors
-/// `OutOfMemory`.
 fn category_names(alloc: Global) -> Result<Vec<&'static str>, Error>
     ensures ok { IfOk result (λ names. map (λ name. name.now) names.items ≡ map category_name all_categories) }
     ensures kind { OnlyMemory result }
@@ -216,10 +180,6 @@ fn category_names(alloc: Global) -> Result<Vec<&'static str>, Error>
     Ok(names)
 }
 
-/// The column of a described column's category.
-///
-/// # Errors
-/// `OutOfMemory`.
 fn category_column(alloc: Global) -> Result<Column, Error>
     ensures ok { IfOk result (λ column. column
         ≡ nullable (one_of (map category_name all_categories) (plain_column (codes "Category") (types.Str 32)))) }
@@ -230,10 +190,6 @@ fn category_column(alloc: Global) -> Result<Column, Error>
     Ok(builder.enum_values(names.as_slice())?.string(32))
 }
 
-/// A column of texts of the category `Text`.
-///
-/// # Errors
-/// `OutOfMemory`.
 fn text_column(alloc: Global, name: &str) -> Result<Column, Error>
     ensures ok { IfOk result (λ column. column
         ≡ nullable (of_category categories.Text (plain_column name.now (types.Str 255)))) }

@@ -21,10 +21,6 @@ pub use select::Select;
 use std::alloc::Global;
 pub use update::Update;
 
-/// The condition under one more: a second is joined to the first by `and`.
-///
-/// # Errors
-/// `OutOfMemory`.
 pub(crate) fn narrowed(alloc: Global, first: Option<Expr>, condition: Expr) -> Result<Expr, Error>
     ensures ok { IfOk result (λ both. Some both ≡ narrowed_by first condition) }
     ensures kind { IfErr result (λ kind. kind ≡ OutOfMemory) }

@@ -137,10 +137,6 @@ impl Expr {
         })
     }
 
-    /// An operator over one expression; a literal folds.
-    ///
-    /// # Errors
-    /// `OutOfMemory`.
     fn unary(self, alloc: Global, op: UnaryOp) -> Result<Expr, Error>
         ensures ok { IfOk result (λ expression. expression ≡ folded_unary op self) }
         ensures kind { IfErr result (λ kind. kind ≡ OutOfMemory) }
@@ -150,10 +146,6 @@ impl Expr {
         Ok(Expr { tree })
     }
 
-    /// An operator between two expressions; two literals fold.
-    ///
-    /// # Errors
-    /// `OutOfMemory`.
     fn binary(self, alloc: Global, op: BinaryOp, rhs: Expr) -> Result<Expr, Error>
         ensures ok { IfOk result (λ expression. expression ≡ folded_binary op self rhs) }
         ensures kind { IfErr result (λ kind. kind ≡ OutOfMemory) }
@@ -432,14 +424,13 @@ impl Expr {
         collect_names(&self.tree, &mut names)?;
         Ok(names)
     }
-    /// The places of the first equality of one column of each side in it.
+
     pub(crate) fn equated_places(&self, columns: &[Column], width: usize) -> Option<(usize, usize)>
         ensures { result ≡ equated_in columns.now width self.now }
     {
         equated_places(&self.tree, columns, width)
     }
 
-    /// Whether each name in it is that of a column.
     pub(crate) fn knows_names(&self, columns: &[Column]) -> bool
         ensures { result ≡ knows_each columns.now self.now }
     {

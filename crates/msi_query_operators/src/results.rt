@@ -18,7 +18,6 @@ use msi_text_base::errors::Error;
 use msi_text_base::text::Text;
 use std::alloc::Global;
 
-/// A number where there is one, else Null.
 fn number_or_null(number: Option<i32>) -> Value
     ensures { result ≡ value_or_null number }
 {
@@ -45,7 +44,7 @@ pub fn unary_value(op: UnaryOp, value: ValueView) -> Value
     }
 }
 
-/// A number shifted left by 0 to 31 bits; Null for another distance.
+/// Shifts by 0 to 31 bits; Null for another distance.
 fn shifted_left(number: i32, distance: i32) -> Value
     ensures { result ≡ of_numbers Shl number distance }
 {
@@ -55,7 +54,7 @@ fn shifted_left(number: i32, distance: i32) -> Value
     Value::Int(number << distance)
 }
 
-/// A number shifted right by 0 to 31 bits; Null for another distance.
+/// Shifts by 0 to 31 bits; Null for another distance.
 fn shifted_right(number: i32, distance: i32) -> Value
     ensures { result ≡ of_numbers Shr number distance }
 {
@@ -65,7 +64,6 @@ fn shifted_right(number: i32, distance: i32) -> Value
     Value::Int(number >> distance)
 }
 
-/// What an operator gives of two numbers.
 fn value_of_numbers(op: BinaryOp, left: i32, right: i32) -> Value
     ensures { result ≡ of_numbers op left right }
 {
@@ -83,10 +81,7 @@ fn value_of_numbers(op: BinaryOp, left: i32, right: i32) -> Value
     }
 }
 
-/// One text after another; a text that was computed keeps its memory.
-///
-/// # Errors
-/// `OutOfMemory`.
+/// A text that was computed keeps its memory.
 fn joined(text: Text, rest: &str) -> Result<Text, Error>
     ensures ok { IfOk result (λ whole. whole ≡ text ++ rest.now) }
     ensures kind { IfErr result (λ kind. kind ≡ OutOfMemory) }
@@ -96,10 +91,6 @@ fn joined(text: Text, rest: &str) -> Result<Text, Error>
     Ok(Text::from_string(whole))
 }
 
-/// One text after another, both copied.
-///
-/// # Errors
-/// `OutOfMemory`.
 fn joined_copy(alloc: Global, text: &str, rest: &str) -> Result<Text, Error>
     ensures ok { IfOk result (λ whole. whole ≡ text.now ++ rest.now) }
     ensures kind { IfErr result (λ kind. kind ≡ OutOfMemory) }
@@ -110,10 +101,6 @@ fn joined_copy(alloc: Global, text: &str, rest: &str) -> Result<Text, Error>
     Ok(Text::from_string(whole))
 }
 
-/// A text that is looked at joined with another, else Null.
-///
-/// # Errors
-/// `OutOfMemory`.
 fn joined_view(alloc: Global, left: ValueView, rest: &str) -> Result<Value, Error>
     ensures ok { IfOk result (λ value. value ≡ of_operands Add (seen_value left.entry) (Str rest.now)) }
     ensures kind { IfErr result (λ kind. kind ≡ OutOfMemory) }
@@ -124,10 +111,6 @@ fn joined_view(alloc: Global, left: ValueView, rest: &str) -> Result<Value, Erro
     }
 }
 
-/// A text that was computed joined with another, else Null.
-///
-/// # Errors
-/// `OutOfMemory`.
 fn joined_value(left: Value, rest: &str) -> Result<Value, Error>
     ensures ok { IfOk result (λ value. value ≡ of_operands Add left (Str rest.now)) }
     ensures kind { IfErr result (λ kind. kind ≡ OutOfMemory) }
@@ -138,10 +121,6 @@ fn joined_value(left: Value, rest: &str) -> Result<Value, Error>
     }
 }
 
-/// Two texts joined, else Null.
-///
-/// # Errors
-/// `OutOfMemory`.
 fn joined_texts(alloc: Global, left: Operand, right: ValueView) -> Result<Value, Error>
     ensures ok { IfOk result (λ value. int_of (operand_value left.entry) ≡ None
         → value ≡ of_operands Add (operand_value left.entry) (seen_value right.entry)) }
@@ -156,10 +135,7 @@ fn joined_texts(alloc: Global, left: Operand, right: ValueView) -> Result<Value,
     }
 }
 
-/// What an operator that compares nothing gives of two operands.
-///
-/// # Errors
-/// `OutOfMemory`, of a sum alone.
+/// Serves the operators that compare nothing. Only a sum may fail.
 fn arithmetic(alloc: Global, op: BinaryOp, left: Operand, right: ValueView) -> Result<Value, Error>
     ensures ok { IfOk result (λ value. value ≡ of_operands op (operand_value left.entry) (seen_value right.entry)) }
     ensures kind { IfErr result (λ kind. kind ≡ OutOfMemory) }
@@ -177,7 +153,6 @@ fn arithmetic(alloc: Global, op: BinaryOp, left: Operand, right: ValueView) -> R
     }
 }
 
-/// What a comparison says of two values; nothing for another operator.
 fn compared(op: BinaryOp, left: ValueView, right: ValueView) -> Option<bool>
     ensures says { let value = value_of_two op (seen_value left.entry) (seen_value right.entry) in
         IfSome result (λ holds. value ≡ truth holds) }

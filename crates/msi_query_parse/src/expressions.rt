@@ -17,7 +17,6 @@ use std::alloc::Global;
 /// What an operand in front of which an operator stands needs: no operator between two operands binds so tightly.
 const TIGHTEST: u8 = 10;
 
-/// Reads an operand that is one token, or the name of a column.
 #[tactic(auto, unfolding(crate::specs::Reading::term))]
 fn term(alloc: Global, tokens: &mut Tokens<'_>) -> Result<Expr, ParseError>
     ensures { Reads (spec.term tokens.old) result tokens.new }
@@ -41,7 +40,7 @@ fn term(alloc: Global, tokens: &mut Tokens<'_>) -> Result<Expr, ParseError>
 }
 
 impl<F: Fn(Global, &mut Tokens<'_>, usize, u8) -> Result<Expr, ParseError>> Grammar<F> {
-    /// Reads what a minus stands before: digits, of which it is the sign, or an operand.
+    /// Reads what follows a minus: digits, of which it is the sign, or an operand.
     #[tactic(auto, unfolding(crate::specs::Reading::negated))]
     fn negated(&self, tokens: &mut Tokens<'_>) -> Result<Expr, ParseError>
         requires { Nests self.now.depth (F.pre self.now.expression) (F.post self.now.expression) }
@@ -53,7 +52,6 @@ impl<F: Fn(Global, &mut Tokens<'_>, usize, u8) -> Result<Expr, ParseError>> Gram
         Ok(self.expression(tokens, TIGHTEST)?.neg(self.alloc)?)
     }
 
-    /// Reads what stands in brackets, and the closing one.
     #[tactic(auto, unfolding(crate::specs::Reading::bracketed))]
     fn bracketed(&self, tokens: &mut Tokens<'_>) -> Result<Expr, ParseError>
         requires { Nests self.now.depth (F.pre self.now.expression) (F.post self.now.expression) }
@@ -64,7 +62,6 @@ impl<F: Fn(Global, &mut Tokens<'_>, usize, u8) -> Result<Expr, ParseError>> Gram
         Ok(inner)
     }
 
-    /// Reads an operand with the operators in front of it.
     #[tactic(auto, unfolding(crate::specs::Reading::operand))]
     fn operand(&self, tokens: &mut Tokens<'_>) -> Result<Expr, ParseError>
         requires { Nests self.now.depth (F.pre self.now.expression) (F.post self.now.expression) }
@@ -95,7 +92,6 @@ impl<F: Fn(Global, &mut Tokens<'_>, usize, u8) -> Result<Expr, ParseError>> Gram
         }
     }
 
-    /// Reads an operator and the operand behind it.
     #[tactic(auto, unfolding(crate::specs::Reading::operation))]
     fn operation(&self, tokens: &mut Tokens<'_>, left: Expr) -> Result<Expr, ParseError>
         requires { Nests self.now.depth (F.pre self.now.expression) (F.post self.now.expression) }
@@ -109,7 +105,7 @@ impl<F: Fn(Global, &mut Tokens<'_>, usize, u8) -> Result<Expr, ParseError>> Gram
         Ok(linked(self.alloc, kind, left, right)?)
     }
 
-    /// Goes on with the operators that bind at least so tightly.
+    /// Goes on with the operators that bind at least as tightly as `least`.
     #[tactic(auto, unfolding(crate::specs::Reading::operations))]
     fn operations(
         &self,
@@ -131,7 +127,6 @@ impl<F: Fn(Global, &mut Tokens<'_>, usize, u8) -> Result<Expr, ParseError>> Gram
         Ok(left)
     }
 
-    /// Reads an operand and what goes on with it.
     #[tactic(auto, unfolding(crate::specs::Reading::level))]
     pub(crate) fn level(&self, tokens: &mut Tokens<'_>, least: u8) -> Result<Expr, ParseError>
         requires { Nests self.now.depth (F.pre self.now.expression) (F.post self.now.expression) }

@@ -28,7 +28,7 @@ impl<F: Fn(Global, &mut Tokens<'_>, usize, u8) -> Result<Expr, ParseError>> Gram
     }
 }
 
-/// Reads an expression that is less high than `depth`, with operators that bind at least so tightly.
+/// Reads an expression that is less high than `depth`, with operators that bind at least as tightly as `least`.
 pub(crate) fn expression(
     alloc: Global,
     tokens: &mut Tokens<'_>,
@@ -48,7 +48,6 @@ pub(crate) fn expression(
     .level(tokens, least)
 }
 
-/// Reads a condition.
 #[tactic(auto, unfolding(crate::specs::Reading::condition))]
 pub(crate) fn condition(alloc: Global, tokens: &mut Tokens<'_>) -> Result<Expr, ParseError>
     ensures { Reads (spec.condition tokens.old) result tokens.new }

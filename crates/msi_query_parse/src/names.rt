@@ -11,7 +11,6 @@ use msi_query_tokens::tokens::Tokens;
 use msi_text_base::text::{Items, Text};
 use std::alloc::{AllocError, Global};
 
-/// Reads a name.
 #[tactic(auto, unfolding(crate::specs::Reading::name))]
 pub(crate) fn name(
     alloc: Global,
@@ -27,7 +26,6 @@ pub(crate) fn name(
     }
 }
 
-/// Two names with a full stop between them.
 fn dotted(table: Text, column: &Text) -> Result<Text, AllocError>
     ensures { IfOk result (λ name. name ≡ spec.dotted table column.now) }
 {
@@ -54,7 +52,6 @@ pub(crate) fn column(
     Ok(dotted(first, &second)?)
 }
 
-/// Adds a name.
 fn with_name(names: Items<Text>, name: Text) -> Result<Items<Text>, AllocError>
     ensures { IfOk result (λ all. all ≡ names ++ name ∷ []) }
 {
@@ -63,7 +60,6 @@ fn with_name(names: Items<Text>, name: Text) -> Result<Items<Text>, AllocError>
     Ok(Items::from_vec(names))
 }
 
-/// Reads names of columns, one or more, with commas between them.
 fn columns(alloc: Global, tokens: &mut Tokens<'_>) -> Result<Items<Text>, ParseError>
     ensures { Reads (spec.columns tokens.old) result tokens.new }
 {

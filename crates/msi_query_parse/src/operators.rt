@@ -8,7 +8,7 @@ use msi_query_tokens::token::Kind;
 use msi_text_base::errors::Error;
 use std::alloc::Global;
 
-/// How tightly an operator between two operands binds; 0 for what is none.
+/// Returns how tightly an operator between two operands binds; 0 for all other tokens.
 pub(crate) fn binds(kind: Kind) -> u8
     ensures value { result ≡ spec.binds kind }
     ensures small { result ≤ 9 }
@@ -27,7 +27,6 @@ pub(crate) fn binds(kind: Kind) -> u8
     }
 }
 
-/// An operator between two operands.
 pub(crate) fn linked(alloc: Global, kind: Kind, left: Expr, right: Expr) -> Result<Expr, Error>
     ensures { IfOk result (λ expression. expression ≡ spec.linked kind left right) }
 {
@@ -44,7 +43,6 @@ pub(crate) fn linked(alloc: Global, kind: Kind, left: Expr, right: Expr) -> Resu
     }
 }
 
-/// An operator on numbers.
 fn calculated(alloc: Global, kind: Kind, left: Expr, right: Expr) -> Result<Expr, Error>
     ensures { IfOk result (λ expression. expression ≡ spec.calculated kind left right) }
 {

@@ -19,7 +19,6 @@ use msi_query_tokens::token::Kind;
 use msi_query_tokens::tokens::Tokens;
 use std::alloc::Global;
 
-/// Refuses what goes on behind a whole query.
 #[tactic(auto, unfolding(crate::specs::Reading::end))]
 fn end(tokens: &Tokens<'_>) -> Result<(), ParseError>
     ensures { Reads (spec.end tokens.now) result tokens.now }
@@ -52,7 +51,6 @@ impl Parse for Expr {
     }
 }
 
-/// Reads the whole of a text, as `Expr::parse` does.
 fn whole_expression(alloc: Global, text: &str) -> Result<Expr, ParseError>
     ensures { Gives (whole spec.condition text.now) result }
 {
@@ -73,7 +71,6 @@ impl Parse for Select {
     }
 }
 
-/// Reads the whole of a text, as `Select::parse` does.
 fn whole_select(alloc: Global, text: &str) -> Result<Select, ParseError>
     ensures { Gives (whole (spec.query 201) text.now) result }
 {
@@ -94,7 +91,6 @@ impl Parse for Insert {
     }
 }
 
-/// Reads the whole of a text, as `Insert::parse` does.
 fn whole_insert(alloc: Global, text: &str) -> Result<Insert, ParseError>
     ensures { Gives (whole spec.insert text.now) result }
 {
@@ -115,7 +111,6 @@ impl Parse for Update {
     }
 }
 
-/// Reads the whole of a text, as `Update::parse` does.
 fn whole_update(alloc: Global, text: &str) -> Result<Update, ParseError>
     ensures { Gives (whole spec.update text.now) result }
 {
@@ -136,7 +131,6 @@ impl Parse for Delete {
     }
 }
 
-/// Reads the whole of a text, as `Delete::parse` does.
 fn whole_delete(alloc: Global, text: &str) -> Result<Delete, ParseError>
     ensures { Gives (whole spec.delete text.now) result }
 {
@@ -146,7 +140,6 @@ fn whole_delete(alloc: Global, text: &str) -> Result<Delete, ParseError>
     Ok(query)
 }
 
-/// Reads a query of any kind.
 #[tactic(auto, unfolding(crate::specs::Reading::statement))]
 fn statement(alloc: Global, tokens: &mut Tokens<'_>) -> Result<Statement, ParseError>
     ensures { Reads (spec.statement tokens.old) result tokens.new }
@@ -161,7 +154,6 @@ fn statement(alloc: Global, tokens: &mut Tokens<'_>) -> Result<Statement, ParseE
 }
 
 impl Parse for Statement {
-    /// Reads a query of any kind.
     fn parse(alloc: Global, text: &str) -> Result<Statement, ParseError>
         ensures spelled { IfOk result (λ found. SpellsStatement text.now found) }
         ensures none { RefusesUnspelled SpellsStatement text.now result }
@@ -171,7 +163,6 @@ impl Parse for Statement {
     }
 }
 
-/// Reads the whole of a text, as `Statement::parse` does.
 fn whole_query(alloc: Global, text: &str) -> Result<Statement, ParseError>
     ensures { Gives (whole spec.statement text.now) result }
 {

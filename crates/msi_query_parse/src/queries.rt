@@ -12,7 +12,6 @@ use msi_query_tokens::token::Kind;
 use msi_query_tokens::tokens::Tokens;
 use std::alloc::Global;
 
-/// Reads rows, one or more, with commas between them.
 fn rows(alloc: Global, tokens: &mut Tokens<'_>, mut query: Insert) -> Result<Insert, ParseError>
     ensures { Reads (spec.rows query tokens.old) result tokens.new }
 {
@@ -25,7 +24,6 @@ fn rows(alloc: Global, tokens: &mut Tokens<'_>, mut query: Insert) -> Result<Ins
     Err(tokens.refuse(Expected::OpenBracket))
 }
 
-/// Reads a query that inserts rows.
 #[tactic(auto, unfolding(crate::specs::Reading::insert))]
 pub(crate) fn insert(alloc: Global, tokens: &mut Tokens<'_>) -> Result<Insert, ParseError>
     ensures { Reads (spec.insert tokens.old) result tokens.new }
@@ -40,7 +38,6 @@ pub(crate) fn insert(alloc: Global, tokens: &mut Tokens<'_>) -> Result<Insert, P
     rows(alloc, tokens, query)
 }
 
-/// Reads a column and its new value.
 #[tactic(auto, unfolding(crate::specs::Reading::assignment))]
 fn assignment(alloc: Global, tokens: &mut Tokens<'_>, query: Update) -> Result<Update, ParseError>
     ensures { Reads (spec.assignment query tokens.old) result tokens.new }
@@ -51,7 +48,6 @@ fn assignment(alloc: Global, tokens: &mut Tokens<'_>, query: Update) -> Result<U
     Ok(query.set(column.as_str(), value)?)
 }
 
-/// Reads assignments, one or more, with commas between them.
 fn assignments(
     alloc: Global,
     tokens: &mut Tokens<'_>,
@@ -68,7 +64,6 @@ fn assignments(
     Err(tokens.refuse(Expected::Name))
 }
 
-/// Reads what an update sets, if it sets something.
 #[tactic(auto, unfolding(crate::specs::Reading::sets))]
 fn sets(alloc: Global, tokens: &mut Tokens<'_>, query: Update) -> Result<Update, ParseError>
     ensures { Reads (spec.sets query tokens.old) result tokens.new }
@@ -79,7 +74,6 @@ fn sets(alloc: Global, tokens: &mut Tokens<'_>, query: Update) -> Result<Update,
     assignments(alloc, tokens, query)
 }
 
-/// Reads a query that changes rows.
 #[tactic(auto, unfolding(crate::specs::Reading::update))]
 pub(crate) fn update(alloc: Global, tokens: &mut Tokens<'_>) -> Result<Update, ParseError>
     ensures { Reads (spec.update tokens.old) result tokens.new }
@@ -94,7 +88,6 @@ pub(crate) fn update(alloc: Global, tokens: &mut Tokens<'_>) -> Result<Update, P
     Ok(query.with(condition(alloc, tokens)?)?)
 }
 
-/// Reads a query that removes rows.
 #[tactic(auto, unfolding(crate::specs::Reading::delete))]
 pub(crate) fn delete(alloc: Global, tokens: &mut Tokens<'_>) -> Result<Delete, ParseError>
     ensures { Reads (spec.delete tokens.old) result tokens.new }

@@ -26,14 +26,12 @@ pub(crate) struct Sources<F> {
     query: F,
 }
 
-/// Whether a join comes next.
 fn sees_join(tokens: &Tokens<'_>) -> bool
     ensures { result ≡ spec.sees_join tokens.now }
 {
     tokens.sees(Kind::Inner) | tokens.sees(Kind::Left)
 }
 
-/// Reads the table of this name.
 #[tactic(auto, unfolding(crate::specs::Reading::table_named))]
 fn table(alloc: Global, tokens: &mut Tokens<'_>) -> Result<Select, ParseError>
     ensures { Reads (spec.table_named tokens.old) result tokens.new }
@@ -42,7 +40,6 @@ fn table(alloc: Global, tokens: &mut Tokens<'_>) -> Result<Select, ParseError>
     Ok(Select::table(alloc, name.as_str())?)
 }
 
-/// The query with these columns.
 fn projected(alloc: Global, query: Select, columns: &[Text]) -> Result<Select, Error>
     ensures { IfOk result (λ all. all ≡ projected_query query columns.now) }
 {
@@ -53,7 +50,6 @@ fn projected(alloc: Global, query: Select, columns: &[Text]) -> Result<Select, E
     query.columns(names.as_slice())
 }
 
-/// Reads the condition of a query, if there is one.
 #[tactic(auto, unfolding(crate::specs::Reading::narrowed))]
 fn narrowed(alloc: Global, tokens: &mut Tokens<'_>, query: Select) -> Result<Select, ParseError>
     ensures { Reads (spec.narrowed query tokens.old) result tokens.new }
@@ -64,7 +60,6 @@ fn narrowed(alloc: Global, tokens: &mut Tokens<'_>, query: Select) -> Result<Sel
     Ok(query.with(condition(alloc, tokens)?)?)
 }
 
-/// Joins two sides.
 fn join(kind: Kind, left: Select, right: Select, on: Expr) -> Result<Select, Error>
     ensures { IfOk result (λ both. both ≡ spec.joined_by kind left right on) }
 {
@@ -75,7 +70,6 @@ fn join(kind: Kind, left: Select, right: Select, on: Expr) -> Result<Select, Err
 }
 
 impl<F: Fn(Global, &mut Tokens<'_>, usize) -> Result<Select, ParseError>> Sources<F> {
-    /// Reads a query in brackets.
     #[tactic(auto, unfolding(crate::specs::Reading::bracketed_query))]
     fn bracketed(&self, tokens: &mut Tokens<'_>) -> Result<Select, ParseError>
         requires { NestsQueries self.now.depth (F.pre self.now.query) (F.post self.now.query) }
@@ -90,7 +84,6 @@ impl<F: Fn(Global, &mut Tokens<'_>, usize) -> Result<Select, ParseError>> Source
         Ok(query)
     }
 
-    /// Reads a side of a join.
     #[tactic(auto, unfolding(crate::specs::Reading::side))]
     fn side(&self, tokens: &mut Tokens<'_>) -> Result<Select, ParseError>
         requires { NestsQueries self.now.depth (F.pre self.now.query) (F.post self.now.query) }
@@ -103,7 +96,6 @@ impl<F: Fn(Global, &mut Tokens<'_>, usize) -> Result<Select, ParseError>> Source
         }
     }
 
-    /// Reads the words of a join, its right side and its condition.
     #[tactic(auto, unfolding(crate::specs::Reading::joined))]
     fn joined(&self, tokens: &mut Tokens<'_>, left: Select) -> Result<Select, ParseError>
         requires { NestsQueries self.now.depth (F.pre self.now.query) (F.post self.now.query) }
@@ -119,7 +111,6 @@ impl<F: Fn(Global, &mut Tokens<'_>, usize) -> Result<Select, ParseError>> Source
         Ok(join(kind, left, right, on)?)
     }
 
-    /// Goes on with the joins.
     #[tactic(auto, unfolding(crate::specs::Reading::joins))]
     fn joins(&self, tokens: &mut Tokens<'_>, mut left: Select) -> Result<Select, ParseError>
         requires { NestsQueries self.now.depth (F.pre self.now.query) (F.post self.now.query) }
@@ -134,7 +125,6 @@ impl<F: Fn(Global, &mut Tokens<'_>, usize) -> Result<Select, ParseError>> Source
         Ok(left)
     }
 
-    /// Reads where rows come from: a table, or a join.
     #[tactic(auto, unfolding(crate::specs::Reading::source))]
     fn source(&self, tokens: &mut Tokens<'_>) -> Result<Select, ParseError>
         requires { NestsQueries self.now.depth (F.pre self.now.query) (F.post self.now.query) }
@@ -152,7 +142,6 @@ impl<F: Fn(Global, &mut Tokens<'_>, usize) -> Result<Select, ParseError>> Source
         self.joins(tokens, first)
     }
 
-    /// Reads a query.
     #[tactic(auto, unfolding(crate::specs::Reading::select))]
     fn select(&self, tokens: &mut Tokens<'_>) -> Result<Select, ParseError>
         requires { NestsQueries self.now.depth (F.pre self.now.query) (F.post self.now.query) }
@@ -184,7 +173,6 @@ fn query(alloc: Global, tokens: &mut Tokens<'_>, depth: usize) -> Result<Select,
     .select(tokens)
 }
 
-/// Reads a query for rows.
 pub(crate) fn select(alloc: Global, tokens: &mut Tokens<'_>) -> Result<Select, ParseError>
     ensures { Reads (spec.query 201 tokens.old) result tokens.new }
 {

@@ -12,7 +12,6 @@ use msi_table_values::value::Value;
 use msi_text_base::text::Items;
 use std::alloc::{AllocError, Global};
 
-/// Reads the digits behind a minus.
 #[tactic(auto, unfolding(crate::specs::Reading::negative_value))]
 fn negative_value(tokens: &mut Tokens<'_>) -> Result<Value, ParseError>
     ensures { Reads (spec.negative_value tokens.old) result tokens.new }
@@ -25,7 +24,6 @@ fn negative_value(tokens: &mut Tokens<'_>) -> Result<Value, ParseError>
     }
 }
 
-/// Reads a literal.
 #[tactic(auto, unfolding(crate::specs::Reading::value))]
 pub(crate) fn value(alloc: Global, tokens: &mut Tokens<'_>) -> Result<Value, ParseError>
     ensures { Reads (spec.value tokens.old) result tokens.new }
@@ -46,7 +44,6 @@ pub(crate) fn value(alloc: Global, tokens: &mut Tokens<'_>) -> Result<Value, Par
     }
 }
 
-/// Adds a value.
 fn with_value(values: Items<Value>, value: Value) -> Result<Items<Value>, AllocError>
     ensures { IfOk result (λ all. all ≡ values ++ value ∷ []) }
 {
@@ -55,7 +52,6 @@ fn with_value(values: Items<Value>, value: Value) -> Result<Items<Value>, AllocE
     Ok(Items::from_vec(values))
 }
 
-/// Reads the values of a row, one or more, with commas between them.
 fn values(alloc: Global, tokens: &mut Tokens<'_>) -> Result<Items<Value>, ParseError>
     ensures { Reads (spec.values tokens.old) result tokens.new }
 {
@@ -69,7 +65,6 @@ fn values(alloc: Global, tokens: &mut Tokens<'_>) -> Result<Items<Value>, ParseE
     Err(tokens.refuse(Expected::Value))
 }
 
-/// Reads a row in its brackets.
 #[tactic(auto, unfolding(crate::specs::Reading::row))]
 pub(crate) fn row(alloc: Global, tokens: &mut Tokens<'_>) -> Result<Items<Value>, ParseError>
     ensures { Reads (spec.row tokens.old) result tokens.new }

@@ -21,14 +21,12 @@ use msi_text_base::errors::Error;
 use msi_text_base::text::{Items, Text};
 use std::alloc::Global;
 
-/// Whether each of the names is that of a column.
 pub(crate) fn has_columns(columns: &[Column], names: &[Text]) -> bool
     ensures { result ≡ has_each columns.now names.now }
 {
     names.iter().all(|name| has_column(columns, name.as_str()))
 }
 
-/// Whether each name in a condition is that of a column.
 pub(crate) fn knows_condition(columns: &[Column], condition: Option<&Expr>) -> bool
     ensures { result ≡ has_each columns.now (condition_names (option_copied condition.entry)) }
 {
@@ -38,10 +36,6 @@ pub(crate) fn knows_condition(columns: &[Column], condition: Option<&Expr>) -> b
     }
 }
 
-/// Where the columns of the names stand.
-///
-/// # Errors
-/// `OutOfMemory`.
 pub(crate) fn places_of(
     alloc: Global,
     columns: &[Column],
@@ -57,7 +51,6 @@ pub(crate) fn places_of(
     Ok(places)
 }
 
-/// The column at a place, if any.
 fn column_at(columns: &[Column], place: Option<usize>) -> Option<&Column>
     ensures { option_copied result ≡ column_there columns.now place }
 {
@@ -67,10 +60,6 @@ fn column_at(columns: &[Column], place: Option<usize>) -> Option<&Column>
     }
 }
 
-/// The columns at the places, in the places' order.
-///
-/// # Errors
-/// `OutOfMemory`.
 pub(crate) fn columns_of(
     alloc: Global,
     columns: &[Column],
@@ -88,10 +77,6 @@ pub(crate) fn columns_of(
     Ok(Items::from_vec(kept))
 }
 
-/// A column's name behind its side's name, where that isn't empty.
-///
-/// # Errors
-/// `OutOfMemory`.
 fn prefixed(alloc: Global, side: &str, name: &str) -> Result<String, Error>
     ensures ok { IfOk result (λ whole. string_bytes whole
         ≡ (if length side.now == 0 then name.now else side.now ++ 46 ∷ name.now)) }
@@ -106,10 +91,7 @@ fn prefixed(alloc: Global, side: &str, name: &str) -> Result<String, Error>
     Ok(whole)
 }
 
-/// A side's column as a join has it; it takes null where it did, or where that is asked.
-///
-/// # Errors
-/// `OutOfMemory`.
+/// The column takes null where it did, or where `nulls` asks for it.
 fn side_column(alloc: Global, side: &str, nulls: bool, column: &Column) -> Result<Column, Error>
     ensures ok { IfOk result (λ joined. joined ≡ nullable_if nulls (prefixed_by side.now column.now)) }
     ensures kind { OnlyMemory result }
@@ -119,10 +101,6 @@ fn side_column(alloc: Global, side: &str, nulls: bool, column: &Column) -> Resul
     Ok(if nulls { nullable(column) } else { column })
 }
 
-/// Adds a side's columns to those of a join.
-///
-/// # Errors
-/// `OutOfMemory`.
 fn add_columns(
     alloc: Global,
     side: &str,
@@ -140,10 +118,6 @@ fn add_columns(
     Ok(())
 }
 
-/// The columns of a join of two sides.
-///
-/// # Errors
-/// `OutOfMemory`.
 pub(crate) fn joined_columns(
     alloc: Global,
     kind: JoinKind,

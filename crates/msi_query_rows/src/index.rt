@@ -21,16 +21,14 @@ use msi_text_base::text::Items;
 use msi_text_pool::stringpool::StringPool;
 use std::cmp::Ordering;
 
-/// Whether each row has so many cells.
 fn has_width(width: usize, rows: &[Items<ValueRef>]) -> bool
     ensures { result ≡ have_width width rows.now }
 {
     rows.iter().all(|row| row.as_slice().len() == width)
 }
 
-/// The places, of a left row and of a right one, where pairs that meet a condition have equal values, if it names
-/// such. A left row that is too short or too long would put the right one's columns elsewhere, so then there are
-/// none.
+/// Returns the places, of a left row and of a right one, where pairs that meet the condition have equal values, if it
+/// names such. A left row of a wrong width would shift the right one's columns, so then it returns none.
 pub(crate) fn places_asked(
     columns: &[Column],
     width: usize,
@@ -47,14 +45,12 @@ pub(crate) fn places_asked(
     equated_places(on, columns, width)
 }
 
-/// How the values of two rows at a place stand to one another.
 fn compare_rows(pool: &StringPool, place: usize, row: &[ValueRef], other: &[ValueRef]) -> Ordering
     ensures { result ≡ place_cmp pool.now.places place row.now other.now }
 {
     compare_values(pool, cell_of(row, Some(place)), cell_of(other, Some(place)))
 }
 
-/// How the value of a row at a place stands to that of a cell.
 fn compare_with(pool: &StringPool, place: usize, row: &[ValueRef], cell: ValueRef) -> Ordering
     ensures { result
         ≡ value_cmp (value_there pool.now.places place row.now) (value_of_cell pool.now.places cell) }
@@ -62,10 +58,7 @@ fn compare_with(pool: &StringPool, place: usize, row: &[ValueRef], cell: ValueRe
     compare_values(pool, cell_of(row, Some(place)), cell)
 }
 
-/// Puts rows into the order of their values at a place; those with one value stay in their order.
-///
-/// # Errors
-/// `OutOfMemory`.
+/// Rows with equal values stay in their order.
 pub(crate) fn sort_by_place(
     pool: &StringPool,
     place: usize,
@@ -78,7 +71,7 @@ pub(crate) fn sort_by_place(
     Ok(())
 }
 
-/// Of rows in that order those with a cell's value there, in the order in which they stood before.
+/// The rows have to be ordered by `sort_by_place`. Those returned are in the order that they had before.
 pub(crate) fn rows_with<'a>(
     pool: &StringPool,
     place: usize,

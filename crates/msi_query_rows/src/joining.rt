@@ -22,10 +22,6 @@ use msi_text_base::text::Items;
 use msi_text_pool::stringpool::StringPool;
 use std::alloc::Global;
 
-/// The rows of a join, each left row beside all right ones.
-///
-/// # Errors
-/// `OutOfMemory`.
 fn rows_by_scan(
     alloc: Global,
     pool: &StringPool,
@@ -46,11 +42,8 @@ fn rows_by_scan(
     Ok(rows)
 }
 
-/// The rows of a join, each left row beside those right ones that have its value: pairs that meet the condition have
-/// equal ones at these places of the two.
-///
-/// # Errors
-/// `OutOfMemory`.
+/// Tries each left row only with the right ones that have its value: pairs that meet the condition have equal values at
+/// the places `at`.
 fn rows_by_index(
     alloc: Global,
     pool: &StringPool,
@@ -79,11 +72,8 @@ fn rows_by_index(
     Ok(rows)
 }
 
-/// The rows of a join of two sides under a condition on the columns of both. Where it wants columns to be equal, one
-/// of each side, the right side is sorted by its column and looked up.
-///
-/// # Errors
-/// `OutOfMemory`.
+/// Where the condition wants columns to be equal, one of each side, the right side is sorted by its column and looked
+/// up.
 pub(crate) fn joined_rows(
     alloc: Global,
     pool: &StringPool,

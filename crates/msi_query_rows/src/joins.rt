@@ -25,11 +25,7 @@ pub(crate) struct Join<'a, 'b> {
     pub(crate) width: usize,
 }
 
-/// Adds the pairs of a left row with right rows that a filter lets through. No row is made for a pair that is only
-/// tried.
-///
-/// # Errors
-/// `OutOfMemory`.
+/// Makes no row for a pair that is only tried.
 fn add_pairs(
     alloc: Global,
     pool: &StringPool,
@@ -53,10 +49,7 @@ fn add_pairs(
     Ok(())
 }
 
-/// Adds what a join gives of a left row: its pairs, or in a left join where it has none the row with nulls.
-///
-/// # Errors
-/// `OutOfMemory`.
+/// Adds the pairs of a left row, or in a left join where it has none the row with nulls.
 pub(crate) fn add_row(
     alloc: Global,
     pool: &StringPool,

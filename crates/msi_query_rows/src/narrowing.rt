@@ -22,10 +22,6 @@ use msi_text_base::text::{Items, Text};
 use msi_text_pool::stringpool::StringPool;
 use std::alloc::Global;
 
-/// The rows that a filter lets through.
-///
-/// # Errors
-/// `OutOfMemory`.
 fn filtered(
     alloc: Global,
     pool: &StringPool,
@@ -45,10 +41,6 @@ fn filtered(
     Ok(kept)
 }
 
-/// The rows that meet a condition, whose columns are looked up once. Without one they are those that were given.
-///
-/// # Errors
-/// `OutOfMemory`.
 fn kept_rows(
     alloc: Global,
     pool: &StringPool,
@@ -69,10 +61,6 @@ fn kept_rows(
     }
 }
 
-/// The cells at the places of each row.
-///
-/// # Errors
-/// `OutOfMemory`.
 fn projected_rows(
     alloc: Global,
     places: &[Option<usize>],
@@ -88,10 +76,6 @@ fn projected_rows(
     Ok(projected)
 }
 
-/// The columns of the names, in the names' order.
-///
-/// # Errors
-/// `OutOfMemory`.
 fn projected(
     alloc: Global,
     names: &[Text],
@@ -108,10 +92,7 @@ fn projected(
     Ok(Relation::new(name, kept, rows))
 }
 
-/// The rows that meet the condition, then the columns that are selected. No name has to be unknown.
-///
-/// # Errors
-/// `OutOfMemory`.
+/// Applies the condition before the columns are selected. All names have to be known.
 pub(crate) fn selected(
     alloc: Global,
     pool: &StringPool,
@@ -131,10 +112,6 @@ pub(crate) fn selected(
     projected(alloc, names, columns.as_slice(), rows.as_slice())
 }
 
-/// Refuses clauses with a name that is none of a column.
-///
-/// # Errors
-/// `InvalidInput` where a column that is selected, or one in the condition, isn't there.
 pub(crate) fn refuse_unknown(columns: &[Column], clauses: &Clauses) -> Result<(), Error>
     ensures { result ≡ unless_refused (clause_refusals clauses.now columns.now) tt }
 {
@@ -147,10 +124,6 @@ pub(crate) fn refuse_unknown(columns: &[Column], clauses: &Clauses) -> Result<()
     Ok(())
 }
 
-/// What the clauses of a query keep of a relation.
-///
-/// # Errors
-/// `InvalidInput` where a column that is selected, or one in the condition, isn't there; `OutOfMemory`.
 pub(crate) fn narrowed(
     alloc: Global,
     pool: &StringPool,

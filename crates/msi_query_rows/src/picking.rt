@@ -24,10 +24,7 @@ use msi_text_base::text::{Items, Text};
 use msi_text_pool::stringpool::StringPool;
 use std::alloc::Global;
 
-/// The numbers of the rows that a filter lets through. One row is decoded at a time.
-///
-/// # Errors
-/// `OutOfMemory`.
+/// Decodes one row at a time.
 fn filtered_numbers(
     alloc: Global,
     pool: &StringPool,
@@ -50,11 +47,7 @@ fn filtered_numbers(
     Ok(Items::from_vec(numbers))
 }
 
-/// The numbers of the rows that meet a condition, whose columns are looked up once. Without one all are kept, and no
-/// number is noted.
-///
-/// # Errors
-/// `OutOfMemory`.
+/// Looks the condition's columns up once. Without a condition all rows are kept, and no number is noted.
 fn kept_numbers(
     alloc: Global,
     pool: &StringPool,
@@ -76,10 +69,7 @@ fn kept_numbers(
     }
 }
 
-/// The columns of the names, in the names' order, and where they stand; without names all columns, and no places.
-///
-/// # Errors
-/// `OutOfMemory`.
+/// Returns the columns in the names' order, and their places; without names all columns, and no places.
 fn picked_columns(
     alloc: Global,
     columns: &[Column],
@@ -97,10 +87,6 @@ fn picked_columns(
     Ok((kept, Some(Items::from_vec(places))))
 }
 
-/// What the clauses of a query keep of the rows of a table.
-///
-/// # Errors
-/// `InvalidInput` where a column that is selected, or one in the condition, isn't there; `OutOfMemory`.
 pub(crate) fn narrowed_rows<'a>(
     alloc: Global,
     pool: &'a StringPool,

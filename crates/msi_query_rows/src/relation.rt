@@ -41,7 +41,7 @@ impl Model for Relation {
 }
 
 impl Relation {
-    /// The relation of a name, columns and rows. The name is empty but for a whole table.
+    /// The name is empty unless the relation is a whole table.
     pub(crate) fn new(name: Text, columns: Items<Column>, rows: Vec<Items<ValueRef>>) -> Relation
         ensures { result ≡ record { name = name; columns = columns; rows = rows.items } }
     {
@@ -52,28 +52,24 @@ impl Relation {
         }
     }
 
-    /// The name.
     pub(crate) fn name(&self) -> &str
         ensures { result.now ≡ self.now.name }
     {
         self.name.as_str()
     }
 
-    /// The columns.
     pub(crate) fn columns(&self) -> &[Column]
         ensures { result.now ≡ self.now.columns }
     {
         self.columns.as_slice()
     }
 
-    /// The rows.
     pub(crate) fn rows(&self) -> &[Items<ValueRef>]
         ensures { result.now ≡ self.now.rows }
     {
         self.rows.as_slice()
     }
 
-    /// The name, the columns and the rows.
     pub(crate) fn into_parts(self) -> (Text, Items<Column>, Vec<Items<ValueRef>>)
         ensures name { result.0 ≡ self.name }
         ensures columns { result.1 ≡ self.columns }
@@ -87,10 +83,6 @@ impl Relation {
         (name, columns, rows)
     }
 
-    /// The rows as callers see them, over the pool of their texts. Each has a cell for each column.
-    ///
-    /// # Errors
-    /// `OutOfMemory`.
     pub(crate) fn into_rows<'a>(
         self,
         alloc: Global,

@@ -9,10 +9,6 @@ use msi_text_base::errors::Error;
 use msi_text_base::text::Items;
 use std::alloc::Global;
 
-/// One row behind another.
-///
-/// # Errors
-/// `OutOfMemory`.
 pub(crate) fn pair(
     alloc: Global,
     row: &[ValueRef],
@@ -27,10 +23,6 @@ pub(crate) fn pair(
     Ok(Items::from_vec(cells))
 }
 
-/// A row with so many nulls behind it.
-///
-/// # Errors
-/// `OutOfMemory`.
 pub(crate) fn with_nulls(
     alloc: Global,
     row: &[ValueRef],

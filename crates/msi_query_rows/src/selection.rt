@@ -47,10 +47,6 @@ pub trait Tables {
         ensures kind { IfErr result (λ kind. whole_table (table self.now) name.now ≡ Err kind) };
 }
 
-/// The columns of the table of a name. It takes no memory.
-///
-/// # Errors
-/// `NotFound` where there is none, `InvalidData` where it can't be read.
 fn columns_of<'a, T: Tables>(tables: &'a T, name: &str) -> Result<&'a [Column], Error>
     ensures ok { IfOk result (λ columns. columns_read (T.table tables.now) name.now ≡ Ok columns.now) }
     ensures kind { IfErr result (λ kind. columns_read (T.table tables.now) name.now ≡ Err kind) }
@@ -59,10 +55,6 @@ fn columns_of<'a, T: Tables>(tables: &'a T, name: &str) -> Result<&'a [Column], 
     Ok(stored.columns())
 }
 
-/// The whole table of a name.
-///
-/// # Errors
-/// `NotFound` where there is none, `InvalidData` where it can't be read; `OutOfMemory`.
 fn whole<T: Tables>(alloc: Global, tables: &T, name: &str) -> Result<Relation, Error>
     ensures ok { IfOk result (λ relation. whole_table (T.table tables.now) name.now ≡ Ok relation) }
     ensures wide { IfOk result (λ relation. AreAsWide relation.columns relation.rows) }
@@ -74,11 +66,6 @@ fn whole<T: Tables>(alloc: Global, tables: &T, name: &str) -> Result<Relation, E
     Ok(Relation::new(name.into_text(alloc)?, columns, rows))
 }
 
-/// What clauses keep of a join of two relations under a condition.
-///
-/// # Errors
-/// `InvalidInput` where a column isn't there: in the join's condition, then one that is selected, then in the
-/// clauses' condition; `OutOfMemory`.
 fn joined(
     alloc: Global,
     pool: &StringPool,
@@ -104,18 +91,14 @@ fn joined(
     selected(alloc, pool, clauses, whole)
 }
 
-/// Whether a query is over one table.
 fn is_table(tree: &SelectTree) -> bool
     ensures { result ≡ is_one_table (query_of tree.now) }
 {
     matches!(tree, SelectTree::Table { .. })
 }
 
-/// Refuses a query for its tables and their columns, before any row is read. It takes no memory. Behind a join the
-/// columns have other names, so what is refused there is left to `joined`.
-///
-/// # Errors
-/// `NotFound`, `InvalidData` or `InvalidInput` as the query is refused.
+/// Refuses a query for its tables and their columns, before any row is read. Behind a join the columns have other
+/// names, so what is refused there is left to `joined`.
 fn refuse_early<T: Tables>(tables: &T, tree: &SelectTree) -> Result<(), Error>
     ensures { result ≡ unless (early_refusal (columns_read (T.table tables.now)) (query_of tree.now)) tt }
 {
@@ -133,10 +116,6 @@ fn refuse_early<T: Tables>(tables: &T, tree: &SelectTree) -> Result<(), Error>
     }
 }
 
-/// What the tree of a query gives.
-///
-/// # Errors
-/// `NotFound`, `InvalidData` or `InvalidInput` as the query is refused; `OutOfMemory`.
 fn relation_of_tree<T: Tables>(
     alloc: Global,
     pool: &StringPool,
@@ -169,10 +148,7 @@ fn relation_of_tree<T: Tables>(
     }
 }
 
-/// The rows that a query for one table selects: they stay in the table's stream.
-///
-/// # Errors
-/// `NotFound`, `InvalidData` or `InvalidInput` as the query is refused; `OutOfMemory`.
+/// The rows stay in the table's stream.
 fn table_rows<'a, T: Tables>(
     alloc: Global,
     pool: &'a StringPool,
@@ -189,10 +165,6 @@ fn table_rows<'a, T: Tables>(
     narrowed_rows(alloc, pool, clauses, stored)
 }
 
-/// The rows that the tree of a query gives, made one beside the other.
-///
-/// # Errors
-/// `NotFound`, `InvalidData` or `InvalidInput` as the query is refused; `OutOfMemory`.
 fn tree_rows<'a, T: Tables>(
     alloc: Global,
     pool: &'a StringPool,

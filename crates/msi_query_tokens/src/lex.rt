@@ -18,7 +18,6 @@ enum Class {
 /// What a token is, and how many bytes it has.
 pub(crate) type Token = (Kind, usize);
 
-/// Whether a byte is of a class.
 fn is_in(class: Class, byte: u8) -> bool
     ensures { result ≡ spec.is_in class byte }
 {
@@ -30,7 +29,7 @@ fn is_in(class: Class, byte: u8) -> bool
     }
 }
 
-/// The byte at a place; 0 past the end.
+/// Returns 0 past the end.
 fn byte_at(text: &[u8], place: usize) -> u8
     ensures value { result ≡ slice_index text.now place }
     ensures within { result ≢ 0 → place < length text.now }
@@ -38,7 +37,7 @@ fn byte_at(text: &[u8], place: usize) -> u8
     if place < text.len() { text[place] } else { 0 }
 }
 
-/// The first place, from one on, whose byte isn't of the class.
+/// Returns the first place, from `start` on, whose byte isn't of the class.
 fn past(class: Class, text: &[u8], start: usize) -> usize
     requires { start ≤ length text.now }
     ensures value { result ≡ spec.past class text.now start }
@@ -51,14 +50,13 @@ fn past(class: Class, text: &[u8], start: usize) -> usize
     end
 }
 
-/// Whether two words differ at most in the case of their letters.
+/// Ignores the case of letters.
 fn same_word(word: &[u8], other: &[u8]) -> bool
     ensures { result ≡ str_eq_ignore_ascii_case word.now other.now }
 {
     word.eq_ignore_ascii_case(other)
 }
 
-/// The kind of a word: that of a key word, or else a name.
 fn word_kind(mut words: &[(&[u8], Kind)], word: &[u8]) -> Kind
     ensures { result ≡ spec.word_kind (map (λ k. (k.0.now, k.1)) words.entry.now) word.now }
 {
@@ -71,7 +69,6 @@ fn word_kind(mut words: &[(&[u8], Kind)], word: &[u8]) -> Kind
     Kind::Name
 }
 
-/// The kind of a key word in any case, or of a name.
 #[tactic(auto, unfolding(crate::specs::Tokens::kind_of_word))]
 pub(crate) fn kind_of_word(word: &[u8]) -> Kind
     ensures { result ≡ spec.kind_of_word word.now }
@@ -79,7 +76,6 @@ pub(crate) fn kind_of_word(word: &[u8]) -> Kind
     word_kind(&KEY_WORDS, word)
 }
 
-/// A name or a key word.
 fn word(text: &[u8]) -> Token
     requires { 0 < length text.now }
     ensures value { result ≡ spec.word text.now }
@@ -89,8 +85,8 @@ fn word(text: &[u8]) -> Token
     (kind_of_word(&text[..end]), end)
 }
 
-/// Whether a byte inside quotes takes the next one with it: a backslash in double quotes, and in others a doubled
-/// quote.
+/// Returns whether a byte inside quotes takes the next one with it: a backslash in double quotes, and in others a
+/// doubled quote.
 fn takes_next(quote: u8, byte: u8, next: u8) -> bool
     ensures { result ≡ spec.takes_next quote byte next }
 {
@@ -101,7 +97,7 @@ fn takes_next(quote: u8, byte: u8, next: u8) -> bool
     }
 }
 
-/// The place behind the closing quote, where the text begins behind the opening one at place 1.
+/// Returns the place behind the closing quote, where the text begins behind the opening one at place 1.
 fn closing(quote: u8, mut text: &[u8]) -> Option<usize>
     requires { length text.now < 2 ^ 63 }
     ensures value { result ≡ spec.closing quote false 1 text.entry.now }
@@ -121,7 +117,6 @@ fn closing(quote: u8, mut text: &[u8]) -> Option<usize>
     None
 }
 
-/// A token in quotes.
 fn quoted(kind: Kind, text: &[u8]) -> Token
     requires { 0 < length text.now }
     ensures value { result ≡ spec.quoted kind text.now }
@@ -133,7 +128,6 @@ fn quoted(kind: Kind, text: &[u8]) -> Token
     }
 }
 
-/// A token that begins with `<`.
 fn less(next: u8) -> Token
     ensures value { result ≡ spec.less next }
     ensures within { spec.IsShort next result.1 }
@@ -146,7 +140,6 @@ fn less(next: u8) -> Token
     }
 }
 
-/// A token that begins with `>`.
 fn greater(next: u8) -> Token
     ensures value { result ≡ spec.greater next }
     ensures within { spec.IsShort next result.1 }
@@ -158,7 +151,6 @@ fn greater(next: u8) -> Token
     }
 }
 
-/// The kind of a byte that is a token.
 fn mark(byte: u8) -> Kind
     ensures { result ≡ spec.mark byte }
 {
@@ -180,7 +172,6 @@ fn mark(byte: u8) -> Kind
     }
 }
 
-/// A token of one or two marks.
 fn marks(byte: u8, next: u8) -> Token
     ensures value { result ≡ spec.marks byte next }
     ensures within { spec.IsShort next result.1 }
@@ -193,7 +184,7 @@ fn marks(byte: u8, next: u8) -> Token
     }
 }
 
-/// The token at the front of a text that begins with no blank.
+/// Returns the first token of a text that begins with no blank.
 pub(crate) fn token(text: &[u8]) -> Token
     ensures value { result ≡ spec.token text.now }
     ensures within { result.1 ≤ length text.now }
@@ -217,7 +208,6 @@ pub(crate) fn token(text: &[u8]) -> Token
     }
 }
 
-/// The text from its first byte that is no blank.
 #[tactic(auto, unfolding(crate::specs::Tokens::skip_blanks))]
 pub(crate) fn skip_blanks(text: &[u8]) -> &[u8]
     ensures value { result.now ≡ spec.skip_blanks text.now }
@@ -226,7 +216,6 @@ pub(crate) fn skip_blanks(text: &[u8]) -> &[u8]
     &text[past(Class::Blank, text, 0)..]
 }
 
-/// Whether two kinds are the same.
 #[tactic(auto, unfolding(crate::specs::Tokens::same_kind))]
 pub(crate) fn same_kind(kind: Kind, other: Kind) -> bool
     ensures value { result ≡ spec.same_kind kind other }

@@ -9,14 +9,14 @@ use crate::token::Kind;
 use msi_text_categories::category::Category;
 use std::fmt;
 
-/// Whether a name is read as one where it stands as it is.
+/// Whether a name is read as a name when it is written as it is.
 fn is_plain_name(name: &str) -> bool
     ensures { result ≡ is_plain_name name.now }
 {
     Category::Identifier.validate(name) && same_kind(kind_of_word(name.as_bytes()), Kind::Name)
 }
 
-/// Writes a text with two back quotes for each that it has.
+/// Writes a text with each of its back quotes doubled.
 fn write_doubled<W: fmt::Write>(f: &mut fmt::Formatter<W>, text: &str) -> fmt::Result
     ensures { DisplaysOnOk W.write_str_gives f.old result (Some (doubled text.now)) f.new }
 {

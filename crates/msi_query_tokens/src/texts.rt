@@ -12,7 +12,6 @@ use msi_text_base::text::Text;
 use std::alloc::{AllocError, Global};
 use std::str;
 
-/// What stands between the first byte and the last.
 fn inside(token: &[u8]) -> &[u8]
     ensures { result.now ≡ spec.inside token.now }
 {
@@ -20,7 +19,6 @@ fn inside(token: &[u8]) -> &[u8]
     &rest[..rest.len().saturating_sub(1)]
 }
 
-/// The bytes of a quote in which a doubled quote stands for one.
 fn undoubled(alloc: Global, quote: u8, mut text: &[u8]) -> Result<Vec<u8>, AllocError>
     ensures { IfOk result (λ bytes. bytes.items ≡ spec.undoubled quote false text.entry.now) }
 {
@@ -55,7 +53,7 @@ pub(crate) enum Mode {
 /// More than the number of any character.
 const NO_CHARACTER: u32 = 0x11_0000;
 
-/// The value of a hexadecimal digit.
+/// Returns the value of a hexadecimal digit.
 fn digit_value(byte: u8) -> Option<u32>
     ensures value { result ≡ spec.digit_value byte }
     ensures within { IfSome result (λ digit. digit < 16) }
@@ -68,7 +66,6 @@ fn digit_value(byte: u8) -> Option<u32>
     }
 }
 
-/// What a number is with one more digit.
 #[tactic(auto, unfolding(crate::specs::Texts::with_digit))]
 fn with_digit(number: u32, byte: u8) -> Mode
     ensures { result ≡ spec.with_digit number byte }
@@ -80,7 +77,6 @@ fn with_digit(number: u32, byte: u8) -> Mode
     }
 }
 
-/// The byte that an escape of one letter stands for.
 #[tactic(auto, unfolding(crate::specs::Texts::escaped))]
 fn escaped(byte: u8) -> Option<u8>
     ensures { result ≡ spec.escaped byte }
@@ -95,7 +91,6 @@ fn escaped(byte: u8) -> Option<u8>
     }
 }
 
-/// Adds the character of a number.
 #[tactic(auto, unfolding(crate::specs::Texts::with_character))]
 fn push_character(bytes: &mut Vec<u8>, number: u32) -> Result<Mode, AllocError>
     ensures { IfOk result (λ mode. spec.with_character bytes.old.items number ≡ (mode, bytes.new.items)) }
@@ -108,7 +103,6 @@ fn push_character(bytes: &mut Vec<u8>, number: u32) -> Result<Mode, AllocError>
     Ok(Mode::Plain)
 }
 
-/// Reads a byte of a text in double quotes.
 #[tactic(auto, unfolding(crate::specs::Texts::unescape))]
 fn unescape(bytes: &mut Vec<u8>, mode: Mode, byte: u8) -> Result<Mode, AllocError>
     ensures { IfOk result (λ after. spec.unescape mode bytes.old.items byte ≡ (after, bytes.new.items)) }
@@ -135,7 +129,7 @@ fn unescape(bytes: &mut Vec<u8>, mode: Mode, byte: u8) -> Result<Mode, AllocErro
     }
 }
 
-/// The bytes of a text in double quotes; none where an escape isn't known.
+/// Returns the bytes of a text in double quotes, or None where an escape isn't known.
 #[tactic(auto, unfolding(crate::specs::Texts::unescaped))]
 fn unescaped(alloc: Global, mut text: &[u8]) -> Result<Option<Vec<u8>>, AllocError>
     ensures { IfOk result (λ found. option_map (λ bytes. bytes.items) found ≡ spec.unescaped text.entry.now) }
@@ -152,7 +146,6 @@ fn unescaped(alloc: Global, mut text: &[u8]) -> Result<Option<Vec<u8>>, AllocErr
     }
 }
 
-/// The bytes that a name or a text stands for; none where an escape isn't known.
 fn plain_bytes(alloc: Global, kind: Kind, token: &[u8]) -> Result<Option<Vec<u8>>, AllocError>
     ensures { IfOk result (λ found. option_map (λ bytes. bytes.items) found ≡ spec.plain_bytes kind token.now) }
 {
@@ -164,7 +157,6 @@ fn plain_bytes(alloc: Global, kind: Kind, token: &[u8]) -> Result<Option<Vec<u8>
     }
 }
 
-/// Whether bytes are UTF-8.
 #[tactic(auto, using(crate::proofs::Utf8Lemmas::not_utf8, crate::proofs::Utf8Lemmas::utf8))]
 fn is_utf8(bytes: &[u8]) -> bool
     ensures { result ≡ is_utf8 bytes.now }
@@ -175,7 +167,6 @@ fn is_utf8(bytes: &[u8]) -> bool
     }
 }
 
-/// The text of bytes in UTF-8.
 #[tactic(auto, using(crate::proofs::Utf8Lemmas::not_utf8))]
 fn utf8_text(bytes: Vec<u8>) -> Option<Text>
     ensures { result ≡ spec.utf8_text bytes.items }
@@ -212,7 +203,7 @@ pub fn text(alloc: Global, tokens: &mut Tokens<'_>) -> Result<Text, ParseError>
 /// More than any number of 32 bits.
 const NO_NUMBER: u64 = 2_147_483_649;
 
-/// The number of decimal digits, if it is below this one.
+/// Returns the number of decimal digits, at most `NO_NUMBER`.
 fn number_of(mut digits: &[u8]) -> u32
     ensures value { result ≡ spec.number_of digits.entry.now }
     ensures within { result ≤ 2147483649 }

@@ -29,14 +29,9 @@ const MOST_BYTES: usize = 1 << 31;
 /// The bytes that a stream may have in UTF-8 beyond four times its own. So values of a small stream may overlap.
 const MORE_BYTES: usize = 65_536;
 
-/// Checks that the values of these pairs are read, that no id is listed twice, and that the stream of the values in
-/// UTF-8 isn't too long (`most_size`). One text at a time is in memory, so that nothing is built of texts that many ids
-/// share, and the first that makes the stream too long is the last to be decoded.
-///
-/// # Errors
-/// Fails with `InvalidData` at the first value that isn't read or is listed twice, which it names, with `InvalidInput`
-/// at the first with which the stream has more than four times the bytes and 64 KiB, or more than 2^31 bytes, and
-/// otherwise with `OutOfMemory`.
+/// Keeps one text at a time in memory, so that nothing is built of texts that many ids share. Fails with `InvalidData`
+/// at the first value that isn't read or is listed twice, and with `InvalidInput` at the first that makes the stream in
+/// UTF-8 too long (`most_size`).
 pub(crate) fn check_values(
     alloc: Global,
     version: u16,
@@ -67,8 +62,8 @@ pub(crate) fn check_values(
     Ok(())
 }
 
-/// How many bytes the stream with these bytes may have in UTF-8. A byte of any page reads as at most three, so only
-/// values that overlap have more than four times as many.
+/// Returns how many bytes the stream with these bytes may have in UTF-8. A byte of any page reads as at most three, so
+/// only values that overlap have more than four times as many.
 fn most_size(bytes: &[u8]) -> usize
     ensures { result ≡ most_size (length bytes.now) }
 {
@@ -78,8 +73,7 @@ fn most_size(bytes: &[u8]) -> usize
     (4 * bytes.len() + MORE_BYTES).min(MOST_BYTES)
 }
 
-/// How many bytes the value whose bytes begin here has in UTF-8, with its padding. Its id is put among the earlier
-/// ones.
+/// Returns how many bytes the value has in UTF-8, with its padding, and puts its id among the earlier ones.
 fn count_value(
     alloc: Global,
     ids: &mut BTreeSet<u32>,
@@ -103,7 +97,7 @@ fn count_value(
     Ok(piece_len(id, &value))
 }
 
-/// How many bytes the value of a property has in UTF-8, with its padding to a multiple of four.
+/// Returns how many bytes the value has in UTF-8, padded to a multiple of four.
 fn piece_len(id: u32, value: &PropertyValue) -> usize
     ensures len { result ≡ length (piece_in page.Utf8 (in_utf8 id value.now)) }
     ensures below { result < 2 ^ 63 + 13 }
@@ -122,7 +116,7 @@ fn piece_len(id: u32, value: &PropertyValue) -> usize
     }
 }
 
-/// How many bytes a text has as a value: its type, its length, its bytes, a null, and the padding.
+/// Counts the type, the length, the bytes, a null, and the padding of a text.
 fn string_len(text: &str) -> usize
     ensures len { result ≡ length (piece_in page.Utf8 (PropertyValue.LpStr text.now)) }
     ensures below { result < 2 ^ 63 + 13 }

@@ -39,11 +39,8 @@ impl Model for PoolHead {
 }
 
 impl PoolHead {
-    /// Returns what the bytes say. Where they name page 0, the page is the one that is given.
-    ///
-    /// # Errors
-    /// Fails with `InvalidData` if an entry is cut, no page has the id, or there are more than 16777215 entries, and
-    /// otherwise with `OutOfMemory`.
+    /// Returns the page that is given where the bytes name page 0. Fails with `InvalidData` if an entry is cut, no page
+    /// has the id, or there are more than 16777215 entries.
     pub(crate) fn read(
         alloc: Global,
         given: Option<TextPage>,
@@ -66,21 +63,18 @@ impl PoolHead {
         })
     }
 
-    /// The page of the texts.
     pub(crate) fn page(&self) -> TextPage
         ensures { result ≡ self.now.page }
     {
         self.page
     }
 
-    /// Whether references are long.
     pub(crate) fn is_long(&self) -> bool
         ensures { result ≡ self.now.long }
     {
         self.long
     }
 
-    /// Each text's length and count.
     pub(crate) fn entries(&self) -> &Entries
         ensures { result.now ≡ self.now.entries }
     {
@@ -88,7 +82,7 @@ impl PoolHead {
     }
 }
 
-/// The page of a header, and whether references are long.
+/// Returns the page of a header, and whether references are long.
 fn page_of(given: Option<TextPage>, header: u32) -> Result<(TextPage, bool), Error>
     ensures { Gives (λ x. x) result (header_in given header) }
 {
@@ -98,7 +92,6 @@ fn page_of(given: Option<TextPage>, header: u32) -> Result<(TextPage, bool), Err
     Ok((known_page(given, header - LONG)?, true))
 }
 
-/// The page of an id.
 fn known_page(given: Option<TextPage>, id: u32) -> Result<TextPage, Error>
     requires { id < 2 ^ 31 }
     ensures { Gives (λ page. page) result (page_for given id) }

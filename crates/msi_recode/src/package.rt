@@ -78,7 +78,6 @@ pub fn recode_contents(
     })
 }
 
-/// The streams of a package with its pool and its summary in UTF-8.
 fn recode_streams(
     alloc: Global,
     given: Option<TextPage>,
@@ -107,7 +106,6 @@ impl Model for TextStreams {
     ghost view = { λ t. record { entries = t.entries.items; texts = t.texts.items; summary = t.summary.items } };
 }
 
-/// The three streams that have texts, in UTF-8.
 fn texts_recoded(
     alloc: Global,
     given: Option<TextPage>,
@@ -130,7 +128,6 @@ fn texts_recoded(
     })
 }
 
-/// The bytes of a stream.
 fn bytes_at<'a>(streams: &'a StreamMap, name: &Name, missing: Reason) -> Result<&'a [u8], Error>
     ensures ok { IfOk result (λ bytes. finite.get streams.now name.now ≡ Some bytes.now) }
     ensures missing { OnErr result (finite.get streams.now name.now ≡ None) }
@@ -142,7 +139,6 @@ fn bytes_at<'a>(streams: &'a StreamMap, name: &Name, missing: Reason) -> Result<
     }
 }
 
-/// These three streams in their places among others.
 fn with_texts(streams: StreamMap, these: TextStreams) -> Result<StreamMap, Error>
     ensures ok { IfOk result (λ after. after ≡ with_text_streams these streams) }
     ensures kind { OnlyMemory result }

@@ -32,7 +32,7 @@ impl TextPage {
     }
 }
 
-/// The page of an id. For 0, which names none, it is the one that is given.
+/// Returns the page of an id, and the given one for 0, which names no page.
 pub(crate) fn page_for(given: Option<TextPage>, id: u32) -> Option<TextPage>
     requires { id < 2 ^ 31 }
     ensures { result ≡ page_for given id }
@@ -43,7 +43,6 @@ pub(crate) fn page_for(given: Option<TextPage>, id: u32) -> Option<TextPage>
     }
 }
 
-/// The page of an id, and for 0 this one.
 fn page_unless_named(page: TextPage, id: u32) -> Option<TextPage>
     requires { id < 2 ^ 31 }
     ensures { result ≡ page_for (Some page) id }

@@ -68,7 +68,6 @@ pub fn recode_pool(
 }
 
 impl RecodedPool {
-    /// The streams of a pool without places.
     fn start(alloc: Global, is_long: bool) -> Result<RecodedPool, AllocError>
         ensures entries { IfOk result (λ pool. pool.entries.items ≡ header_of 65001 is_long) }
         ensures texts { IfOk result (λ pool. pool.texts.items ≡ []) }
@@ -81,7 +80,6 @@ impl RecodedPool {
         })
     }
 
-    /// Puts the places whose texts the bytes encode behind the others.
     fn push_places(
         &mut self,
         alloc: Global,
@@ -104,7 +102,7 @@ impl RecodedPool {
         Ok(())
     }
 
-    /// Puts the place whose text stands in front behind the others, and returns the bytes after the text.
+    /// Appends the place whose text is in front, and returns the bytes after the text.
     fn push_place<'a>(
         &mut self,
         alloc: Global,
@@ -132,7 +130,7 @@ impl RecodedPool {
     }
 }
 
-/// Whether no entry can have a text's length.
+/// Whether no entry can hold a text's length.
 fn is_long(len: usize, count: u16) -> bool
     ensures { result ≡ is_long (record { len = len; count = count }) }
 {
@@ -140,7 +138,7 @@ fn is_long(len: usize, count: u16) -> bool
     len >= end
 }
 
-/// Appends an entry: one of two forms. A text in use that is empty or has more than 65535 bytes has the long one.
+/// Appends an entry. A text in use that is empty or has more than 65535 bytes takes the long form.
 fn push_entry(held: &mut Vec<u8>, len: usize, count: u16) -> Result<(), AllocError>
     requires { is_long (record { len = len; count = count }) ≡ false }
     ensures { OnOk result (held.new.items ≡ held.old.items ++ plain_entry (record { len = len; count = count })) }

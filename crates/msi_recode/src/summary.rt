@@ -59,7 +59,6 @@ pub fn recode_summary(
     Ok(stream_of(&set)?)
 }
 
-/// The set that the bytes have, in UTF-8.
 fn set_in_utf8(
     alloc: Global,
     given: Option<TextPage>,
@@ -88,7 +87,7 @@ fn set_in_utf8(
     Ok(set)
 }
 
-/// The bytes from a place of a section on, and none past the end.
+/// Returns the bytes from a place of a section on, and none past the end.
 pub(crate) fn rest_from(bytes: &[u8], section: u32, place: u32) -> &[u8]
     ensures { result.now ≡ drop (section + place) bytes.now }
 {
@@ -99,7 +98,7 @@ pub(crate) fn rest_from(bytes: &[u8], section: u32, place: u32) -> &[u8]
     &bytes[start..]
 }
 
-/// Where the value of property 1 stands in the section, if it is listed.
+/// Returns where the value of property 1 is in the section, if it is listed.
 fn place_of_page(pairs: &[(u32, u32)]) -> Option<u32>
     ensures { result ≡ entry_where (λ k. k == 1) pairs.now }
 {
@@ -111,7 +110,6 @@ fn place_of_page(pairs: &[(u32, u32)]) -> Option<u32>
     None
 }
 
-/// The page that the texts are read in.
 fn page_of_texts(
     alloc: Global,
     given: Option<TextPage>,
@@ -141,7 +139,6 @@ fn page_of_texts(
     }
 }
 
-/// The page that the value of property 1 names.
 fn page_from(given: Option<TextPage>, value: &PropertyValue) -> Option<TextPage>
     ensures { result ≡ page_named given (Some value.now) }
 {
@@ -151,7 +148,6 @@ fn page_from(given: Option<TextPage>, value: &PropertyValue) -> Option<TextPage>
     }
 }
 
-/// Puts the values of these pairs into a set without values.
 fn put_values(
     alloc: Global,
     set: &mut PropertySet,
@@ -193,7 +189,6 @@ fn put_value(
     put_new(set, id, value)
 }
 
-/// Puts a value in UTF-8 into a set that has none of this id.
 fn put_new(set: &mut PropertySet, id: u32, value: PropertyValue) -> Result<(), Error>
     ensures new { OnOk result (value_with_id id set.old.values ≡ None) }
     ensures ok { OnOk result (set.new ≡ with_value id (in_utf8 id value) set.old) }
@@ -209,7 +204,6 @@ fn put_new(set: &mut PropertySet, id: u32, value: PropertyValue) -> Result<(), E
     put(set, id, value)
 }
 
-/// The value whose bytes begin here, in a set of this version, with a text that is read in the reader's page.
 #[tactic(auto, unfolding(crate::specs::SummaryReading::value_in))]
 pub(crate) fn value_in(
     alloc: Global,
@@ -227,7 +221,6 @@ pub(crate) fn value_in(
     Ok(PropertyValue::LpStr(PropertyText::from_text(Text::from_string(text))))
 }
 
-/// Whether a value is a text.
 fn is_text(value: &PropertyValue) -> bool
     ensures { result ≡ is_text value.now }
 {
@@ -237,7 +230,7 @@ fn is_text(value: &PropertyValue) -> bool
     }
 }
 
-/// The bytes of the text that stands here behind the number of its type and its length.
+/// Returns the bytes of the text behind the number of its type and its length.
 #[tactic(auto, unfolding(crate::specs::SummaryReading::piece_at))]
 fn piece_at(bytes: &[u8]) -> Result<&[u8], Error>
     ensures { Gives (λ piece. piece.now) result (piece_at bytes.now) }

@@ -18,7 +18,6 @@ use msi_text_base::errors::{Error, ErrorKind};
 use msi_text_base::text::Items;
 use std::alloc::Global;
 
-/// The result of a change.
 pub(crate) fn done(outcome: Result<(), Error>) -> Result<Answer, ErrorKind>
     ensures { told answer_told result ≡ told (λ _. calls.done) outcome }
 {
@@ -28,7 +27,6 @@ pub(crate) fn done(outcome: Result<(), Error>) -> Result<Answer, ErrorKind>
     }
 }
 
-/// Changes a package.
 fn changed(target: &mut Package<Memory>, change: Change) -> Result<(), Error>
     ensures { Takes target.old (change_sent change) (told (λ _. calls.done) result) target.new }
 {
@@ -46,7 +44,6 @@ fn changed(target: &mut Package<Memory>, change: Change) -> Result<(), Error>
     }
 }
 
-/// Counts the cells of a package anew, and returns the result.
 pub(crate) fn recount(target: &mut Package<Memory>) -> Result<Answer, ErrorKind>
     ensures { Takes target.old calls.recount (told answer_told result) target.new }
 {
@@ -56,17 +53,12 @@ pub(crate) fn recount(target: &mut Package<Memory>) -> Result<Answer, ErrorKind>
     }
 }
 
-/// Changes a package, and returns the result.
 pub(crate) fn change(target: &mut Package<Memory>, change: Change) -> Result<Answer, ErrorKind>
     ensures { Takes target.old (change_sent change) (told answer_told result) target.new }
 {
     done(changed(target, change))
 }
 
-/// Makes calls on the summary of a package.
-///
-/// # Errors
-/// `OutOfMemory` if there is no memory for a result.
 pub(crate) fn change_summary(
     alloc: Global,
     target: &mut Package<Memory>,

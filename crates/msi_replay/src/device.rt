@@ -12,7 +12,6 @@ use msi_container_device::Memory;
 use msi_text_base::errors::ErrorKind;
 use msi_text_base::text::Items;
 
-/// Writes a package to its device.
 pub(crate) fn flush(target: &mut Package<Memory>) -> Result<Answer, ErrorKind>
     requires { Tells target.old }
     ensures step { SessionStep (session_at target.old) calls.flush (told answer_told result)
@@ -22,7 +21,7 @@ pub(crate) fn flush(target: &mut Package<Memory>) -> Result<Answer, ErrorKind>
     done(target.flush())
 }
 
-/// The bytes that a flush would write over so many.
+/// Returns the bytes that a flush would write over `earlier_len` bytes.
 pub(crate) fn image(target: &Package<Memory>, earlier_len: u64) -> Result<Answer, ErrorKind>
     ensures { Takes target.now (calls.image earlier_len) (told answer_told result) target.now }
 {

@@ -23,10 +23,6 @@ use msi_text_base::errors::{Error, ErrorKind};
 use msi_text_base::text::Items;
 use std::alloc::Global;
 
-/// The table once more, where there is one.
-///
-/// # Errors
-/// `OutOfMemory`.
 fn copied_table(alloc: Global, table: Option<&Table>) -> Result<Option<Table>, Error>
     ensures ok { IfOk result (λ copy. copy ≡ option_copied table.entry) }
     ensures kind { OnlyMemory result }
@@ -37,10 +33,6 @@ fn copied_table(alloc: Global, table: Option<&Table>) -> Result<Option<Table>, E
     }
 }
 
-/// The tables once more, in order.
-///
-/// # Errors
-/// `OutOfMemory`.
 fn copied_tables(alloc: Global, tables: &[Table]) -> Result<Items<Table>, Error>
     ensures ok { IfOk result (λ copies. copies ≡ tables.now) }
     ensures kind { OnlyMemory result }
@@ -52,10 +44,6 @@ fn copied_tables(alloc: Global, tables: &[Table]) -> Result<Items<Table>, Error>
     Ok(Items::from_vec(copies))
 }
 
-/// The columns once more, in order.
-///
-/// # Errors
-/// `OutOfMemory`.
 fn copied_columns(alloc: Global, columns: &[Column]) -> Result<Items<Column>, Error>
     ensures ok { IfOk result (λ copies. copies ≡ columns.now) }
     ensures kind { OnlyMemory result }
@@ -67,10 +55,6 @@ fn copied_columns(alloc: Global, columns: &[Column]) -> Result<Items<Column>, Er
     Ok(Items::from_vec(copies))
 }
 
-/// All rows, in order.
-///
-/// # Errors
-/// `OutOfMemory`.
 fn all_rows(alloc: Global, rows: Rows<'_>) -> Result<Items<Row>, Error>
     ensures ok { IfOk result (λ all.
         map (λ (row : RowDef). row.values) all ≡ rows_values rows.entry.places rows.entry.rows) }
@@ -83,10 +67,6 @@ fn all_rows(alloc: Global, rows: Rows<'_>) -> Result<Items<Row>, Error>
     Ok(Items::from_vec(all))
 }
 
-/// Looks at a package.
-///
-/// # Errors
-/// `OutOfMemory` if there is no memory for the result.
 pub(crate) fn look_up(
     alloc: Global,
     target: &Package<Memory>,
@@ -117,10 +97,6 @@ pub(crate) fn look_up(
     }
 }
 
-/// Asks what a query selects.
-///
-/// # Errors
-/// `OutOfMemory` if there is no memory for the result.
 pub(crate) fn select(
     alloc: Global,
     target: &Package<Memory>,
@@ -140,10 +116,6 @@ pub(crate) fn select(
     }
 }
 
-/// Asks the summary of a package.
-///
-/// # Errors
-/// `OutOfMemory` if there is no memory for a result.
 pub(crate) fn ask_summary(
     alloc: Global,
     target: &Package<Memory>,

@@ -37,10 +37,6 @@ pub struct Replayed {
     pub is_writable: bool,
 }
 
-/// Carries out a call on a package.
-///
-/// # Errors
-/// `OutOfMemory` if there is no memory for a result.
 fn carry_out(
     alloc: Global,
     target: &mut Package<Memory>,
@@ -68,10 +64,6 @@ fn carry_out(
     }
 }
 
-/// Carries out calls on a package, one after another.
-///
-/// # Errors
-/// `OutOfMemory` if there is no memory for a result.
 fn carry_out_all(
     alloc: Global,
     target: &mut Package<Memory>,
@@ -91,17 +83,12 @@ fn carry_out_all(
     Ok(Items::from_vec(answers))
 }
 
-/// A device in memory without bytes.
 fn empty_device(alloc: Global) -> Memory
     ensures { bytes_told (Some result.held) ≡ Some [] }
 {
     Memory::from_vec(Vec::new(alloc))
 }
 
-/// Carries out calls on a package, one after another, flushes it, and hands out the bytes of its device.
-///
-/// # Errors
-/// Those of the flush; `OutOfMemory` if there is no memory for a result.
 fn carry_out_to_end(
     alloc: Global,
     mut target: Package<Memory>,

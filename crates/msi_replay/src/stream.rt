@@ -20,7 +20,6 @@ use std::alloc::Global;
 use std::io;
 use std::io::{Read, Seek, SeekFrom, Write};
 
-/// The result of a seek.
 fn place(outcome: io::Result<u64>) -> Result<StreamAnswer, ErrorKind>
     ensures { told stream_answer result ≡ told calls.place_is (faults.told outcome) }
 {
@@ -30,10 +29,6 @@ fn place(outcome: io::Result<u64>) -> Result<StreamAnswer, ErrorKind>
     }
 }
 
-/// Reads into a buffer of so many bytes.
-///
-/// # Errors
-/// `OutOfMemory` where the buffer can't be made.
 fn read(alloc: Global, reader: &mut StreamReader<'_>, count: usize) -> Result<Items<u8>, Error>
     ensures ok { IfOk result (λ bytes. bytes ≡ piece_read reader.old count) }
     ensures after { OnOk result (reader.new ≡ after_read reader.old count) }
@@ -45,7 +40,6 @@ fn read(alloc: Global, reader: &mut StreamReader<'_>, count: usize) -> Result<It
     Ok(Items::from_vec(bytes))
 }
 
-/// Goes to a place of a stream that is read.
 fn seek_reader(reader: &mut StreamReader<'_>, to: SeekFrom) -> Result<StreamAnswer, ErrorKind>
     ensures { sought (lent_cursor reader.old) (seek_sent to)
         ≡ (told stream_answer result, lent_cursor reader.new) }
@@ -53,10 +47,6 @@ fn seek_reader(reader: &mut StreamReader<'_>, to: SeekFrom) -> Result<StreamAnsw
     place(reader.seek(to))
 }
 
-/// Carries out a call on a reader.
-///
-/// # Errors
-/// `OutOfMemory` where what is read has no room.
 fn carry_out_on_reader(
     alloc: Global,
     reader: &mut StreamReader<'_>,
@@ -75,10 +65,6 @@ fn carry_out_on_reader(
     }
 }
 
-/// Carries out calls on a reader, one after another.
-///
-/// # Errors
-/// `OutOfMemory` if there is no memory for a result.
 pub(crate) fn read_all(
     alloc: Global,
     reader: &mut StreamReader<'_>,
@@ -95,7 +81,6 @@ pub(crate) fn read_all(
     Ok(Items::from_vec(answers))
 }
 
-/// Goes to a place of a stream that is written.
 fn seek_writer(writer: StreamWriter<'_>, to: SeekFrom) -> Result<StreamAnswer, ErrorKind>
     ensures { sought (lent_cursor writer.old) (seek_sent to)
         ≡ (told stream_answer result, lent_cursor writer.new) }
@@ -103,7 +88,6 @@ fn seek_writer(writer: StreamWriter<'_>, to: SeekFrom) -> Result<StreamAnswer, E
     place(writer.seek(to))
 }
 
-/// Writes a piece, and returns how many bytes were taken.
 fn write(writer: StreamWriter<'_>, piece: &[u8]) -> Result<StreamAnswer, ErrorKind>
     ensures { let old = lent_cursor writer.old in
         Gives (writer_outcome old (calls.write piece.now)) true old (told stream_answer result)
@@ -115,7 +99,6 @@ fn write(writer: StreamWriter<'_>, piece: &[u8]) -> Result<StreamAnswer, ErrorKi
     }
 }
 
-/// Hands on what was written.
 fn flush(writer: StreamWriter<'_>) -> Result<StreamAnswer, ErrorKind>
     ensures answer { told stream_answer result ≡ Ok calls.done }
     ensures same { writer.new ≡ writer.old }
@@ -126,7 +109,6 @@ fn flush(writer: StreamWriter<'_>) -> Result<StreamAnswer, ErrorKind>
     }
 }
 
-/// Carries out a call on a writer.
 fn carry_out_on_writer(
     writer: StreamWriter<'_>,
     call: WriterCall,
@@ -142,10 +124,6 @@ fn carry_out_on_writer(
     }
 }
 
-/// Carries out calls on a writer, one after another.
-///
-/// # Errors
-/// `OutOfMemory` if there is no memory for a result.
 pub(crate) fn write_all(
     alloc: Global,
     writer: StreamWriter<'_>,

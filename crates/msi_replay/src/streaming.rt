@@ -18,10 +18,6 @@ use msi_text_base::errors::{Error, ErrorKind};
 use msi_text_base::text::{Items, Text};
 use std::alloc::Global;
 
-/// All names, in order.
-///
-/// # Errors
-/// `OutOfMemory`.
 pub(crate) fn all_names(alloc: Global, names: Streams<'_>) -> Result<Items<Text>, Error>
     ensures ok { IfOk result (λ all. all ≡ names.entry) }
     ensures kind { OnlyMemory result }
@@ -33,10 +29,6 @@ pub(crate) fn all_names(alloc: Global, names: Streams<'_>) -> Result<Items<Text>
     Ok(Items::from_vec(all))
 }
 
-/// Makes calls on the writer of a stream.
-///
-/// # Errors
-/// `OutOfMemory` if there is no memory for a result.
 pub(crate) fn write_stream(
     alloc: Global,
     target: &mut Package<Memory>,
@@ -57,10 +49,6 @@ pub(crate) fn write_stream(
     }
 }
 
-/// Makes calls on the reader of a stream.
-///
-/// # Errors
-/// `OutOfMemory` if there is no memory for a result.
 pub(crate) fn read_stream(
     alloc: Global,
     target: &Package<Memory>,

@@ -28,7 +28,6 @@ use msi_text_base::errors::{Error, ErrorKind};
 use msi_text_base::text::{IntoText, Items, Text};
 use std::alloc::Global;
 
-/// A text of a summary.
 fn text(summary: &SummaryInfo, property: TextProperty) -> Option<&str>
     ensures { option_copied result ≡ text_with_id (text_id (text_named property)) summary.now }
 {
@@ -42,7 +41,6 @@ fn text(summary: &SummaryInfo, property: TextProperty) -> Option<&str>
     }
 }
 
-/// A number of a summary.
 fn number(summary: &SummaryInfo, property: NumberProperty) -> Option<i32>
     ensures { result ≡ number_with_id (number_id (number_named property)) summary.now }
 {
@@ -54,7 +52,6 @@ fn number(summary: &SummaryInfo, property: NumberProperty) -> Option<i32>
     }
 }
 
-/// A time of a summary.
 fn time(summary: &SummaryInfo, property: TimeProperty) -> Option<Timestamp>
     ensures { result ≡ time_with_id (time_id (time_named property)) summary.now }
 {
@@ -65,10 +62,6 @@ fn time(summary: &SummaryInfo, property: TimeProperty) -> Option<Timestamp>
     }
 }
 
-/// The text once more, where there is one.
-///
-/// # Errors
-/// `OutOfMemory`.
 fn copied(alloc: Global, text: Option<&str>) -> Result<Option<Text>, Error>
     ensures ok { IfOk result (λ copy. copy ≡ option_copied text.entry) }
     ensures kind { OnlyMemory result }
@@ -79,7 +72,6 @@ fn copied(alloc: Global, text: Option<&str>) -> Result<Option<Text>, Error>
     }
 }
 
-/// The languages of a summary.
 fn languages(summary: &SummaryInfo) -> Result<SummaryAnswer, ErrorKind>
     ensures ok { IfOk result (λ said. summary_answer said ≡ said_of summary.now calls.languages) }
     ensures kind { OnlyMemory result }
@@ -90,7 +82,6 @@ fn languages(summary: &SummaryInfo) -> Result<SummaryAnswer, ErrorKind>
     }
 }
 
-/// The keywords of a summary.
 fn keywords(summary: &SummaryInfo) -> Result<SummaryAnswer, ErrorKind>
     ensures ok { IfOk result (λ said. summary_answer said ≡ said_of summary.now calls.keywords) }
     ensures kind { OnlyMemory result }
@@ -101,10 +92,6 @@ fn keywords(summary: &SummaryInfo) -> Result<SummaryAnswer, ErrorKind>
     }
 }
 
-/// The result of a call on a summary.
-///
-/// # Errors
-/// `OutOfMemory` if there is no memory for the result.
 fn said(
     alloc: Global,
     summary: &SummaryInfo,
@@ -136,10 +123,6 @@ fn said(
     }
 }
 
-/// Asks a summary.
-///
-/// # Errors
-/// `OutOfMemory` if there is no memory for the result.
 fn ask(
     alloc: Global,
     summary: &SummaryInfo,
@@ -153,10 +136,6 @@ fn ask(
     said(alloc, summary, question)
 }
 
-/// Sets a text of a summary.
-///
-/// # Errors
-/// `OutOfMemory`; then the summary is as before.
 fn set_text(summary: &mut SummaryInfo, property: TextProperty, text: Text) -> Result<(), Error>
     ensures ok { OnOk result (summary.new ≡ with_text (text_id (text_named property)) text summary.old) }
     ensures kind { OnlyMemory result }
@@ -173,10 +152,6 @@ fn set_text(summary: &mut SummaryInfo, property: TextProperty, text: Text) -> Re
     }
 }
 
-/// Sets a number of a summary.
-///
-/// # Errors
-/// `OutOfMemory`; then the summary is as before.
 fn set_number(summary: &mut SummaryInfo, property: NumberProperty, number: i32) -> Result<(), Error>
     ensures ok { OnOk result (summary.new ≡ with_number (number_id (number_named property)) number summary.old) }
     ensures kind { OnlyMemory result }
@@ -191,10 +166,6 @@ fn set_number(summary: &mut SummaryInfo, property: NumberProperty, number: i32) 
     }
 }
 
-/// Sets a time of a summary.
-///
-/// # Errors
-/// `OutOfMemory`; then the summary is as before.
 fn set_time(summary: &mut SummaryInfo, property: TimeProperty, time: Timestamp) -> Result<(), Error>
     ensures ok { OnOk result (summary.new ≡ with_time (time_id (time_named property)) time summary.old) }
     ensures kind { OnlyMemory result }
@@ -207,10 +178,7 @@ fn set_time(summary: &mut SummaryInfo, property: TimeProperty, time: Timestamp) 
     }
 }
 
-/// Sets a property of a summary.
-///
-/// # Errors
-/// `OutOfMemory`; then the summary is as before.
+/// If it fails, the summary is as before.
 fn set(summary: &mut SummaryInfo, setting: Setting) -> Result<(), Error>
     ensures ok { OnOk result (summary.new ≡ summary_after summary.old (setting_sent setting)) }
     ensures kind { OnlyMemory result }
@@ -229,7 +197,6 @@ fn set(summary: &mut SummaryInfo, setting: Setting) -> Result<(), Error>
     }
 }
 
-/// Clears a text of a summary.
 fn clear_text(summary: &mut SummaryInfo, property: TextProperty)
     ensures { summary.new ≡ without_value (text_id (text_named property)) summary.old }
 {
@@ -243,7 +210,6 @@ fn clear_text(summary: &mut SummaryInfo, property: TextProperty)
     }
 }
 
-/// Clears a number of a summary.
 fn clear_number(summary: &mut SummaryInfo, property: NumberProperty)
     ensures { summary.new ≡ without_value (number_id (number_named property)) summary.old }
 {
@@ -255,7 +221,6 @@ fn clear_number(summary: &mut SummaryInfo, property: NumberProperty)
     }
 }
 
-/// Clears a time of a summary.
 fn clear_time(summary: &mut SummaryInfo, property: TimeProperty)
     ensures { summary.new ≡ without_value (time_id (time_named property)) summary.old }
 {
@@ -266,10 +231,7 @@ fn clear_time(summary: &mut SummaryInfo, property: TimeProperty)
     }
 }
 
-/// Clears a property of a summary.
-///
-/// # Errors
-/// `OutOfMemory` where the property is set to an empty one; then the summary is as before.
+/// Fails with `OutOfMemory` where the property is set to an empty one; then the summary is as before.
 fn clear(summary: &mut SummaryInfo, clearing: Clearing) -> Result<(), Error>
     ensures ok { OnOk result (summary.new ≡ summary_cleared summary.old (clearing_sent clearing)) }
     ensures kind { IfErr result (λ kind. IsTrue (is_set_empty (clearing_sent clearing)) × (kind ≡ OutOfMemory)) }
@@ -298,7 +260,6 @@ fn clear(summary: &mut SummaryInfo, clearing: Clearing) -> Result<(), Error>
     }
 }
 
-/// The result of a change.
 fn done(outcome: Result<(), Error>) -> Result<SummaryAnswer, ErrorKind>
     ensures { told summary_answer result ≡ told (λ _. calls.done) outcome }
 {
@@ -308,10 +269,6 @@ fn done(outcome: Result<(), Error>) -> Result<SummaryAnswer, ErrorKind>
     }
 }
 
-/// Carries out a call on a summary.
-///
-/// # Errors
-/// `OutOfMemory` if there is no memory for a result.
 fn carry_out(
     alloc: Global,
     summary: &mut SummaryInfo,
@@ -330,10 +287,6 @@ fn carry_out(
     }
 }
 
-/// Asks a summary, question by question.
-///
-/// # Errors
-/// `OutOfMemory` if there is no memory for a result.
 pub(crate) fn ask_all(
     alloc: Global,
     summary: &SummaryInfo,
@@ -350,10 +303,6 @@ pub(crate) fn ask_all(
     Ok(Items::from_vec(answers))
 }
 
-/// Carries out calls on a summary, one after another.
-///
-/// # Errors
-/// `OutOfMemory` if there is no memory for a result.
 pub(crate) fn carry_out_all(
     alloc: Global,
     summary: &mut SummaryInfo,
@@ -371,7 +320,6 @@ pub(crate) fn carry_out_all(
     Ok(Items::from_vec(answers))
 }
 
-/// Drops a setting. Its number fits its type.
 fn discard_setting(setting: Setting)
     ensures { FitsSummaryCall (setting_sent setting) }
 {
@@ -387,7 +335,6 @@ fn discard_setting(setting: Setting)
     }
 }
 
-/// Drops a call. Its number fits its type.
 fn discard(step: SummaryCall)
     ensures { FitsSummaryCall (summary_call_sent step) }
 {

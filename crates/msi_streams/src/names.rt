@@ -74,7 +74,6 @@ impl<'a> Iterator for Streams<'a> {
     }
 }
 
-/// The next name that is listed, if one is left.
 fn next_listed<'a>(entries: &mut btree_map::Iter<'a, Name, Bytes>) -> Option<&'a Name>
     ensures { MatchOption result
         ((filter is_listed_name (keys_of entries.old) ≡ []) × (entries.new ≡ []))
@@ -95,7 +94,7 @@ pub fn is_listed(name: &Name) -> bool
     !(is_marked(name) || is_special(name))
 }
 
-/// Whether a container's name has the mark of a table in front.
+/// Whether a container's name begins with the mark of a table.
 fn is_marked(name: &Name) -> bool
     ensures { result ≡ is_marked_name name.now }
 {
@@ -112,17 +111,12 @@ fn is_special(name: &Name) -> bool
         || is_same(name, &signature_ex_key())
 }
 
-/// Whether two names have the same units.
 fn is_same(name: &Name, other: &Name) -> bool
     ensures { result ≡ bytes_eq name.now other.now }
 {
     name.units() == other.units()
 }
 
-/// The text that a container's name stands for.
-///
-/// # Errors
-/// `OutOfMemory`.
 fn text_of(alloc: Global, name: &Name) -> Result<String, Error>
     ensures ok { IfOk result (λ text. string_bytes text ≡ text_of_key name.now) }
     ensures kind { OnlyMemory result }

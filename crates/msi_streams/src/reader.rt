@@ -51,9 +51,6 @@ impl Read for StreamReader<'_> {
     ghost remaining = { λ r. Some (bytes_ahead r) };
 
     /// Fills the buffer, or reads all that is left where that is less.
-    ///
-    /// # Errors
-    /// None.
     fn read(&mut self, buf: &mut [u8]) -> io::Result<usize>
         ensures bound { ReadsAtMost result buf.new }
         ensures bytes { ReadConsumes (Some (bytes_ahead self.old)) (Some (bytes_ahead self.new)) result buf.new }
@@ -75,10 +72,8 @@ impl Seek for StreamReader<'_> {
 
     ghost stream_bytes = { λ r. Some r.bytes };
 
-    /// Goes to a position and returns it, counted from the first byte.
-    ///
-    /// # Errors
-    /// `InvalidInput` for a place before the first byte and for one past the end; then the place is as it was.
+    /// Fails with `InvalidInput` for a place before the first byte and for one past the end; then the place is as it
+    /// was.
     fn seek(&mut self, to: SeekFrom) -> io::Result<u64>
         ensures moves { SeekMoves (Some self.old.place) (Some self.new.place) (Some self.old.bytes) to result }
         ensures bytes { Keeps (Some self.old.bytes) (Some self.new.bytes) }

@@ -28,10 +28,8 @@ use msi_text_pool::stringpool::StringPool;
 use std::alloc::Global;
 use std::vec::IntoIter;
 
-/// The summary's stream, where it is to be written.
-///
-/// # Errors
-/// `InvalidInput` where the summary's page doesn't carry a text. Else `OutOfMemory`.
+/// Returns the summary's stream where it has to be written. Fails with `InvalidInput` where the summary's page doesn't
+/// carry a text.
 fn renewed_summary(
     alloc: Global,
     summary: &SummaryInfo,
@@ -50,10 +48,8 @@ fn renewed_summary(
     Ok(Vec::from_array(alloc, [(summary_key(), bytes)])?)
 }
 
-/// Adds the pool's two streams, that of the texts first.
-///
-/// # Errors
-/// `InvalidInput` where the database's page doesn't carry a text. Else `OutOfMemory`.
+/// Adds the pool's two streams, that of the texts first. Fails with `InvalidInput` where the database's page doesn't
+/// carry a text.
 fn add_pool(pool: &StringPool, renewed: &mut Vec<(Name, Bytes)>) -> Result<(), Error>
     ensures ok { OnOk result ((streams : Streams)
         → pool_put (unindexed pool.now) (with_renewed renewed.old.items streams)

@@ -8,10 +8,7 @@ use crate::reasons;
 use std::io;
 use std::io::SeekFrom;
 
-/// The place that a seek goes to, in these bytes and from this place.
-///
-/// # Errors
-/// `InvalidInput` for a place before the first byte and for one past the end.
+/// Fails with `InvalidInput` for a place before the first byte and for one past the end.
 pub(crate) fn seek_place(bytes: &[u8], place: usize, to: SeekFrom) -> io::Result<u64>
     ensures place { told result ≡ (sought (record { bytes = bytes.now; place = place }) to).0 }
     ensures within { IfOk result (λ n. n ≤ length bytes.now) }

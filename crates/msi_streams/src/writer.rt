@@ -86,10 +86,8 @@ impl OpenStream {
 }
 
 impl Write for OpenStream {
-    /// Writes the whole piece over the bytes from the place on and past the end, and goes behind it.
-    ///
-    /// # Errors
-    /// `OutOfMemory`; then nothing is written.
+    /// Writes the whole piece over the bytes from the place on and past the end, and goes behind it. If it fails,
+    /// nothing is written.
     fn write(&mut self, piece: &[u8]) -> io::Result<usize>
         ensures bound { WritesAtMost result piece.now }
         ensures bytes { WriteAppends None None result piece.now }
@@ -105,10 +103,6 @@ impl Write for OpenStream {
         Ok(piece.len())
     }
 
-    /// Does nothing.
-    ///
-    /// # Errors
-    /// None.
     fn flush(&mut self) -> io::Result<()>
         ensures bytes { Keeps None None }
         ensures ok { IsOk result }
@@ -123,10 +117,8 @@ impl Seek for OpenStream {
 
     ghost stream_bytes = { λ s. Some s.bytes };
 
-    /// Goes to a position and returns it, counted from the first byte.
-    ///
-    /// # Errors
-    /// `InvalidInput` for a place before the first byte and for one past the end; then the place is as it was.
+    /// Fails with `InvalidInput` for a place before the first byte and for one past the end; then the place is as it
+    /// was.
     fn seek(&mut self, to: SeekFrom) -> io::Result<u64>
         ensures moves { SeekMoves (Some self.old.place) (Some self.new.place) (Some self.old.bytes) to result }
         ensures bytes { Keeps (Some self.old.bytes) (Some self.new.bytes) }

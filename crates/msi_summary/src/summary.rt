@@ -55,7 +55,7 @@ impl Model for SummaryInfo {
 }
 
 impl SummaryInfo {
-    /// A new summary: a title, and nothing else but the page, UTF-8.
+    /// Returns a summary that has only a title and the page UTF-8.
     pub(crate) fn new(alloc: Global, title: &str) -> Result<SummaryInfo, Error>
         ensures ok { IfOk result (λ summary. summary ≡ new_summary title.now) }
         ensures kind { OnlyMemory result }
@@ -67,7 +67,6 @@ impl SummaryInfo {
         Ok(summary)
     }
 
-    /// The summary that a property set is.
     pub(crate) fn from_properties(properties: PropertySet) -> Result<SummaryInfo, Error>
         ensures ok { IfOk result (λ summary. summary ≡ properties) }
         ensures allowed { OnOk result (properties.format_identifier ≡ summary_format) }
@@ -80,7 +79,6 @@ impl SummaryInfo {
         Ok(SummaryInfo { properties })
     }
 
-    /// The property set, borrowed.
     pub(crate) fn properties(&self) -> &PropertySet
         ensures set { result.now ≡ self.now }
         ensures format { self.now.format_identifier ≡ summary_format }
@@ -117,12 +115,10 @@ impl SummaryInfo {
         self.properties.is_writable()
     }
 
-    /// What new texts and lists take their memory from.
     fn allocator(&self) -> Global {
         allocator(&self.properties)
     }
 
-    /// The text of a property.
     fn text(&self, id: u32) -> Option<&str>
         ensures { option_copied result ≡ text_with_id id self.now }
     {
@@ -132,7 +128,6 @@ impl SummaryInfo {
         }
     }
 
-    /// The number of a property.
     fn number(&self, id: u32) -> Option<i32>
         ensures { result ≡ number_with_id id self.now }
     {
@@ -142,7 +137,6 @@ impl SummaryInfo {
         }
     }
 
-    /// The time of a property.
     fn time(&self, id: u32) -> Option<Timestamp>
         ensures { result ≡ time_with_id id self.now }
     {
@@ -152,7 +146,7 @@ impl SummaryInfo {
         }
     }
 
-    /// Sets a property, but for the page.
+    /// Sets a property other than the page.
     fn put(&mut self, id: u32, value: PropertyValue) -> Result<(), Error>
         requires { id ≢ 1 }
         ensures ok { OnOk result (self.new ≡ with_value id value self.old) }
@@ -162,7 +156,6 @@ impl SummaryInfo {
         put(&mut self.properties, id, value)
     }
 
-    /// Sets the text of a property.
     fn set_text<S: IntoText>(&mut self, id: u32, text: S) -> Result<(), Error>
         requires { id ≢ 1 }
         ensures ok { OnOk result (self.new ≡ with_text id (S.text text) self.old) }
@@ -173,7 +166,6 @@ impl SummaryInfo {
         self.put(id, PropertyValue::LpStr(PropertyText::from_text(text)))
     }
 
-    /// Sets the number of a property.
     fn set_number(&mut self, id: u32, number: i32) -> Result<(), Error>
         requires { id ≢ 1 }
         ensures ok { OnOk result (self.new ≡ with_number id number self.old) }
@@ -183,7 +175,6 @@ impl SummaryInfo {
         self.put(id, PropertyValue::I4(number))
     }
 
-    /// Sets the time of a property.
     fn set_time(&mut self, id: u32, time: Timestamp) -> Result<(), Error>
         requires { id ≢ 1 }
         ensures ok { OnOk result (self.new ≡ with_time id time self.old) }
@@ -193,7 +184,6 @@ impl SummaryInfo {
         self.put(id, PropertyValue::FileTime(time))
     }
 
-    /// Removes a property.
     fn clear(&mut self, id: u32)
         ensures { self.new ≡ without_value id self.old }
     {

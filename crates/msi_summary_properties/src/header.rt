@@ -32,7 +32,6 @@ pub struct Head {
     pub section: u32,
 }
 
-/// The system that a number names.
 fn system_of(number: u16) -> Result<OperatingSystem, Error>
     ensures { Gives (λ s. s) result (os_with_number number) }
 {
@@ -78,7 +77,7 @@ pub fn header_at(bytes: &[u8]) -> Result<Head, Error>
     })
 }
 
-/// So many pairs of an id and a place, of which each is stored only once its bytes are there.
+/// Reads `count` pairs of an id and a place, and stores each only once its bytes are there.
 fn pairs_at(alloc: Global, count: u32, bytes: &[u8]) -> Result<Vec<(u32, u32)>, Error>
     ensures { Gives (λ v. v.items) result (pairs_at count bytes.now) }
 {

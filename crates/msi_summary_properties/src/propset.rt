@@ -78,7 +78,7 @@ impl Model for PropertySet {
     ghost invariant = { λ s. IsKept (set_of s.os s.os_version s.clsid s.format_identifier s.values.entries) };
 }
 
-/// The page that a value of property 1 names, read without sign.
+/// Returns the page that a value of property 1 names, read without sign.
 pub(crate) fn page_named(value: &PropertyValue) -> Option<CodePage>
     ensures { result ≡ page_in (Some value.now) }
 {
@@ -88,7 +88,6 @@ pub(crate) fn page_named(value: &PropertyValue) -> Option<CodePage>
     }
 }
 
-/// The value of property 1 that names a page.
 fn page_value(page: CodePage) -> PropertyValue
     ensures { result ≡ page_value page }
 {
@@ -96,15 +95,13 @@ fn page_value(page: CodePage) -> PropertyValue
     PropertyValue::I2(id.cast_signed())
 }
 
-/// Whether a property may have this value.
 fn can_set(id: u32, value: &PropertyValue) -> bool
     ensures { result ≡ can_set id value.now }
 {
     id != PAGE || page_named(value).is_some()
 }
 
-/// A value's number is one that its type holds, which is known only of a number that is read. Nothing else is
-/// done.
+/// Reads the value's number, since only a number that is read is known to fit its type, and does nothing else.
 fn read_number(value: &PropertyValue)
     ensures { FitsValue value.now }
 {
@@ -146,7 +143,6 @@ impl PropertySet {
         }
     }
 
-    /// A set of its parts.
     pub(crate) fn from_parts(
         alloc: Global,
         os: OperatingSystem,
@@ -168,33 +164,28 @@ impl PropertySet {
         }
     }
 
-    /// What new values take their memory from.
     pub(crate) fn allocator(&self) -> Global {
         self.alloc
     }
 
-    /// The system that the set was made on.
     pub(crate) fn os(&self) -> OperatingSystem
         ensures { result ≡ self.now.os }
     {
         self.os
     }
 
-    /// That system's version.
     pub(crate) fn os_version(&self) -> u16
         ensures { result ≡ self.now.os_version }
     {
         self.os_version
     }
 
-    /// The class identifier, which has no meaning here.
     pub(crate) fn clsid(&self) -> &[u8; 16]
         ensures { result.now ≡ self.now.clsid }
     {
         &self.clsid
     }
 
-    /// The values by their ids.
     pub(crate) fn values(&self) -> &BTreeMap<u32, PropertyValue>
         ensures values { result.now.entries ≡ self.now.values }
         ensures kept { IsKept self.now }

@@ -19,7 +19,6 @@ use msi_text_base::errors::{Error, ErrorKind};
 use std::alloc::Global;
 use std::collections::BTreeMap;
 
-/// The page that the value of property 1 names.
 fn page_from(value: &PropertyValue) -> Result<CodePage, Error>
     ensures { Gives (λ p. p) result (page_in (Some value.now)) }
 {
@@ -29,7 +28,7 @@ fn page_from(value: &PropertyValue) -> Result<CodePage, Error>
     }
 }
 
-/// Where the value of property 1 stands in the section, if it is listed.
+/// Returns where the value of property 1 is in the section, if it is listed.
 fn place_of_page(pairs: &[(u32, u32)]) -> Option<u32>
     ensures { result ≡ entry_where (λ k. k == 1) pairs.now }
 {
@@ -41,7 +40,7 @@ fn place_of_page(pairs: &[(u32, u32)]) -> Option<u32>
     None
 }
 
-/// The page of the texts: that of property 1, and UTF-8 without it.
+/// Returns the page that property 1 names, and UTF-8 without it.
 fn page_in_section(
     alloc: Global,
     version: u16,
@@ -61,14 +60,14 @@ fn page_in_section(
     }
 }
 
-/// Where a place of a section stands in the stream.
+/// Returns where a place of a section is in the stream.
 fn place_in(section: u32, place: u32) -> usize
     ensures { result ≡ section + place }
 {
     section as usize + place as usize
 }
 
-/// The texts of the values of these pairs, each cut out of the one that the stream reads as.
+/// Returns the texts of the values of these pairs, each cut out of the one that the stream reads as.
 fn texts_of(
     alloc: Global,
     page: CodePage,
@@ -87,7 +86,6 @@ fn texts_of(
     SharedTexts::new(alloc, page, bytes, &ends)
 }
 
-/// The values of the pairs by id, no id twice.
 fn values_of(
     alloc: Global,
     version: u16,
@@ -111,7 +109,6 @@ fn values_of(
     Ok(values)
 }
 
-/// The set that the bytes encode, as its parts give it.
 #[tactic(auto, unfolding(crate::specs::Reading::set_put))]
 fn set_at(alloc: Global, bytes: &[u8]) -> Result<PropertySet, Error>
     ensures { Gives (λ s. s) result (set_put bytes.now) }

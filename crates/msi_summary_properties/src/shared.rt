@@ -24,14 +24,14 @@ pub(crate) struct SharedTexts {
     cuts: BTreeMap<usize, usize>,
 }
 
-/// Whether any bytes are a text of the page: it has more than ASCII.
+/// Whether any bytes are a text of the page, that is, the page has more than ASCII.
 fn reads_any(page: CodePage) -> bool
     ensures { result ≡ reads_any page }
 {
     page.carries("\u{80}")
 }
 
-/// The page that a stream is read in whose texts are in this one.
+/// Returns the page in which a stream is read whose texts are in this one.
 fn page_for_all(page: CodePage) -> CodePage
     ensures page { result ≡ page_for_all page }
     ensures all { ReadsAll result }
@@ -43,14 +43,14 @@ fn page_for_all(page: CodePage) -> CodePage
     }
 }
 
-/// Whether a character begins at a byte in each page, since it is ASCII or stands behind an ASCII byte.
+/// Whether a character begins at a byte in each page, since it is ASCII or follows an ASCII byte.
 fn begins_character(bytes: &[u8], at: usize) -> bool
     ensures { IsTrue result ↔ BeginsCharacter bytes.now at }
 {
     0 < at && at < bytes.len() && (bytes[at - 1] < 0x80 || bytes[at] < 0x80)
 }
 
-/// The text of the bytes in a page that reads them all, cut at these bytes, which ascend. A byte where no character
+/// Cuts the text of the bytes at these places, which ascend, in a page that reads all bytes. A place where no character
 /// begins is left out.
 fn cut_at(
     alloc: Global,
@@ -78,7 +78,6 @@ fn cut_at(
 }
 
 impl SharedTexts {
-    /// The texts of a page in some bytes, which begin and end at these bytes.
     pub(crate) fn new(
         alloc: Global,
         page: CodePage,
@@ -91,7 +90,7 @@ impl SharedTexts {
         cut_at(alloc, page_for_all(page), bytes, places)
     }
 
-    /// The text of a page between two bytes, if the whole text is cut there. It takes no memory for its bytes.
+    /// Returns the text between two bytes, if the whole text is cut there. It takes no memory for its bytes.
     pub(crate) fn text(
         &self,
         page: CodePage,
@@ -113,7 +112,6 @@ impl SharedTexts {
         Ok(None)
     }
 
-    /// What the bytes from one on and before another read as, if the whole text is cut there.
     fn piece(&self, start: usize, end: usize) -> Result<Option<Piece>, Error>
         requires { start ≤ end }
         ensures ok { (page : CodePage) (bytes : List ℕ) → ReadsAll page → AreCuts page bytes self.now

@@ -45,7 +45,6 @@ impl PropertyText {
         }
     }
 
-    /// A piece of a longer text, with which it shares its bytes.
     pub(crate) fn from_piece(piece: Piece) -> PropertyText
         ensures { result ≡ piece }
     {

@@ -20,7 +20,6 @@ use std::alloc::{AllocError, Global};
 /// How many bytes stand in front of a text: the number of its type, and its length.
 const TYPE_AND_LENGTH: usize = 8;
 
-/// The bytes from one on, and none past the end.
 pub(crate) fn rest_from(bytes: &[u8], start: usize) -> &[u8]
     ensures { result.now ≡ drop start bytes.now }
 {
@@ -30,7 +29,6 @@ pub(crate) fn rest_from(bytes: &[u8], start: usize) -> &[u8]
     &bytes[start..]
 }
 
-/// The text that bytes read as.
 fn text_of(alloc: Global, page: CodePage, bytes: &[u8]) -> Result<PropertyText, Error>
     ensures { Gives (λ t. t) result (text_in page bytes.now) }
 {
@@ -38,8 +36,7 @@ fn text_of(alloc: Global, page: CodePage, bytes: &[u8]) -> Result<PropertyText, 
     Ok(PropertyText::from_text(Text::from_string(text)))
 }
 
-/// The text that stands here behind its length, which counts the null at its end. Nothing is asked for bytes
-/// that are not there.
+/// Reads the text behind its length, which counts the null at its end. No memory is asked for bytes that are missing.
 #[tactic(auto, unfolding(crate::specs::Reading::string_at))]
 fn string_at(alloc: Global, page: CodePage, bytes: &[u8]) -> Result<PropertyText, Error>
     ensures { Gives (λ t. t) result (string_at page bytes.now) }
@@ -55,7 +52,6 @@ fn string_at(alloc: Global, page: CodePage, bytes: &[u8]) -> Result<PropertyText
     text_of(alloc, page, &rest[..len])
 }
 
-/// What stands behind the number of its type.
 #[tactic(auto, unfolding(crate::specs::Reading::payload_at))]
 fn payload_at(
     alloc: Global,
@@ -92,7 +88,7 @@ pub fn value_at(
     payload_at(alloc, version, page, kind, rest)
 }
 
-/// How many bytes the text has whose value begins here, if a whole one does. They stand behind the first eight.
+/// Returns how many bytes the text has whose value begins here, if a whole one does. They follow the first eight.
 fn text_len(bytes: &[u8]) -> Option<usize>
     ensures { IfSome result (λ len. BeginsText bytes.now len) }
 {
@@ -110,7 +106,7 @@ fn text_len(bytes: &[u8]) -> Option<usize>
     }
 }
 
-/// Adds where the text begins and ends whose value begins here, if a whole one does.
+/// Adds where the text begins and ends whose value begins at `start`, if a whole one does.
 pub(crate) fn push_text_ends(
     held: &mut Vec<usize>,
     bytes: &[u8],
@@ -124,7 +120,8 @@ pub(crate) fn push_text_ends(
     Ok(())
 }
 
-/// The value that begins at a byte. A text shares its bytes with the others of the stream where that one is cut.
+/// Reads the value that begins at a byte. A text shares its bytes with the others of the stream if the stream's text is
+/// cut there.
 pub(crate) fn value_from(
     alloc: Global,
     version: u16,

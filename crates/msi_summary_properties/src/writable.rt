@@ -30,7 +30,6 @@ fn all_read_back(page: CodePage, values: &BTreeMap<u32, PropertyValue>) -> bool
     all
 }
 
-/// Whether a value is no text, or a text that reads back.
 fn reads_back(page: CodePage, value: &PropertyValue) -> bool
     ensures exact { IsTrue result ↔ IsWritableValue page value.now }
     ensures utf8 { IsUtf8Value value.now }

@@ -65,7 +65,6 @@ impl PropertySet {
     }
 }
 
-/// Writes all of the bytes, or a beginning of them where the writer fails.
 fn write_bytes<W: Write>(writer: &mut W, bytes: &[u8]) -> Result<(), Error>
     ensures ok { OnOk result (Appends (W.contents writer.old) (W.contents writer.new) bytes.now) }
     ensures err { OnErr result (AppendsBeginning (W.contents writer.old) (W.contents writer.new) bytes.now) }
@@ -108,7 +107,7 @@ pub fn stream_of(set: &PropertySet) -> Result<Vec<u8>, Error>
     plain_bytes(set, page, size)
 }
 
-/// The bytes of the stream of a set that can be written, in its page and with a section of this size.
+/// Returns the stream of a set that can be written and has a section of this size.
 fn plain_bytes(set: &PropertySet, page: CodePage, size: u32) -> Result<Vec<u8>, Error>
     requires page { page ≡ page_of set.now }
     requires accepted { can_write page set.now.values ≡ true }
@@ -125,7 +124,7 @@ fn plain_bytes(set: &PropertySet, page: CodePage, size: u32) -> Result<Vec<u8>, 
     Ok(held)
 }
 
-/// How many bytes the section has, where it can be written. It takes no memory.
+/// Returns how many bytes the section has, where it can be written. It takes no memory.
 fn section_len(page: CodePage, values: &BTreeMap<u32, PropertyValue>) -> Result<u32, Error>
     ensures accepted { OnOk result (can_write page values.now.entries ≡ true) }
     ensures size { IfOk result (λ size. size ≡ section_size page values.now.entries) }
@@ -142,7 +141,7 @@ fn section_len(page: CodePage, values: &BTreeMap<u32, PropertyValue>) -> Result<
     Ok(size as u32)
 }
 
-/// How many bytes a value has with its padding, where the page carries it and they aren't too many.
+/// Returns how many bytes a value has with its padding, where the page carries it and they aren't too many.
 fn piece_len(page: CodePage, value: &PropertyValue) -> Result<usize, Error>
     ensures carried { OnOk result (is_some (value_bytes page value.now) ≡ true) }
     ensures len { IfOk result (λ len. len ≡ length (piece_in page value.now)) }
@@ -154,7 +153,7 @@ fn piece_len(page: CodePage, value: &PropertyValue) -> Result<usize, Error>
     Ok(len + padding(len))
 }
 
-/// How many bytes fill a value up to four.
+/// Returns how many bytes fill a value up to a multiple of four.
 fn padding(len: usize) -> usize
     ensures value { result ≡ (4 - len % 4) % 4 }
     ensures few { result < 4 }
@@ -163,7 +162,6 @@ fn padding(len: usize) -> usize
     (4 - over) % 4
 }
 
-/// How many bytes a value has, where the page carries it and they aren't too many.
 fn value_len(page: CodePage, value: &PropertyValue) -> Result<usize, Error>
     ensures len { IfOk result (λ len. option_map length (value_bytes page value.now) ≡ Some len) }
     ensures below { IfOk result (λ len. len < 2 ^ 32 + 9) }
@@ -181,7 +179,7 @@ fn value_len(page: CodePage, value: &PropertyValue) -> Result<usize, Error>
     }
 }
 
-/// How many bytes a text has as a value: its type, its length, its bytes in the page and a null.
+/// Counts the type, the length, the bytes in the page and a null of a text.
 fn string_len(page: CodePage, text: &str) -> Result<usize, Error>
     ensures len { IfOk result (λ len. option_map length (value_bytes page (PropertyValue.LpStr text.now)) ≡ Some len) }
     ensures below { IfOk result (λ len. len < 2 ^ 32 + 9) }
@@ -200,7 +198,6 @@ fn string_len(page: CodePage, text: &str) -> Result<usize, Error>
     }
 }
 
-/// Adds the header.
 fn push_header(held: &mut Vec<u8>, set: &PropertySet) -> Result<(), AllocError>
     ensures { OnOk result (held.new.items ≡ held.old.items ++ header_bytes set.now (version_in set.now) 1 48) }
 {
@@ -214,7 +211,6 @@ fn push_header(held: &mut Vec<u8>, set: &PropertySet) -> Result<(), AllocError>
     push_u32(held, SECTION)
 }
 
-/// The number of a system.
 fn system_number(system: OperatingSystem) -> u16
     ensures { result ≡ os_number system }
 {
@@ -225,7 +221,6 @@ fn system_number(system: OperatingSystem) -> u16
     }
 }
 
-/// The least version that has the types of all values.
 fn least_version(values: &BTreeMap<u32, PropertyValue>) -> u16
     ensures { result ≡ version_of values.now.entries }
 {
@@ -237,14 +232,13 @@ fn least_version(values: &BTreeMap<u32, PropertyValue>) -> u16
     0
 }
 
-/// Whether a value's type came with version 1.
 fn needs_version_1(value: &PropertyValue) -> bool
     ensures { result ≡ is_of_version_1 value.now }
 {
     matches!(value, PropertyValue::I1(_))
 }
 
-/// Adds the head of the section: its size, the number of values, and the id and the place of each.
+/// Adds the size of the section, the number of values, and the id and the place of each.
 fn push_section_head(
     held: &mut Vec<u8>,
     page: CodePage,
@@ -260,7 +254,6 @@ fn push_section_head(
     push_pairs(held, page, values)
 }
 
-/// Adds the id and the place of each value.
 fn push_pairs(
     held: &mut Vec<u8>,
     page: CodePage,
@@ -278,7 +271,6 @@ fn push_pairs(
     Ok(())
 }
 
-/// Adds an id and a place.
 fn push_pair(held: &mut Vec<u8>, id: u32, place: u32) -> Result<(), AllocError>
     ensures { OnOk result (held.new.items ≡ held.old.items ++ pair_bytes (id, place)) }
 {
@@ -286,7 +278,7 @@ fn push_pair(held: &mut Vec<u8>, id: u32, place: u32) -> Result<(), AllocError>
     push_u32(held, place)
 }
 
-/// How many bytes a value has that can be written, with its padding.
+/// Returns how many bytes a value that can be written has, with its padding.
 fn known_len(page: CodePage, value: &PropertyValue) -> usize
     requires { is_refused_spelling (piece_of page value.now) ≡ false }
     ensures { result ≡ length (piece_in page value.now) }
@@ -297,7 +289,6 @@ fn known_len(page: CodePage, value: &PropertyValue) -> usize
     }
 }
 
-/// Adds the values, one behind the other.
 fn push_values(
     held: &mut Vec<u8>,
     page: CodePage,
@@ -313,7 +304,6 @@ fn push_values(
     Ok(())
 }
 
-/// Adds a value with its padding.
 fn push_piece(held: &mut Vec<u8>, page: CodePage, value: &PropertyValue) -> Result<(), Error>
     requires { is_refused_spelling (piece_of page value.now) ≡ false }
     ensures ok { OnOk result (held.new.items ≡ held.old.items ++ piece_in page value.now) }
@@ -325,7 +315,6 @@ fn push_piece(held: &mut Vec<u8>, page: CodePage, value: &PropertyValue) -> Resu
     Ok(push_zeros(held, padding(len))?)
 }
 
-/// Adds zeros.
 fn push_zeros(held: &mut Vec<u8>, count: usize) -> Result<(), AllocError>
     ensures { OnOk result (held.new.items ≡ held.old.items ++ replicate count 0) }
 {
@@ -335,7 +324,6 @@ fn push_zeros(held: &mut Vec<u8>, count: usize) -> Result<(), AllocError>
     Ok(())
 }
 
-/// Adds a value.
 fn push_value(held: &mut Vec<u8>, page: CodePage, value: &PropertyValue) -> Result<(), Error>
     requires { is_refused_spelling (value_bytes page value.now) ≡ false }
     ensures ok { OnOk result (held.new.items ≡ held.old.items ++ unwrap_or (value_bytes page value.now) []) }
@@ -352,7 +340,6 @@ fn push_value(held: &mut Vec<u8>, page: CodePage, value: &PropertyValue) -> Resu
     }
 }
 
-/// Adds the number of a type, and what stands behind it.
 fn push_typed(held: &mut Vec<u8>, kind: u32, payload: &[u8]) -> Result<(), Error>
     ensures ok { OnOk result (held.new.items ≡ held.old.items ++ to_le_bytes w32 kind ++ payload.now) }
     ensures kind { OnlyMemory result }
@@ -362,7 +349,6 @@ fn push_typed(held: &mut Vec<u8>, kind: u32, payload: &[u8]) -> Result<(), Error
     Ok(())
 }
 
-/// Adds a text as a value: how many bytes it has in the page with the null, those bytes, and the null.
 fn push_string(held: &mut Vec<u8>, page: CodePage, text: &str) -> Result<(), Error>
     requires { is_refused_spelling (value_bytes page (PropertyValue.LpStr text.now)) ≡ false }
     ensures ok { OnOk result (held.new.items

@@ -9,7 +9,6 @@ use msi_table_values::column::ColumnType;
 use msi_text_base::parts::number_of;
 use msi_text_pool::parts::string_ref;
 
-/// How many bytes a cell of a column takes.
 pub(crate) fn width(long: bool, coltype: ColumnType) -> usize
     ensures value { result ≡ width_of long coltype }
     ensures least { 2 ≤ result }
@@ -22,14 +21,12 @@ pub(crate) fn width(long: bool, coltype: ColumnType) -> usize
     }
 }
 
-/// Whether the cells of a column are texts.
 pub(crate) fn holds_texts(coltype: ColumnType) -> bool
     ensures { result ≡ is_for_texts coltype }
 {
     matches!(coltype, ColumnType::Str(_))
 }
 
-/// The cell of a number that stands above the middle.
 fn number_cell(middle: u32, number: u64) -> ValueRef
     requires inside { middle ≤ 2 ^ 31 }
     requires narrow { number < 2 ^ 31 + middle }
@@ -41,7 +38,7 @@ fn number_cell(middle: u32, number: u64) -> ValueRef
     ValueRef::Int((number as i64 - middle as i64) as i32)
 }
 
-/// The number that the bytes of a cell are. Most have two, for which a general read would take twice as long.
+/// Returns the number that the bytes of a cell are. Most have two, for which a general read would take twice as long.
 fn number_of_cell(bytes: &[u8]) -> u64
     requires least { 2 ≤ length bytes.now }
     requires most { length bytes.now ≤ 4 }
@@ -54,7 +51,6 @@ fn number_of_cell(bytes: &[u8]) -> u64
     }
 }
 
-/// The cell that bytes of its width encode.
 fn cell_of(long: bool, coltype: ColumnType, bytes: &[u8]) -> ValueRef
     requires { length bytes.now ≡ width_of long coltype }
     ensures { result ≡ cell_in coltype bytes.now }
@@ -70,7 +66,6 @@ fn cell_of(long: bool, coltype: ColumnType, bytes: &[u8]) -> ValueRef
     }
 }
 
-/// The cell whose bytes begin at a place.
 pub(crate) fn read_cell(long: bool, coltype: ColumnType, bytes: &[u8], at: usize) -> ValueRef
     requires { at + width_of long coltype ≤ length bytes.now }
     ensures { result ≡ cell_in coltype (take (width_of long coltype) (drop at bytes.now)) }

@@ -74,7 +74,6 @@ impl Census {
         self.fits
     }
 
-    /// Counts a cell.
     fn count(&mut self, cell: ValueRef)
         ensures { CountsMore (numbers_of_row (cell ∷ [])) self.old self.new }
     {
@@ -94,7 +93,6 @@ impl Census {
         }
     }
 
-    /// Counts the cells of a row.
     fn count_row(&mut self, row: &[ValueRef])
         ensures { CountsMore (numbers_of_row row.now) self.old self.new }
     {
@@ -112,7 +110,7 @@ impl Census {
         }
     }
 
-    /// Counts so many cells of a column whose bytes begin at a place. Only texts name places.
+    /// Counts `count` cells of a column whose bytes begin at a place. Only texts name places.
     fn count_column(
         &mut self,
         long: bool,
@@ -135,7 +133,6 @@ impl Census {
         }
     }
 
-    /// Counts the cells of so many rows, column by column.
     fn count_columns(&mut self, long: bool, columns: &[Column], bytes: &[u8], count: usize)
         requires few { length columns.now ≤ most_columns }
         requires count { count ≡ count_of long (types_of columns.now) bytes.now }

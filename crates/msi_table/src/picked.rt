@@ -21,7 +21,6 @@ pub struct PickedRows<'a> {
 }
 
 impl<'a> PickedRows<'a> {
-    /// How many rows are picked.
     pub(crate) fn len(&self) -> usize
         ensures { result
             ≡ length (rows_picked self.now.numbers self.now.places self.now.stored.rows) }
@@ -32,7 +31,6 @@ impl<'a> PickedRows<'a> {
         }
     }
 
-    /// The number of the row that is picked at a place.
     fn number(&self, at: usize) -> usize
         requires inside { at < length (rows_picked self.now.numbers self.now.places self.now.stored.rows) }
         requires numbers { AreRowNumbers (length self.now.stored.rows) self.now.numbers }
@@ -46,7 +44,6 @@ impl<'a> PickedRows<'a> {
         }
     }
 
-    /// The cell that is picked of the row at a place, for a column. There is none past the last column.
     pub(crate) fn cell(&self, at: usize, column: usize) -> Option<ValueRef>
         requires inside { at < length (rows_picked self.now.numbers self.now.places self.now.stored.rows) }
         requires numbers { AreRowNumbers (length self.now.stored.rows) self.now.numbers }
@@ -64,10 +61,6 @@ impl<'a> PickedRows<'a> {
         }
     }
 
-    /// The cells that are picked of the row at a place.
-    ///
-    /// # Errors
-    /// `OutOfMemory`.
     pub(crate) fn row(&self, alloc: Global, at: usize) -> Result<Items<ValueRef>, Error>
         requires inside { at < length (rows_picked self.now.numbers self.now.places self.now.stored.rows) }
         requires numbers { AreRowNumbers (length self.now.stored.rows) self.now.numbers }

@@ -24,10 +24,6 @@ use std::alloc::Global;
 use std::marker::Model;
 use std::rc::Rc;
 
-/// The values of a row's cells.
-///
-/// # Errors
-/// `OutOfMemory`.
 pub(crate) fn values_of(
     alloc: Global,
     pool: &StringPool,
@@ -43,10 +39,6 @@ pub(crate) fn values_of(
     Ok(Items::from_vec(values))
 }
 
-/// The row of cells, one for each column.
-///
-/// # Errors
-/// `OutOfMemory`.
 fn row_of(
     alloc: Global,
     pool: &StringPool,
@@ -72,7 +64,6 @@ enum Source<'a> {
 }
 
 impl<'a> Source<'a> {
-    /// How many rows there are.
     fn len(&self) -> usize
         ensures { result ≡ length (rows_of_source self.now) }
     {
@@ -82,7 +73,6 @@ impl<'a> Source<'a> {
         }
     }
 
-    /// The cell of the row at a place, for a column. There is none past the last column.
     fn cell(&self, at: usize, column: usize) -> Option<ValueRef>
         requires numbers { HasRowNumbers self.now }
         requires inside { at < length (rows_of_source self.now) }
@@ -94,10 +84,6 @@ impl<'a> Source<'a> {
         }
     }
 
-    /// The row at a place, which has a cell for each column.
-    ///
-    /// # Errors
-    /// `OutOfMemory`.
     fn row(
         &self,
         alloc: Global,
@@ -160,10 +146,6 @@ impl<'a> Model for Rows<'a> {
 }
 
 impl<'a> Rows<'a> {
-    /// Rows that have a cell for each column.
-    ///
-    /// # Errors
-    /// `OutOfMemory`.
     pub(crate) fn of_cells(
         alloc: Global,
         pool: &'a StringPool,
@@ -178,10 +160,6 @@ impl<'a> Rows<'a> {
         Rows::from_source(alloc, pool, columns, Source::Made(rows))
     }
 
-    /// Rows of a table's stream that have a cell for each column.
-    ///
-    /// # Errors
-    /// `OutOfMemory`.
     pub(crate) fn of_picked(
         alloc: Global,
         pool: &'a StringPool,
@@ -211,10 +189,6 @@ impl<'a> Rows<'a> {
         Rows::from_source(alloc, pool, columns, Source::Stored(picked))
     }
 
-    /// Rows of a source that have a cell for each column.
-    ///
-    /// # Errors
-    /// `OutOfMemory`.
     fn from_source(
         alloc: Global,
         pool: &'a StringPool,

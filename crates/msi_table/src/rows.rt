@@ -17,7 +17,6 @@ use msi_text_base::errors::{Error, ErrorKind};
 use msi_text_base::text::Items;
 use std::alloc::Global;
 
-/// How many bytes a row takes.
 fn row_width(long: bool, columns: &[Column]) -> usize
     requires { length columns.now ≤ most_columns }
     ensures { result ≡ sum (widths long (types_of columns.now)) }
@@ -29,7 +28,6 @@ fn row_width(long: bool, columns: &[Column]) -> usize
     total
 }
 
-/// How many whole rows the bytes hold.
 pub(crate) fn row_count(long: bool, columns: &[Column], bytes: &[u8]) -> usize
     requires { length columns.now ≤ most_columns }
     ensures { result ≡ count_of long (types_of columns.now) bytes.now }
@@ -41,7 +39,7 @@ pub(crate) fn row_count(long: bool, columns: &[Column], bytes: &[u8]) -> usize
     bytes.len() / width
 }
 
-/// Whether the bytes of a stream encode rows: they aren't too many.
+/// Whether the bytes of a stream encode rows, that is, aren't too many.
 pub(crate) fn are_rows(long: bool, columns: &[Column], bytes: &[u8]) -> bool
     requires { length columns.now ≤ most_columns }
     ensures { result ≡ is_some (rows_in long (types_of columns.now) bytes.now) }
@@ -49,10 +47,6 @@ pub(crate) fn are_rows(long: bool, columns: &[Column], bytes: &[u8]) -> bool
     row_count(long, columns, bytes) <= MAX_ROWS
 }
 
-/// Where the cells of each column begin, if there are so many rows.
-///
-/// # Errors
-/// `OutOfMemory`.
 pub(crate) fn column_starts(
     alloc: Global,
     long: bool,
@@ -72,8 +66,7 @@ pub(crate) fn column_starts(
     Ok(starts)
 }
 
-/// Where the cells of a column begin, if there are so many rows: as it was noted, and else by the widths of the columns
-/// before.
+/// Returns where the cells of a column begin, as it was noted, and else by the widths of the columns before.
 pub(crate) fn column_start(
     long: bool,
     columns: &[Column],
@@ -93,7 +86,7 @@ pub(crate) fn column_start(
     }
 }
 
-/// The cell of a row and a column, whose cells begin at `start`.
+/// Returns the cell of row `i` and column `j`, whose cells begin at `start`.
 pub(crate) fn read_one(
     long: bool,
     columns: &[Column],
@@ -112,7 +105,6 @@ pub(crate) fn read_one(
     read_cell(long, coltype, bytes, start + i * width(long, coltype))
 }
 
-/// One row of so many.
 pub(crate) fn read_row(
     alloc: Global,
     long: bool,
@@ -138,7 +130,6 @@ pub(crate) fn read_row(
     Ok(Items::from_vec(row))
 }
 
-/// All rows of so many.
 pub(crate) fn read_all(
     alloc: Global,
     long: bool,
@@ -157,7 +148,6 @@ pub(crate) fn read_all(
     Ok(rows)
 }
 
-/// The rows that the bytes of a stream encode.
 pub(crate) fn read_rows(
     alloc: Global,
     long: bool,

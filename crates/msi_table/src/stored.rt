@@ -45,7 +45,7 @@ impl<'a> Model for StoredRows<'a> {
 }
 
 impl<'a> StoredRows<'a> {
-    /// The rows that the bytes of a table's stream encode, where they aren't too many.
+    /// Returns None where there are too many rows.
     pub(crate) fn of_stream(table: &'a Table, bytes: &'a [u8]) -> Option<StoredRows<'a>>
         ensures { result ≡ option_map (table_rows table.now.columns) (rows_spelled table.now bytes.now) }
     {
@@ -61,10 +61,7 @@ impl<'a> StoredRows<'a> {
         })
     }
 
-    /// The same rows, which note where the cells of each column begin.
-    ///
-    /// # Errors
-    /// `OutOfMemory`.
+    /// Returns the same rows, which note where the cells of each column begin.
     pub(crate) fn with_starts(self, alloc: Global) -> Result<StoredRows<'a>, Error>
         ensures ok { IfOk result (λ rows. rows ≡ self.entry) }
         ensures kind { OnlyMemory result }
@@ -100,7 +97,6 @@ impl<'a> StoredRows<'a> {
         self.count
     }
 
-    /// Returns a cell: that of a row and a column, both counted from 0. There is none past the last row or column.
     pub(crate) fn cell(&self, row: usize, column: usize) -> Option<ValueRef>
         ensures { result ≡ cell_in_row column (slice_get self.now.rows row) }
     {

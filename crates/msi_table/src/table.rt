@@ -46,7 +46,7 @@ impl Model for Table {
 }
 
 impl Table {
-    /// A table of its parts, where its columns are few enough.
+    /// Returns None where there are too many columns.
     pub(crate) fn of_parts(name: Text, columns: Items<Column>, long: bool) -> Option<Table>
         ensures { result ≡ table_of name columns long }
     {
@@ -133,10 +133,6 @@ impl Table {
         })
     }
 
-    /// A copy of the table whose references to texts are long.
-    ///
-    /// # Errors
-    /// `OutOfMemory`.
     pub(crate) fn with_long_references(&self, alloc: Global) -> Result<Table, Error>
         ensures ok { IfOk result (λ table. table ≡ long_table_of self.now) }
         ensures kind { OnlyMemory result }

@@ -18,7 +18,7 @@ use msi_text_base::text::Items;
 use msi_text_pool::parts::place_number;
 use std::alloc::Global;
 
-/// The number whose bytes a cell takes, where it fits its column.
+/// Returns the number whose bytes a cell takes, where it fits its column.
 fn number_for(long: bool, coltype: ColumnType, cell: ValueRef) -> u32
     requires { FitsColumn long coltype cell }
     ensures { result ≡ stored_number coltype cell }
@@ -40,7 +40,6 @@ fn number_for(long: bool, coltype: ColumnType, cell: ValueRef) -> u32
     }
 }
 
-/// Writes a cell behind the bytes.
 fn write_cell(
     out: &mut Vec<u8>,
     long: bool,
@@ -56,14 +55,12 @@ fn write_cell(
     Ok(())
 }
 
-/// The cell of a column, null where the row has none.
 fn cell_in_row(row: &[ValueRef], j: usize) -> ValueRef
     ensures { result ≡ cell_of row.now j }
 {
     row.get(j).copied().unwrap_or(ValueRef::Null)
 }
 
-/// Writes the cells of one column.
 fn write_column(
     out: &mut Vec<u8>,
     long: bool,
@@ -82,7 +79,6 @@ fn write_column(
     Ok(())
 }
 
-/// The bytes of rows, column by column.
 pub(crate) fn write_table(
     alloc: Global,
     long: bool,
@@ -101,7 +97,7 @@ pub(crate) fn write_table(
     Ok(out)
 }
 
-/// The bytes of rows in their stored order.
+/// Returns the bytes of rows in their stored order.
 pub(crate) fn write_rows(
     alloc: Global,
     long: bool,

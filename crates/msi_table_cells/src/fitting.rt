@@ -14,7 +14,6 @@ use msi_text_pool::stringpool::MAX_SHORT_PLACES;
 /// How many rows a table may have.
 pub const MAX_ROWS: usize = 65_536;
 
-/// Whether a column can store a cell.
 fn fits_column(long: bool, coltype: ColumnType, cell: ValueRef) -> bool
     ensures { IsTrue result ↔ FitsColumn long coltype cell }
 {
@@ -29,7 +28,6 @@ fn fits_column(long: bool, coltype: ColumnType, cell: ValueRef) -> bool
     }
 }
 
-/// Whether a row has for each column a cell that the column can store.
 fn fits_row(long: bool, columns: &[Column], row: &[ValueRef]) -> bool
     ensures { IsTrue result ↔ FitsRow long (types_of columns.now) row.now }
 {

@@ -19,14 +19,13 @@ use msi_text_pool::stringpool::StringPool;
 use std::alloc::AllocError;
 use std::cmp::Ordering;
 
-/// The cell of a column, where the row has one.
 fn cell_of(row: &[ValueRef], i: usize) -> Option<ValueRef>
     ensures { result ≡ slice_get row.now i }
 {
     row.get(i).copied()
 }
 
-/// The first cell that differs decides, skipping columns of category Binary. Where a row ends before, its missing
+/// Compares by the first cell that differs, skipping columns of category Binary. Where a row ends before, its missing
 /// cells come first.
 fn compare_rows(columns: &[Column], row: &[ValueRef], other: &[ValueRef]) -> Ordering
     ensures { result ≡ row_cmp columns.now row.now other.now }
@@ -54,7 +53,7 @@ pub fn sort_rows(columns: &[Column], rows: &mut Vec<Items<ValueRef>>) -> Result<
     rows.sort_by(|row, other| compare_rows(columns, row.as_slice(), other.as_slice()))
 }
 
-/// How the values of two cells stand to one another, where a missing cell comes first. No text is copied.
+/// Compares the values of two cells; a missing cell comes first. No text is copied.
 fn compare_if_present(
     pool: &StringPool,
     cell: Option<ValueRef>,
@@ -75,8 +74,8 @@ fn compare_if_present(
     }
 }
 
-/// Compares the keys of two rows: the first value of a key column that differs decides. Where a row ends before, its
-/// missing values come first. No text is copied.
+/// Compares two rows by the first value of a key column that differs. Where a row ends before, its missing values come
+/// first. No text is copied.
 fn compare_keys(
     columns: &[Column],
     pool: &StringPool,

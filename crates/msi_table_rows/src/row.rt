@@ -43,7 +43,6 @@ impl Model for Row {
 }
 
 impl Row {
-    /// A row of a value for each column.
     pub(crate) fn new(columns: Rc<Items<Column>>, values: Items<Value>) -> Row
         requires { length values ≡ length columns.value }
         ensures { result ≡ record { columns = columns.value; values = values } }
@@ -73,7 +72,6 @@ impl Row {
         self.columns.as_slice()
     }
 
-    /// The row's values, in order.
     pub(crate) fn values(&self) -> &[Value]
         ensures { result.now ≡ self.now.values }
     {
@@ -102,7 +100,7 @@ impl Row {
         has_column(self.columns(), name)
     }
 
-    /// The value of the column of a name, where it has one; of a repeated name the first.
+    /// Returns the value of the column of a name; of a repeated name the first.
     pub(crate) fn value_named(&self, name: &str) -> Option<&Value>
         ensures value { option_copied result ≡ value_named name.now self.now }
         ensures found { is_some result ≡ has_one name.now self.now.columns }
@@ -143,10 +141,6 @@ impl<'a> Index<&'a str> for Row {
     }
 }
 
-/// The values once more, in order.
-///
-/// # Errors
-/// `OutOfMemory`.
 fn copied_values(alloc: Global, values: &[Value]) -> Result<Items<Value>, Error>
     ensures ok { IfOk result (λ copies. copies ≡ values.now) }
     ensures kind { OnlyMemory result }

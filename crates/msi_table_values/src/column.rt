@@ -193,10 +193,6 @@ impl Column {
         self.renamed(self.name.clone()?)
     }
 
-    /// The column once more under another name.
-    ///
-    /// # Errors
-    /// `OutOfMemory`.
     pub(crate) fn renamed(&self, name: SharedText) -> Result<Column, Error>
         ensures ok { IfOk result (λ column. column ≡ record self.now { name = name }) }
         ensures kind { OnlyMemory result }
@@ -218,7 +214,6 @@ impl Column {
         })
     }
 
-    /// The column, which takes null from now on.
     pub(crate) fn nullable(self) -> Column
         ensures { result ≡ record self { is_nullable = true } }
     {
@@ -331,7 +326,7 @@ impl ColumnBuilder {
         Ok(ColumnBuilder { alloc, column })
     }
 
-    /// Lets the column take these texts alone, which it shares.
+    /// Restricts the column to these texts, which it shares.
     pub(crate) fn shared_values(self, texts: SharedTexts) -> ColumnBuilder
         ensures { result ≡ record self { enum_values = texts } }
     {
@@ -393,7 +388,7 @@ impl ColumnBuilder {
             .with_type(ColumnType::Binary)
     }
 
-    /// The column of a type with its flags; it is nullable by the flag or as it was.
+    /// Returns the column of a type with its flags. It is nullable by the flag or as it was.
     pub(crate) fn with_flags(
         self,
         coltype: ColumnType,
@@ -419,7 +414,6 @@ impl ColumnBuilder {
         column
     }
 
-    /// The column of a type.
     fn with_type(self, coltype: ColumnType) -> Column
         ensures { result ≡ record self { coltype = coltype } }
     {

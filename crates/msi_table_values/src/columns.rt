@@ -9,7 +9,6 @@ use msi_text_base::errors::Error;
 use msi_text_base::text::Items;
 use std::alloc::Global;
 
-/// Whether the column has this name.
 fn is_named(column: &Column, name: &str) -> bool
     ensures { result ≡ bytes_eq column.now.name name.now }
 {

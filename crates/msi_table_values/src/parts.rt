@@ -19,7 +19,6 @@ use msi_text_base::errors::{Error, ErrorKind};
 use msi_text_base::text::IntoText;
 use std::alloc::Global;
 
-/// The bits of a type without flags.
 fn kind_bits(coltype: ColumnType) -> u16
     requires { HasShortLength coltype }
     ensures value { result ≡ bits_of_kind coltype }
@@ -33,7 +32,6 @@ fn kind_bits(coltype: ColumnType) -> u16
     }
 }
 
-/// A number where a flag is set, else 0.
 fn bit_if(flag: bool, number: u16) -> u16
     ensures { result ≡ number_if flag number }
 {
@@ -52,7 +50,6 @@ pub fn type_bits(column: &Column) -> u16
         + bit_if(column.is_primary_key(), 0x2000)
 }
 
-/// Whether bits have the one of a mask.
 fn has_bit(bits: u16, mask: u16) -> bool
     requires { 0 < mask }
     ensures { result ≡ is_set bits mask }
@@ -61,10 +58,7 @@ fn has_bit(bits: u16, mask: u16) -> bool
 }
 
 /// Returns the type that bits name (MSI SDK, "_Columns table"), whether or not a column could have been written with
-/// them.
-///
-/// # Errors
-/// Fails with `InvalidData` if they name none.
+/// them. Fails with `InvalidData` if they name none.
 fn type_of_bits(bits: u16) -> Result<ColumnType, Error>
     ensures ok { IfOk result (λ coltype. type_in bits ≡ Some coltype) }
     ensures refused { IsErr result ↔ (type_in bits ≡ None) }

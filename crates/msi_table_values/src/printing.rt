@@ -23,8 +23,7 @@ impl fmt::Display for Value {
     }
 }
 
-/// Writes the debug form of a text as `Formatter::pad` would, if it stood in memory: its characters are counted
-/// first.
+/// Writes the debug form of a text as `Formatter::pad` would, if it were in memory: its characters are counted first.
 fn write_debug_form<W: fmt::Write>(text: &str, f: &mut fmt::Formatter<W>) -> fmt::Result
     ensures { DisplaysOnOk W.write_str_gives f.old result (debug_str text.now) f.new }
 {
@@ -38,7 +37,7 @@ fn write_debug_form<W: fmt::Write>(text: &str, f: &mut fmt::Formatter<W>) -> fmt
     write_fill(f, padding - before)
 }
 
-/// How many characters the debug form of a text, cut to the precision, falls short of the width.
+/// Returns how many characters the debug form of a text, cut to the precision, falls short of the width.
 fn padding_of<W: fmt::Write>(text: &str, f: &fmt::Formatter<W>) -> Result<usize, fmt::Error> {
     let width = f.width().unwrap_or(0);
     let most = f.precision().unwrap_or(usize::MAX);
@@ -47,7 +46,6 @@ fn padding_of<W: fmt::Write>(text: &str, f: &fmt::Formatter<W>) -> Result<usize,
     Ok(counted.short.max(width.saturating_sub(most)))
 }
 
-/// How much of the padding stands in front.
 fn padding_in_front<W: fmt::Write>(f: &fmt::Formatter<W>, padding: usize) -> usize
     ensures side { (formatter_spec f.now).align < 4 → result ≡ padding_before (formatter_spec f.now) padding 1 }
     ensures most { result ≤ padding }
@@ -59,7 +57,6 @@ fn padding_in_front<W: fmt::Write>(f: &fmt::Formatter<W>, padding: usize) -> usi
     }
 }
 
-/// Writes the fill character so often.
 fn write_fill<W: fmt::Write>(f: &mut fmt::Formatter<W>, count: usize) -> fmt::Result
     ensures { WritesStyledOnOk W.write_str_gives f.old result (fill_text (formatter_spec f.old) count) f.new }
 {
@@ -68,7 +65,6 @@ fn write_fill<W: fmt::Write>(f: &mut fmt::Formatter<W>, count: usize) -> fmt::Re
     f.write_repeated(fill.encode_utf8(&mut bytes), count)
 }
 
-/// Writes the debug form of a text, cut to the precision.
 fn write_cut<W: fmt::Write>(text: &str, f: &mut fmt::Formatter<W>) -> fmt::Result {
     let most = f.precision().unwrap_or(usize::MAX);
     let mut cut = Cut { f, left: most };
@@ -112,7 +108,6 @@ impl<W: fmt::Write> fmt::Write for Cut<'_, W> {
     }
 }
 
-/// How many characters a text falls short of so many.
 fn short_of(text: &[u8], count: usize) -> usize
     ensures { result ≡ count - char_count text.now }
 {
@@ -125,7 +120,7 @@ fn short_of(text: &[u8], count: usize) -> usize
     short
 }
 
-/// Where the first so many characters of a text end, in bytes.
+/// Returns where the first `count` characters of a text end, in bytes.
 fn end_of(text: &[u8], count: usize) -> usize
     ensures { take result text.now ≡ take_chars count text.now }
 {
@@ -141,7 +136,6 @@ fn end_of(text: &[u8], count: usize) -> usize
     text.len()
 }
 
-/// Whether a byte is the first of a character.
 fn is_first(byte: u8) -> bool
     ensures { result ≡ is_char_start byte }
 {

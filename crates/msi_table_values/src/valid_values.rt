@@ -66,7 +66,6 @@ fn fits_text(coltype: ColumnType, text: &str) -> bool
     }
 }
 
-/// Whether a number is in a range, if there is one.
 fn is_in_value_range(range: Option<(i32, i32)>, number: i32) -> bool
     ensures { result ≡ is_in_value_range range number }
 {
@@ -76,7 +75,6 @@ fn is_in_value_range(range: Option<(i32, i32)>, number: i32) -> bool
     }
 }
 
-/// Whether a category accepts a text, if there is one.
 fn is_of_category(category: Option<Category>, text: &str) -> bool
     ensures { result ≡ is_of_category category text.now }
 {
@@ -86,7 +84,6 @@ fn is_of_category(category: Option<Category>, text: &str) -> bool
     }
 }
 
-/// Whether a text is one of those that a column lists, if it lists some.
 fn is_of_values(column: &Column, text: &Text) -> bool
     ensures { result ≡ is_of_values column.now.enum_values text.now }
 {

@@ -36,14 +36,12 @@ pub(crate) enum End {
 /// A call, and how it ends.
 pub(crate) type Step = (Call, End);
 
-/// Whether a read with this much room gives these bytes.
 fn reads<D: Device>(device: &mut D, room: usize, bytes: &[u8]) -> Result<bool, Error> {
     let mut buf = [0; 16];
     let count = device.read(&mut buf[..room.min(16)]).map_err(fault)?;
     Ok(buf.starts_with(bytes) && count == bytes.len())
 }
 
-/// Whether a call returns what it says.
 fn returns<D: Device>(alloc: Global, device: &mut D, call: &Call) -> Result<bool, Error> {
     match call {
         Call::Rewind => device.rewind().map_err(fault)?,
@@ -57,7 +55,7 @@ fn returns<D: Device>(alloc: Global, device: &mut D, call: &Call) -> Result<bool
     Ok(true)
 }
 
-/// Whether a step goes as it says. The flag is cleared behind it.
+/// Whether a step goes as it says. The flag is cleared after it.
 pub(crate) fn goes<D: Device>(alloc: Global, device: &mut D, step: &Step) -> bool {
     let (is_ok, is_flagged) = match step.1 {
         End::Well => (true, false),
@@ -73,7 +71,6 @@ pub(crate) fn goes<D: Device>(alloc: Global, device: &mut D, step: &Step) -> boo
     is_so && failed == is_flagged
 }
 
-/// How many steps go as they say, up to the first that doesn't.
 pub(crate) fn gone<D: Device>(alloc: Global, device: &mut D, steps: &[Step]) -> usize {
     for (number, step) in steps.iter().enumerate() {
         if !goes(alloc, device, step) {
@@ -86,7 +83,7 @@ pub(crate) fn gone<D: Device>(alloc: Global, device: &mut D, steps: &[Step]) -> 
 /// The ten digits.
 pub(crate) const DIGITS: &[u8] = b"0123456789";
 
-/// A device in memory that holds ten digits, at the fifth.
+/// Returns a device in memory that holds ten digits, at the fifth.
 pub(crate) fn digits(alloc: Global) -> Result<Memory, Error> {
     let mut memory = Memory::from_vec(Vec::from_slice(alloc, DIGITS)?);
     memory.read(&mut [0; 4]).map_err(fault)?;

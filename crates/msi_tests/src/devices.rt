@@ -37,7 +37,6 @@ type InMemory = (&'static [Step], &'static [u8]);
 
 static IN_MEMORY: [InMemory; 2] = [(&READS, DIGITS), (&WRITES, b"g123ab67cdef")];
 
-/// Whether memory goes these steps, and holds these bytes then.
 fn memory_goes(alloc: Global, row: &InMemory) -> Result<bool, Error> {
     let (steps, held) = row;
     let mut memory = digits(alloc)?;
@@ -45,7 +44,6 @@ fn memory_goes(alloc: Global, row: &InMemory) -> Result<bool, Error> {
     Ok(count == steps.len() && memory.into_vec().as_slice() == *held)
 }
 
-/// Checks that memory is read to its end, and written past it.
 pub(crate) fn memory_is_read_to_its_end_and_written_past_it(rt: &HostRuntime) -> bool {
     let mut are_shown = true;
     for row in &IN_MEMORY {
@@ -101,7 +99,6 @@ impl Seek for File {
     }
 }
 
-/// A file at its first byte.
 fn digits_file(alloc: Global, is_stubborn: bool) -> Result<File, Error> {
     Ok(File {
         bytes: Cursor::new(Vec::from_slice(alloc, DIGITS)?),
@@ -136,7 +133,6 @@ type OverFile = (bool, &'static [Step], &'static [u8]);
 
 static METERED: [OverFile; 2] = [(false, &WRITTEN, b"ab23456789cd"), (true, &FAULTS, DIGITS)];
 
-/// Whether a device over a file goes these steps, and the file has these bytes then.
 fn metered_goes(alloc: Global, row: &OverFile) -> Result<bool, Error> {
     let (is_stubborn, steps, held) = row;
     let mut device = Metered::new(digits_file(alloc, *is_stubborn)?);
@@ -145,7 +141,6 @@ fn metered_goes(alloc: Global, row: &OverFile) -> Result<bool, Error> {
     Ok(count == steps.len() && file.bytes.get_ref().as_slice() == *held)
 }
 
-/// Checks that files are written and read, and that errors raise the flag.
 pub(crate) fn files_are_written_and_read_and_faults_raise_the_flag(rt: &HostRuntime) -> bool {
     let mut are_shown = true;
     for row in &METERED {
@@ -164,7 +159,6 @@ static PIECES: [Step; 6] = [
     (ReadAll(b"abcd456789ef"), Well),
 ];
 
-/// Whether a file was written and flushed, and has the pieces.
 fn has_pieces(file: &File) -> bool {
     let is_held = file.bytes.get_ref().as_slice() == b"abcd456789ef".as_slice();
     is_held && file.writes == 2 && file.flushes > 0
@@ -180,7 +174,6 @@ fn are_collected(alloc: Global) -> Result<bool, Error> {
     }
 }
 
-/// Checks that pieces are collected, and read back.
 pub(crate) fn pieces_are_collected_and_read_back(rt: &HostRuntime) -> bool {
     is_shown(rt, &"pieces", are_collected(rt.alloc()))
 }

@@ -20,14 +20,13 @@ const OPENED: [(Given, Option<ErrorKind>); 4] = [
     (Given::Nothing, Some(ErrorKind::Io)),
 ];
 
-/// A path that no other test uses, where nothing stands yet.
+/// Returns a path that no other test uses and where nothing exists yet.
 pub(crate) fn path(rt: &HostRuntime, name: &str) -> io::Result<String> {
     let folder = env::temp_dir(rt)?;
     let id = process::id(rt.process());
     Ok(format!(in rt.alloc(); "{}/msi-{id}-{name}", folder.as_path().display())?)
 }
 
-/// Puts what is given at a path, where `package` is the file of a package.
 fn put(rt: &HostRuntime, path: &str, given: Given, package: &[u8]) -> io::Result<()> {
     match given {
         Given::Nothing => Ok(()),
@@ -36,7 +35,7 @@ fn put(rt: &HostRuntime, path: &str, given: Given, package: &[u8]) -> io::Result
     }
 }
 
-/// Why a package isn't opened. One that is opened is dropped.
+/// Returns why a package isn't opened. One that is opened is dropped.
 fn refusal<P: Drop>(opened: Result<P, Error>) -> Option<ErrorKind> {
     match opened {
         Ok(_package) => None,
@@ -44,8 +43,8 @@ fn refusal<P: Drop>(opened: Result<P, Error>) -> Option<ErrorKind> {
     }
 }
 
-/// Whether a file is opened or refused so, for reading alone and for changing, and stays as it was. A file that isn't
-/// there stays missing.
+/// Whether a file is opened, or refused with `kind`, for reading alone and for changing, and stays as it was. A missing
+/// file stays missing.
 fn is_left_alone(rt: &HostRuntime, path: &str, kind: Option<ErrorKind>) -> bool {
     let before = fs::read(rt, path).ok();
     let read = refusal(msi::open(rt, path));
@@ -54,7 +53,6 @@ fn is_left_alone(rt: &HostRuntime, path: &str, kind: Option<ErrorKind>) -> bool 
     read == kind && changed == kind && before.as_deref() == after.as_deref()
 }
 
-/// Checks what opening takes and refuses, and that it leaves the file as it was.
 pub(crate) fn opening_leaves_the_file_as_it_was(rt: &HostRuntime) -> io::Result<bool> {
     let path = path(rt, "files")?;
     let Ok(package) = file(rt.alloc()) else {

@@ -36,7 +36,6 @@ pub fn run(rt: &HostRuntime) -> bool {
     are_shown & replays::a_list_of_calls_is_answered(rt)
 }
 
-/// Runs the tests of devices.
 fn run_devices(rt: &HostRuntime) -> bool {
     let mut are_shown = devices::memory_is_read_to_its_end_and_written_past_it(rt);
     are_shown &= devices::files_are_written_and_read_and_faults_raise_the_flag(rt);

@@ -11,14 +11,12 @@ use std::alloc::Global;
 /// A pool of Windows-1252 that names `Foo` in two cells, and has a free place and long references.
 const ENTRIES: &[u8] = &[0xE4, 4, 0, 0x80, 3, 0, 2, 0, 0, 0, 0, 0];
 
-/// Returns that pool, made by calls.
 fn pool(alloc: Global) -> Result<StringPool, Error> {
     let mut pool = StringPool::new(alloc, CodePage::Utf8);
     fill(alloc, &mut pool)?;
     pool.clone()
 }
 
-/// Fills a pool.
 fn fill(alloc: Global, pool: &mut StringPool) -> Result<(), Error> {
     take(alloc, pool, "Foo")?;
     let second = take(alloc, pool, "Quux")?;
@@ -28,12 +26,10 @@ fn fill(alloc: Global, pool: &mut StringPool) -> Result<(), Error> {
     pool.decref(second)
 }
 
-/// Has a pool take a text.
 fn take(alloc: Global, pool: &mut StringPool, text: &str) -> Result<StringRef, Error> {
     pool.incref(String::from_str(alloc, text)?)
 }
 
-/// Whether a pool is that pool.
 fn is_pool(pool: &StringPool) -> Result<bool, Error> {
     match read_reference(&mut [1, 0, 0].as_slice(), pool.long_string_refs())? {
         Some(first) => Ok(is_named(pool, first) && is_new(pool)),
@@ -41,19 +37,16 @@ fn is_pool(pool: &StringPool) -> Result<bool, Error> {
     }
 }
 
-/// Whether the first of two places has the text and the count that it should.
 fn is_named(pool: &StringPool, first: StringRef) -> bool {
     let is_first = first.number() == 1 && pool.num_strings() == 2;
     is_first && pool.get(first) == "Foo" && pool.refcount(first) == 2
 }
 
-/// Whether a pool has the page that it should, and no operation behind it.
 fn is_new(pool: &StringPool) -> bool {
     let is_page = pool.codepage() == CodePage::Windows1252 && pool.is_writable();
     is_page && pool.operations() == 0
 }
 
-/// Whether the streams of a pool are those of that pool.
 fn is_written(alloc: Global, pool: &StringPool) -> Result<bool, Error> {
     let mut bytes = Vec::new(alloc);
     write_pool(pool, &mut bytes)?;
@@ -63,13 +56,11 @@ fn is_written(alloc: Global, pool: &StringPool) -> Result<bool, Error> {
     Ok(are_entries && bytes.as_slice() == b"Foo".as_slice())
 }
 
-/// Whether that pool is made by calls, and written.
 fn is_made(alloc: Global) -> Result<bool, Error> {
     let pool = pool(alloc)?;
     Ok(is_pool(&pool)? && is_written(alloc, &pool)?)
 }
 
-/// Whether that pool is read.
 fn is_read(alloc: Global) -> Result<bool, Error> {
     let builder = read_from_pool(alloc, ENTRIES)?;
     is_pool(&build_from_data(alloc, builder, b"Foo".as_slice())?)
@@ -90,19 +81,16 @@ fn are_references(alloc: Global) -> Result<bool, Error> {
     Ok(is_refused && bytes.as_slice() == [5, 0, 0].as_slice())
 }
 
-/// Checks that a pool takes texts and gives them back, is written as is expected, and is read back.
 pub(crate) fn a_pool_is_written_and_read_back(alloc: Global) -> Result<bool, Error> {
     Ok(is_made(alloc)? && is_read(alloc)? && are_references(alloc)?)
 }
 
-/// Returns a set with its page and a count of pages, made by calls.
 fn set(alloc: Global) -> Result<PropertySet, Error> {
     let mut set = PropertySet::new(alloc, OperatingSystem::Win32, 10, [7; 16]);
     fill_set(&mut set)?;
     Ok(set)
 }
 
-/// Fills a set.
 fn fill_set(set: &mut PropertySet) -> Result<(), Error> {
     set.set_codepage(CodePage::Windows1252)?;
     set.set(14, PropertyValue::I4(-70000))?;
@@ -117,7 +105,6 @@ const SECTION: &[u8] = &[
     0xE4, 4, 0, 0, 3, 0, 0, 0, 0x90, 0xEE, 0xFE, 0xFF,
 ];
 
-/// Checks that a set takes properties and gives them back, is written as is expected, and is read back.
 pub(crate) fn a_set_is_written_and_read_back(alloc: Global) -> Result<bool, Error> {
     let mut bytes = Vec::new(alloc);
     set(alloc)?.write(&mut bytes)?;
@@ -125,7 +112,6 @@ pub(crate) fn a_set_is_written_and_read_back(alloc: Global) -> Result<bool, Erro
     Ok(is_set && bytes.ends_with(SECTION))
 }
 
-/// Whether a set is that set.
 fn is_set(set: &PropertySet) -> bool {
     let is_value = matches!(set.get(14), Some(PropertyValue::I4(-70000)));
     let is_page = set.codepage() == CodePage::Windows1252 && set.is_writable();

@@ -65,7 +65,6 @@ fn print_rows(rt: &HostRuntime, file: &str, query: &str) -> Result<(), Failure> 
     write_rows(rt.alloc(), &mut Writer::from_writer(io::writer(rt)), rows)
 }
 
-/// Writes the names of the columns of rows, and the rows.
 fn write_rows<W>(alloc: Global, output: &mut Writer<W>, rows: Rows) -> Result<(), Failure>
 where
     W: Write + Drop,
@@ -78,7 +77,6 @@ where
     Ok(())
 }
 
-/// Writes the names of the columns of rows as a line.
 fn write_names<W: Write + Drop>(output: &mut Writer<W>, rows: &Rows) -> Result<(), csv::Error> {
     for column in rows.columns() {
         output.write_field(column.name().as_bytes())?;
@@ -86,7 +84,6 @@ fn write_names<W: Write + Drop>(output: &mut Writer<W>, rows: &Rows) -> Result<(
     output.end_record()
 }
 
-/// Writes the values of a row as a line.
 fn write_row<W>(alloc: Global, output: &mut Writer<W>, row: &Row) -> Result<(), Failure>
 where
     W: Write + Drop,
@@ -99,7 +96,7 @@ where
     Ok(())
 }
 
-/// Returns the text of a value. Null has no text, and `binary` stands for a stream.
+/// Returns the text of a value. Null has no text, and a stream is written as `binary`.
 fn text_of(alloc: Global, value: &Value) -> Result<String, AllocError> {
     match value {
         Value::Null => Ok(String::new(alloc)),

@@ -8,7 +8,6 @@ use msi_replay::{
 };
 use std::alloc::Global;
 
-/// Calls on a stream.
 fn stream_calls(alloc: Global, calls: &mut Vec<Call>) -> Result<(), Error> {
     let piece = Items::from_vec(Vec::from_slice(alloc, b"Hi")?);
     let writes = Items::from_vec(vec![in alloc; WriterCall::Write(piece)]?);
@@ -18,7 +17,6 @@ fn stream_calls(alloc: Global, calls: &mut Vec<Call>) -> Result<(), Error> {
     Ok(())
 }
 
-/// Calls on the summary.
 fn summary_calls(alloc: Global, calls: &mut Vec<Call>) -> Result<(), Error> {
     let asks = Items::from_vec(vec![in alloc; SummaryQuestion::Codepage]?);
     calls.push(Call::SummaryInfo(asks))?;
@@ -27,7 +25,6 @@ fn summary_calls(alloc: Global, calls: &mut Vec<Call>) -> Result<(), Error> {
     Ok(())
 }
 
-/// A call of each kind.
 fn calls(alloc: Global) -> Result<Vec<Call>, Error> {
     let mut calls = Vec::new(alloc);
     calls.push(Call::LookUp(LookUp::PackageType))?;
@@ -56,7 +53,6 @@ const ANSWERS: [&str; 10] = [
     "Flag",
 ];
 
-/// The name of an answer.
 fn name_of(answer: &Result<Answer, ErrorKind>) -> &'static str {
     match answer {
         Ok(Answer::Kind(PackageType::Installer)) => "Installer",
@@ -71,7 +67,7 @@ fn name_of(answer: &Result<Answer, ErrorKind>) -> &'static str {
     }
 }
 
-/// Whether calls answer what they should; and the bytes that they leave.
+/// Returns whether calls answer what they should, and the bytes that they leave.
 fn answered(replayed: Replayed) -> (bool, Vec<u8>) {
     let Replayed {
         answers,
@@ -82,17 +78,14 @@ fn answered(replayed: Replayed) -> (bool, Vec<u8>) {
     (is_writable && names.eq(ANSWERS.iter().copied()), bytes)
 }
 
-/// Whether calls on a new package answer what they should; and the bytes that they leave.
 fn on_new(alloc: Global) -> Result<(bool, Vec<u8>), Error> {
     Ok(answered(replay(alloc, PackageType::Installer, calls(alloc)?)?))
 }
 
-/// Whether calls on the package in bytes answer what they should; and the bytes that they leave.
 fn on_opened(alloc: Global, bytes: Vec<u8>) -> Result<(bool, Vec<u8>), Error> {
     Ok(answered(replay_over(alloc, bytes, calls(alloc)?)?))
 }
 
-/// Whether calls have the results that they should, on a new package and on the one that they leave.
 fn are_answered(alloc: Global) -> Result<bool, Error> {
     let (is_new, bytes) = on_new(alloc)?;
     let len = bytes.len();
@@ -100,7 +93,6 @@ fn are_answered(alloc: Global) -> Result<bool, Error> {
     Ok(is_new && is_opened && again.len() == len)
 }
 
-/// Checks the results of a list of calls.
 pub(crate) fn a_list_of_calls_is_answered(rt: &HostRuntime) -> bool {
     is_shown(rt, &"a list of calls", are_answered(rt.alloc()))
 }

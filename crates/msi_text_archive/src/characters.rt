@@ -17,42 +17,37 @@ fn is_control(byte: u8) -> bool
     matches!(byte, 0 | 8 | 9 | 10 | 12 | 13)
 }
 
-/// Whether a byte is a character that stands for a control character.
+/// Whether a byte is a character that replaces a control character.
 fn is_stand_in(byte: u8) -> bool
     ensures { result ≡ is_stand_in_of byte }
 {
     byte < PLAIN && matches!(byte, 16 | 17 | 21 | 24 | 25 | 27)
 }
 
-/// Whether a text has a control character that has to be replaced.
 pub(crate) fn has_control(text: &str) -> bool
     ensures { result ≡ list_any is_control_of text.now }
 {
     text.as_bytes().iter().any(|byte| is_control(*byte))
 }
 
-/// Whether a text has a character that stands for a control character.
 pub(crate) fn has_stand_in(text: &str) -> bool
     ensures { result ≡ list_any is_stand_in_of text.now }
 {
     text.as_bytes().iter().any(|byte| is_stand_in(*byte))
 }
 
-/// Whether a byte is a character that changes places with another.
 fn is_moved(byte: u8) -> bool
     ensures { result ≡ (is_control_of byte || is_stand_in_of byte) }
 {
     byte < PLAIN && (is_control(byte) || is_stand_in(byte))
 }
 
-/// Whether a text has a character that changes places with another.
 fn has_moved(text: &str) -> bool
     ensures { result ≡ list_any (λ c. is_control_of c || is_stand_in_of c) text.now }
 {
     text.as_bytes().iter().any(|byte| is_moved(*byte))
 }
 
-/// The character that changes places with this one.
 fn swapped(character: char) -> char
     ensures { result ≡ swapped_of character }
 {
@@ -73,7 +68,7 @@ fn swapped(character: char) -> char
     }
 }
 
-/// Writes a text behind another, in which control characters and those that stand for them have changed places.
+/// Appends a text in which control characters and those that replace them have changed places.
 pub(crate) fn push_swapped(text: &mut String, plain: &str) -> Result<(), AllocError>
     ensures { OnOk result (string_bytes text.new ≡ string_bytes text.old ++ map swapped_of plain.now) }
 {
@@ -84,7 +79,6 @@ pub(crate) fn push_swapped(text: &mut String, plain: &str) -> Result<(), AllocEr
     }
 }
 
-/// The same, character by character.
 fn push_each_swapped(text: &mut String, plain: &str) -> Result<(), AllocError>
     ensures { OnOk result (string_bytes text.new ≡ string_bytes text.old ++ map swapped_of plain.now) }
 {
@@ -94,7 +88,6 @@ fn push_each_swapped(text: &mut String, plain: &str) -> Result<(), AllocError>
     Ok(())
 }
 
-/// A text in which control characters and those that stand for them have changed places.
 pub(crate) fn swapped_text(alloc: Global, plain: &str) -> Result<String, AllocError>
     ensures { IfOk result (λ swapped. string_bytes swapped ≡ map swapped_of plain.now) }
 {

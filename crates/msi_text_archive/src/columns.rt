@@ -16,7 +16,6 @@ use crate::type_fields::{TypeField, type_of};
 use msi_text_base::errors::ErrorKind;
 use std::alloc::Global;
 
-/// The type that the field at a place means.
 fn type_at(place: Place, field: &str) -> Result<TypeField, ArchiveError>
     ensures value { Gives (λ type. type) result (type_in field.now) }
     ensures place { Placed result (unless_read (type_in field.now) place) }
@@ -24,7 +23,6 @@ fn type_at(place: Place, field: &str) -> Result<TypeField, ArchiveError>
     at(place, type_of(field))
 }
 
-/// The column of a name and the type below it, which are the fields of this number.
 #[tactic(auto, unfolding(crate::specs::Reading::column_in))]
 fn column_of(
     alloc: Global,
@@ -48,7 +46,6 @@ fn column_of(
     Ok(ArchiveColumn::new(name, found.coltype, found.is_localizable, found.is_nullable))
 }
 
-/// The columns of names and as many types.
 fn columns_with(
     alloc: Global,
     names: &[&str],
@@ -71,7 +68,6 @@ fn columns_with(
     Ok(columns)
 }
 
-/// The columns that the first two lines name.
 #[tactic(auto, unfolding(crate::specs::Reading::columns_in))]
 pub(crate) fn columns_of(
     alloc: Global,

@@ -35,7 +35,6 @@ impl Model for ArchiveError {
 }
 
 impl ArchiveError {
-    /// Returns an error at a place.
     pub(crate) fn new(place: Place, kind: ErrorKind, reason: Reason) -> ArchiveError
         ensures { result ≡ record { kind = kind; place = Some place } }
     {
@@ -99,7 +98,7 @@ impl<T: Drop> From<AllocFailed<T>> for ArchiveError {
     }
 }
 
-/// What was read of a field, with its place where that is an error; memory is refused at no place.
+/// Adds the place of a field to an error, except where memory is refused, which has no place.
 pub(crate) fn at<T>(place: Place, read: Result<T, Error>) -> Result<T, ArchiveError>
     ensures { GetsPlace place read result }
 {
@@ -115,7 +114,6 @@ pub(crate) fn at<T>(place: Place, read: Result<T, Error>) -> Result<T, ArchiveEr
     }
 }
 
-/// Refuses a part of an archive that has no field.
 pub(crate) fn check(holds: bool, place: Place, reason: Reason) -> Result<(), ArchiveError>
     ensures kind { Checks result holds }
     ensures place { Placed result (unless holds place) }
@@ -127,7 +125,8 @@ pub(crate) fn check(holds: bool, place: Place, reason: Reason) -> Result<(), Arc
     }
 }
 
-/// The place in a line of another number of fields than there are columns: the first that is missing or too many.
+/// Returns the place in a line of another number of fields than there are columns: the first that is missing or too
+/// many.
 #[tactic(auto, using(crate::proofs::PlaceLemmas::uneven_is))]
 pub(crate) fn uneven(line: usize, columns: usize, fields: usize) -> Place
     requires { columns ≢ fields }

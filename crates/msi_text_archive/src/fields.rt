@@ -17,14 +17,12 @@ use msi_text_base::errors::{Error, ErrorKind};
 use msi_text_base::text::Text;
 use std::alloc::{AllocError, Global};
 
-/// The fields of a line.
 pub(crate) fn fields_of<'a>(alloc: Global, line: &'a str) -> Result<Vec<&'a str>, AllocError>
     ensures { IfOk result (λ parts. map (λ part. part.now) parts.items ≡ fields line.now) }
 {
     line.split('\t').collect(alloc)
 }
 
-/// The fields of one of the first two lines.
 pub(crate) fn header_fields<'a>(alloc: Global, line: &'a str) -> Result<Vec<&'a str>, AllocError>
     ensures { IfOk result (λ parts. map (λ part. part.now) parts.items ≡ header_fields_in line.now) }
 {
@@ -34,7 +32,6 @@ pub(crate) fn header_fields<'a>(alloc: Global, line: &'a str) -> Result<Vec<&'a 
     fields_of(alloc, line)
 }
 
-/// The text that a field means.
 fn text_of(alloc: Global, field: &str) -> Result<Text, Error>
     ensures { Gives (λ text. text) result (text_in field.now) }
 {
@@ -44,7 +41,6 @@ fn text_of(alloc: Global, field: &str) -> Result<Text, Error>
     Ok(Text::from_string(swapped_text(alloc, field)?))
 }
 
-/// The text that the field at a place means.
 pub(crate) fn text_at(alloc: Global, place: Place, field: &str) -> Result<Text, ArchiveError>
     ensures value { GivesAt (λ text. text) result (text_in field.now) }
     ensures place { Placed result (unless_read (text_in field.now) place) }
@@ -52,7 +48,6 @@ pub(crate) fn text_at(alloc: Global, place: Place, field: &str) -> Result<Text, 
     at(place, text_of(alloc, field))
 }
 
-/// The number that a field means.
 fn number_of(field: &str) -> Result<i32, Error>
     ensures { Gives (λ number. number) result (number_in field.now) }
 {
@@ -62,7 +57,7 @@ fn number_of(field: &str) -> Result<i32, Error>
     }
 }
 
-/// The value that a field means that isn't empty.
+/// Returns the value of a field that isn't empty.
 fn filled_value(alloc: Global, coltype: ColumnType, field: &str) -> Result<Value, Error>
     ensures { Gives (λ value. value) result (filled_in coltype field.now) }
 {
@@ -72,7 +67,6 @@ fn filled_value(alloc: Global, coltype: ColumnType, field: &str) -> Result<Value
     }
 }
 
-/// The value that a field means in a column of a type.
 fn value_of(alloc: Global, coltype: ColumnType, field: &str) -> Result<Value, Error>
     ensures { Gives (λ value. value) result (value_in coltype field.now) }
 {
@@ -82,7 +76,6 @@ fn value_of(alloc: Global, coltype: ColumnType, field: &str) -> Result<Value, Er
     filled_value(alloc, coltype, field)
 }
 
-/// The value that the field at a place means in a column.
 #[tactic(auto, unfolding(crate::specs::Reading::cell_in))]
 pub(crate) fn cell_at(
     alloc: Global,

@@ -33,7 +33,7 @@ impl Model for KeysLine {
     ghost view = { λ k. record { page = k.page; table = k.table; keys = k.keys } };
 }
 
-/// The number of the field with the table's name, which stands behind a page if there is one.
+/// Returns the number of the field with the table's name, which is behind a page if there is one.
 pub(crate) fn table_field(page: Option<u16>) -> usize
     ensures field { result ≡ table_number page }
     ensures low { result ≤ 2 }
@@ -41,7 +41,7 @@ pub(crate) fn table_field(page: Option<u16>) -> usize
     if page.is_some() { 2 } else { 1 }
 }
 
-/// The names of the key columns that fields mean, which stand behind so many others.
+/// Returns the names of the key columns that fields mean, which are behind `before` others.
 fn names_of(alloc: Global, before: usize, fields: &[&str]) -> Result<Vec<Text>, ArchiveError>
     requires { before ≤ 2 }
     ensures value { Gives (λ names. names.items) result (each text_in (map (λ field. field.now) fields.now)) }
@@ -59,7 +59,6 @@ fn names_of(alloc: Global, before: usize, fields: &[&str]) -> Result<Vec<Text>, 
     Ok(names)
 }
 
-/// The line of a page, with the fields of the table and the keys.
 #[tactic(auto, unfolding(crate::specs::Reading::keys_with))]
 fn keys_with(
     alloc: Global,
@@ -82,7 +81,6 @@ fn keys_with(
     })
 }
 
-/// The error of a line without a table's name, which was expected in this field.
 fn without_table(field: usize) -> ArchiveError
     ensures { result ≡ record { kind = InvalidData; place = Some (at 3 field) } }
 {
@@ -90,7 +88,6 @@ fn without_table(field: usize) -> ArchiveError
     ArchiveError::new(place, ErrorKind::InvalidData, reasons::TABLE_MISSING)
 }
 
-/// What the fields of the third line say.
 pub(crate) fn keys_of(alloc: Global, fields: &[&str]) -> Result<KeysLine, ArchiveError>
     ensures value { Gives (λ line. line) result (keys_in (map (λ field. field.now) fields.now)) }
     ensures place { Placed result (keys_wrong (map (λ field. field.now) fields.now)) }

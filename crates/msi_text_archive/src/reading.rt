@@ -20,14 +20,12 @@ use msi_text_base::errors::ErrorKind;
 use msi_text_base::text::Items;
 use std::alloc::{AllocError, Global};
 
-/// The lines of a text.
 fn lines_of<'a>(alloc: Global, text: &'a str) -> Result<Vec<&'a str>, AllocError>
     ensures { IfOk result (λ parts. map (λ line. line.now) parts.items ≡ lines text.now) }
 {
     text.lines().collect(alloc)
 }
 
-/// The row of the fields of a line, one for each column.
 fn row_with(
     alloc: Global,
     line: usize,
@@ -51,7 +49,6 @@ fn row_with(
     Ok(row)
 }
 
-/// The row of a line of this number.
 #[tactic(auto, unfolding(crate::specs::Reading::row_in))]
 fn row_of(
     alloc: Global,
@@ -67,7 +64,6 @@ fn row_of(
     Ok(Items::from_vec(row))
 }
 
-/// The rows of the lines behind the third.
 fn rows_of(
     alloc: Global,
     columns: &[ArchiveColumn],
@@ -84,7 +80,6 @@ fn rows_of(
     Ok(rows)
 }
 
-/// The archive of the three lines in front and those of the rows.
 #[tactic(auto, unfolding(crate::specs::Reading::archive_of))]
 fn archive_with(
     alloc: Global,
@@ -111,7 +106,6 @@ fn archive_with(
     ))
 }
 
-/// The archive of lines.
 fn archive_of_parts(alloc: Global, lines: &[&str]) -> Result<Archive, ArchiveError>
     ensures value { Gives (λ archive. archive) result (archive_of_lines (map (λ line. line.now) lines.now)) }
     ensures place { Placed result (lines_wrong (map (λ line. line.now) lines.now)) }
@@ -128,7 +122,6 @@ fn archive_of_parts(alloc: Global, lines: &[&str]) -> Result<Archive, ArchiveErr
     }
 }
 
-/// The archive that a text means.
 fn archive_in_text(alloc: Global, text: &str) -> Result<Archive, ArchiveError>
     ensures value { Gives (λ archive. archive) result (archive_in text.now) }
     ensures place { Placed result (text_wrong text.now) }

@@ -31,7 +31,7 @@ impl Model for TypeField {
     } };
 }
 
-/// The number below 2^16 that a text is, where a plus may stand in front.
+/// Returns the number below 2^16 that a text is, where a plus may be in front.
 pub(crate) fn u16_of(text: &str) -> Option<u16>
     ensures { result ≡ u16_in text.now }
 {
@@ -41,7 +41,6 @@ pub(crate) fn u16_of(text: &str) -> Option<u16>
     }
 }
 
-/// The type of numbers of so many bytes.
 fn number_type(width: u16) -> Option<ColumnType>
     ensures { result ≡ number_type_of width }
 {
@@ -52,7 +51,6 @@ fn number_type(width: u16) -> Option<ColumnType>
     }
 }
 
-/// The type of streams, whose width is 0.
 fn stream_type(width: u16) -> Option<ColumnType>
     ensures { result ≡ stream_type_of width }
 {
@@ -63,7 +61,7 @@ fn stream_type(width: u16) -> Option<ColumnType>
     }
 }
 
-/// The type that a small letter and a width name, and whether its texts can be localized.
+/// Returns the type that a small letter and a width name, and whether its texts can be localized.
 fn type_of_letter(letter: u8, width: u16) -> Option<(ColumnType, bool)>
     ensures { result ≡ type_of_letter_in letter width }
 {
@@ -82,7 +80,6 @@ fn type_of_letter(letter: u8, width: u16) -> Option<(ColumnType, bool)>
     }
 }
 
-/// The type that a letter and a width name.
 fn type_of_parts(letter: u8, width: u16) -> Option<TypeField>
     ensures { result ≡ type_with letter width }
 {
@@ -96,7 +93,6 @@ fn type_of_parts(letter: u8, width: u16) -> Option<TypeField>
     }
 }
 
-/// The type that a field means, if it means one.
 fn type_in_field(field: &str) -> Option<TypeField>
     ensures { result ≡ type_in field.now }
 {
@@ -108,7 +104,6 @@ fn type_in_field(field: &str) -> Option<TypeField>
     type_of_parts(*letter, width)
 }
 
-/// The type that a field means.
 pub(crate) fn type_of(field: &str) -> Result<TypeField, Error>
     ensures { Gives (λ type. type) result (type_in field.now) }
 {

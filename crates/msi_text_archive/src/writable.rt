@@ -23,14 +23,12 @@ use msi_table_values::value::Value;
 use msi_text_base::errors::ErrorKind;
 use msi_text_base::text::{Items, Text};
 
-/// Whether a text has a field.
 fn has_field(text: &str) -> bool
     ensures { result ≡ has_field_of text.now }
 {
     !text.is_empty() && !has_stand_in(text)
 }
 
-/// Whether the values of a type are numbers.
 fn is_number_type(coltype: ColumnType) -> bool
     ensures { result ≡ is_number_type_of coltype }
 {
@@ -45,7 +43,6 @@ fn has_number_field(coltype: ColumnType, number: i32) -> bool
     is_number_type(coltype)
 }
 
-/// Whether a value has a field in a column of a type.
 fn has_value_field(coltype: ColumnType, value: &Value) -> bool
     ensures { result ≡ has_value_field_of coltype value.now }
 {
@@ -67,14 +64,13 @@ fn has_width(coltype: ColumnType, is_localizable: bool) -> bool
     }
 }
 
-/// Whether a table's name has a field: without a page in front none that is read as a page.
+/// Whether a table's name has a field. Without a page in front, a name that is read as a page has none.
 fn is_writable_table(page: Option<u16>, table: &str) -> bool
     ensures { result ≡ has_table_field page table.now }
 {
     has_field(table) && (page.is_some() || u16_of(table).is_none())
 }
 
-/// Refuses a column whose name or type has no field. Its fields have this number.
 fn check_column(number: usize, column: &ArchiveColumn) -> Result<(), ArchiveError>
     ensures kind { Checks result (has_column_fields column.now) }
     ensures place { Placed result (column_unwritable number column.now) }
@@ -95,7 +91,6 @@ fn check_column(number: usize, column: &ArchiveColumn) -> Result<(), ArchiveErro
     )
 }
 
-/// Refuses columns of which one has no field.
 fn check_columns(columns: &[ArchiveColumn]) -> Result<(), ArchiveError>
     ensures kind { Checks result (list_all has_column_fields columns.now) }
     ensures place { Placed result (first_wrong column_unwritable 1 columns.now) }
@@ -106,7 +101,7 @@ fn check_columns(columns: &[ArchiveColumn]) -> Result<(), ArchiveError>
     Ok(())
 }
 
-/// Refuses names of key columns of which one has no field. They stand behind so many others.
+/// Refuses names of key columns of which one has no field. They are behind `before` others.
 fn check_names(before: usize, names: &[Text]) -> Result<(), ArchiveError>
     requires { before ≤ 2 }
     ensures kind { Checks result (list_all has_field_of names.now) }
@@ -126,7 +121,6 @@ fn check_names(before: usize, names: &[Text]) -> Result<(), ArchiveError>
     Ok(())
 }
 
-/// Refuses the third line of an archive where a part of it has no field.
 fn check_keys(archive: &Archive) -> Result<(), ArchiveError>
     ensures kind { Checks result (has_key_fields archive.now.head) }
     ensures place { Placed result (keys_unwritable archive.now.head) }
@@ -141,7 +135,6 @@ fn check_keys(archive: &Archive) -> Result<(), ArchiveError>
     check_names(field, archive.keys())
 }
 
-/// Refuses as many values as there are columns, in a line of this number, where one has no field.
 fn check_values(line: usize, columns: &[ArchiveColumn], row: &[Value]) -> Result<(), ArchiveError>
     requires { length columns.now ≡ length row.now }
     ensures kind { Checks result (has_row_fields columns.now row.now) }
@@ -158,7 +151,7 @@ fn check_values(line: usize, columns: &[ArchiveColumn], row: &[Value]) -> Result
     Ok(())
 }
 
-/// Refuses a row whose line, of this number, hasn't a value with a field for each column, or where there is no column.
+/// Refuses a row whose line hasn't a value with a field for each column, or where there is no column.
 pub(crate) fn check_row(
     line: usize,
     columns: &[ArchiveColumn],
@@ -179,7 +172,6 @@ pub(crate) fn check_row(
     check_values(line, columns, row)
 }
 
-/// Refuses rows of which one has no line.
 fn check_rows(columns: &[ArchiveColumn], rows: &[Items<Value>]) -> Result<(), ArchiveError>
     ensures kind { Checks result (list_all (has_row_line columns.now) rows.now) }
     ensures place { Placed result (first_wrong (row_unwritable columns.now) 4 rows.now) }

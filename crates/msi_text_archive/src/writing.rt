@@ -21,7 +21,6 @@ use msi_table_values::value::Value;
 use msi_text_base::text::Items;
 use std::alloc::{AllocError, Global};
 
-/// Writes the field of a value behind a text.
 fn push_value(text: &mut String, value: &Value) -> Result<(), AllocError>
     ensures { OnOk result (string_bytes text.new ≡ string_bytes text.old ++ value_field_of value.now) }
 {
@@ -32,7 +31,6 @@ fn push_value(text: &mut String, value: &Value) -> Result<(), AllocError>
     }
 }
 
-/// The letter of a type that doesn't take null.
 fn type_letter(coltype: ColumnType, is_localizable: bool) -> char
     ensures { result ≡ type_letter_of coltype is_localizable }
 {
@@ -43,7 +41,6 @@ fn type_letter(coltype: ColumnType, is_localizable: bool) -> char
     }
 }
 
-/// The width of a type.
 fn type_width(coltype: ColumnType) -> usize
     ensures { result ≡ type_width_of coltype }
 {
@@ -55,7 +52,6 @@ fn type_width(coltype: ColumnType) -> usize
     }
 }
 
-/// Writes the field of a column's type behind a text.
 fn push_type(text: &mut String, column: &ArchiveColumn) -> Result<(), AllocError>
     ensures { OnOk result (string_bytes text.new ≡ string_bytes text.old ++ type_field_of column.now.field_type) }
 {
@@ -68,7 +64,6 @@ fn push_type(text: &mut String, column: &ArchiveColumn) -> Result<(), AllocError
     write!(text, "{}", type_width(column.coltype()))
 }
 
-/// Writes the first line behind a text.
 fn push_names(text: &mut String, columns: &[ArchiveColumn]) -> Result<(), AllocError>
     ensures { OnOk result (string_bytes text.new ≡ string_bytes text.old ++ line_of (name_fields columns.now)) }
 {
@@ -83,7 +78,6 @@ fn push_names(text: &mut String, columns: &[ArchiveColumn]) -> Result<(), AllocE
     text.push_str("\r\n")
 }
 
-/// Writes the second line behind a text.
 fn push_types(text: &mut String, columns: &[ArchiveColumn]) -> Result<(), AllocError>
     ensures { OnOk result (string_bytes text.new ≡ string_bytes text.old ++ line_of (type_fields columns.now)) }
 {
@@ -98,7 +92,6 @@ fn push_types(text: &mut String, columns: &[ArchiveColumn]) -> Result<(), AllocE
     text.push_str("\r\n")
 }
 
-/// Writes the number of a page behind a text, with a tab.
 fn push_page(text: &mut String, page: Option<u16>) -> Result<(), AllocError>
     ensures { OnOk result (string_bytes text.new ≡ string_bytes text.old ++ page_front page) }
 {
@@ -109,7 +102,6 @@ fn push_page(text: &mut String, page: Option<u16>) -> Result<(), AllocError>
     Ok(())
 }
 
-/// Writes the third line behind a text.
 fn push_keys(text: &mut String, archive: &Archive) -> Result<(), AllocError>
     ensures { OnOk result (string_bytes text.new ≡ string_bytes text.old ++ line_of (key_fields archive.now.head)) }
 {
@@ -122,7 +114,6 @@ fn push_keys(text: &mut String, archive: &Archive) -> Result<(), AllocError>
     text.push_str("\r\n")
 }
 
-/// Writes the line of a row behind a text.
 fn push_row(text: &mut String, row: &[Value]) -> Result<(), AllocError>
     ensures { OnOk result (string_bytes text.new ≡ string_bytes text.old ++ row_line row.now) }
 {
@@ -137,7 +128,6 @@ fn push_row(text: &mut String, row: &[Value]) -> Result<(), AllocError>
     text.push_str("\r\n")
 }
 
-/// Writes the lines of rows behind a text.
 fn push_rows(text: &mut String, rows: &[Items<Value>]) -> Result<(), AllocError>
     ensures { OnOk result (string_bytes text.new ≡ string_bytes text.old ++ flat_map row_line rows.now) }
 {
@@ -147,7 +137,6 @@ fn push_rows(text: &mut String, rows: &[Items<Value>]) -> Result<(), AllocError>
     Ok(())
 }
 
-/// The text of an archive.
 fn text_of_archive(alloc: Global, archive: &Archive) -> Result<String, AllocError>
     ensures { IfOk result (λ text. string_bytes text ≡ archive_text archive.now) }
 {

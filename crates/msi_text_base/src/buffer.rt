@@ -128,7 +128,6 @@ impl TextBuffer {
     }
 }
 
-/// Two texts in one string, with room for so many bytes. The only error is `OutOfMemory`.
 fn joined(alloc: Global, front: &str, text: &str, room: usize) -> Result<String, Error>
     ensures ok { IfOk result (λ whole. string_bytes whole ≡ front.now ++ text.now) }
     ensures kind { OnlyMemory result }

@@ -122,7 +122,6 @@ impl CodePage {
         }
     }
 
-    /// The page of an id without sign.
     pub(crate) fn from_number(number: u32) -> Option<CodePage>
         ensures { result ≡ page_with_id number }
     {
@@ -137,7 +136,6 @@ impl CodePage {
         None
     }
 
-    /// Whether an id without sign is the page's own.
     fn has_number(self, number: u32) -> bool
         ensures { result ≡ (page_id self == number) }
     {
@@ -151,7 +149,6 @@ impl CodePage {
         self.to_number() as i32
     }
 
-    /// The id without sign.
     pub(crate) fn to_number(self) -> u32
         ensures value { result ≡ page_id self }
         ensures least { 0 < result }
@@ -280,8 +277,7 @@ impl CodePage {
     }
 }
 
-/// What bytes read as where these characters stand from byte 0x80 on, or in a page without a table. ASCII reads as
-/// itself.
+/// Decodes bytes where these characters are from byte 0x80 on, or in a page without a table. ASCII reads as itself.
 fn single_byte_text(alloc: Global, upper: Option<&[char]>, bytes: &[u8]) -> Result<String, Error>
     ensures ok { IfOk result (λ text. single_byte_text (option_copied upper.entry) bytes.now
         ≡ Some (string_bytes text)) }
@@ -298,8 +294,8 @@ fn single_byte_text(alloc: Global, upper: Option<&[char]>, bytes: &[u8]) -> Resu
     }
 }
 
-/// How a text is encoded where these characters stand from byte 0x80 on, or in a page without a table. ASCII is its
-/// own encoding.
+/// Encodes a text where these characters are from byte 0x80 on, or in a page without a table. ASCII is its own
+/// encoding.
 fn single_byte_spelling(alloc: Global, upper: Option<&[char]>, text: &str) -> Result<Vec<u8>, Error>
     requires { IfSome upper (λ characters. length characters.now ≤ 128) }
     ensures ok { IfOk result (λ bytes. single_byte_spelling (option_copied upper.entry) text.now ≡ Some bytes.items) }
@@ -316,14 +312,12 @@ fn single_byte_spelling(alloc: Global, upper: Option<&[char]>, text: &str) -> Re
     }
 }
 
-/// Whether each byte is ASCII.
 fn is_ascii(bytes: &[u8]) -> bool
     ensures { result ≡ is_ascii bytes.now }
 {
     bytes.iter().all(|byte| *byte < 0x80)
 }
 
-/// The bytes as a text, where each is ASCII.
 fn ascii_text(bytes: &[u8]) -> Option<&str>
     ensures { MatchOption result (is_ascii bytes.now ≡ false)
         (λ text. (is_ascii bytes.now ≡ true) × (text.now ≡ bytes.now)) }

@@ -81,7 +81,6 @@ impl Error {
         Error { kind, reason }
     }
 
-    /// The error of a growth that was refused.
     fn out_of_memory() -> Error
         ensures { result ≡ OutOfMemory }
     {

@@ -141,7 +141,6 @@ impl Category {
         }
     }
 
-    /// How else it may be written.
     fn other_name(self) -> &'static str
         ensures { result.now ≡ other_name self }
     {
@@ -152,7 +151,6 @@ impl Category {
         }
     }
 
-    /// Whether a text is one of its names.
     fn has_name(self, text: &str) -> bool
         ensures { result ≡ (bytes_eq (category_name self) text.now || bytes_eq (other_name self) text.now) }
     {

@@ -44,28 +44,24 @@ impl Category {
     }
 }
 
-/// Whether a small letter stands in a text.
 fn has_lower(text: &str) -> bool
     ensures { result ≡ list_any is_lower text.now }
 {
     text.as_bytes().iter().any(|byte| byte.is_ascii_lowercase())
 }
 
-/// Whether a capital letter stands in a text.
 fn has_upper(text: &str) -> bool
     ensures { result ≡ list_any is_upper text.now }
 {
     text.as_bytes().iter().any(|byte| byte.is_ascii_uppercase())
 }
 
-/// Whether a text is a number of 16 bits, with its sign or without.
 fn is_number_of_16_bits(text: &str) -> bool
     ensures { result ≡ is_number_within (neg_ℤ (pos 32768)) (pos 32767) text.now }
 {
     text.parse::<i16>().is_ok()
 }
 
-/// Whether a text is a number of 32 bits, with its sign or without.
 fn is_number_of_32_bits(text: &str) -> bool
     ensures { result ≡ is_number_within (neg_ℤ (pos 2147483648)) (pos 2147483647) text.now }
 {
@@ -79,14 +75,12 @@ fn is_unsigned_number(text: &str) -> bool
     text.parse::<u16>().is_ok()
 }
 
-/// Whether a name may begin with a byte.
 fn starts_name(byte: u8) -> bool
     ensures { result ≡ starts_name byte }
 {
     byte.is_ascii_lowercase() || byte.is_ascii_uppercase() || byte == b'_'
 }
 
-/// Whether a name may have a byte behind its first.
 fn continues_name(byte: u8) -> bool
     ensures { result ≡ continues_name byte }
 {
@@ -103,14 +97,13 @@ fn is_identifier(text: &[u8]) -> bool
     }
 }
 
-/// Whether a name may have each of these bytes behind its first.
 fn all_continue_name(text: &[u8]) -> bool
     ensures { result ≡ list_all continues_name text.now }
 {
     text.iter().all(|byte| continues_name(*byte))
 }
 
-/// Whether a text is an identifier, after one `%` if there.
+/// Whether a text is an identifier, with or without one `%` in front.
 fn is_property(text: &[u8]) -> bool
     ensures { result ≡ is_property text.now }
 {
@@ -127,7 +120,7 @@ fn is_guid(text: &str) -> bool
     is_braced_uuid(text) && !has_lower(text)
 }
 
-/// Whether a text is a UUID with its hyphens, in braces. Only that of its forms has so many bytes.
+/// Whether a text is a UUID with its hyphens, in braces. Only this of its forms has so many bytes.
 fn is_braced_uuid(text: &str) -> bool
     ensures { result ≡ is_braced_uuid text.now }
 {
@@ -141,7 +134,6 @@ fn is_version(text: &str) -> bool
     text.split('.').count() <= MOST_VERSION_PARTS && text.split('.').all(is_unsigned_number)
 }
 
-/// Whether a text is numbers of 16 bits between commas.
 fn is_language_list(text: &str) -> bool
     ensures { result ≡ is_language_list text.now }
 {
@@ -168,7 +160,6 @@ fn is_short_name(text: &str) -> bool
     }
 }
 
-/// Whether a text has 1 to 8 bytes.
 fn is_short_front(text: &str) -> bool
     ensures { result ≡ is_in_range 1 8 (length text.now) }
 {

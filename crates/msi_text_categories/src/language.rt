@@ -103,7 +103,6 @@ impl LanguageId {
     }
 }
 
-/// Returns the id in the first of some rows that has a tag.
 fn id_in(rows: &[(u16, &str)], tag: &str) -> Option<u16>
     ensures { result ≡ option_map (λ row. row.0) (find (λ row. bytes_eq row.1 tag.now) (rows_told rows.now)) }
 {

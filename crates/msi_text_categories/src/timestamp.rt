@@ -104,14 +104,13 @@ impl Timestamp {
     }
 }
 
-/// The ticks from the start of 1601 to a time, which may lie before it or past the last tick.
+/// Returns the ticks from the start of 1601 to a time, which may be before it or past the last tick.
 fn unbounded_ticks(secs: i64, nanos: u32) -> i128
     ensures { result ≡ pos epoch +ℤ int_div (secs *ℤ pos 1000000000 +ℤ pos nanos) (pos 100) }
 {
     UNIX_EPOCH + (secs as i128 * 1_000_000_000 + nanos as i128) / 100
 }
 
-/// The nearest count of ticks that a time can have.
 fn saturated(ticks: i128) -> u64
     ensures { result ≡ saturate_unsigned w64 ticks }
 {

@@ -102,7 +102,7 @@ impl Decoder {
         None
     }
 
-    /// The text of the characters that are read for the sequences: U+FFFD where one stands for no character.
+    /// Returns the text of the sequences, with U+FFFD where one stands for no character.
     fn text_read(&self, alloc: Global, bytes: &[u8]) -> Result<String, AllocError>
         ensures { IfOk result (λ text. string_bytes text
             ≡ encode_utf8_all (map (character_read self.now) (sequences (is_lead self.now) bytes.now))) }
@@ -117,7 +117,6 @@ impl Decoder {
         Ok(text)
     }
 
-    /// How many bytes the first sequence has, and what it stands for.
     fn first_sequence(&self, bytes: &[u8]) -> (usize, Option<char>)
         requires { 0 < length bytes.now }
         ensures least { 0 < result.0 }
@@ -134,7 +133,6 @@ impl Decoder {
         }
     }
 
-    /// What a byte stands for alone.
     pub(crate) fn character_alone(&self, byte: u8) -> Option<char>
         ensures { result ≡ character_alone self.now byte }
     {
@@ -144,7 +142,6 @@ impl Decoder {
         self.character_at(byte as usize - 0x80)
     }
 
-    /// What a row's pair with this second byte stands for.
     #[tactic(auto, unfolding(crate::specs::Sequences::character_in_row))]
     pub(crate) fn character_in_row(&self, second: u8, row: usize) -> Option<char>
         requires { row < 512 }
@@ -156,8 +153,8 @@ impl Decoder {
         self.character_at(128 + 192 * row + (second as usize - 0x40))
     }
 
-    /// The character at a place of the page's text: none where the text has ended, or an ASCII character fills the
-    /// place.
+    /// Returns the character at a place of the page's text: none where the text has ended, or an ASCII character fills
+    /// the place.
     #[tactic(auto, unfolding(crate::specs::Sequences::character_at))]
     fn character_at(&self, place: usize) -> Option<char>
         ensures { result ≡ character_at self.now place }
@@ -169,7 +166,6 @@ impl Decoder {
     }
 }
 
-/// The bytes behind so many.
 fn behind(bytes: &[u8], count: usize) -> &[u8]
     requires { count ≤ length bytes.now }
     ensures { result.now ≡ drop count bytes.now }
@@ -177,7 +173,6 @@ fn behind(bytes: &[u8], count: usize) -> &[u8]
     &bytes[count..]
 }
 
-/// The characters of a text.
 fn characters_of(alloc: Global, text: &str) -> Result<Vec<char>, AllocError>
     ensures { IfOk result (λ characters. characters.items ≡ chars text.now) }
 {

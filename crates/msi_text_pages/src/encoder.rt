@@ -94,7 +94,6 @@ impl Encoder {
         self.has_all(text)
     }
 
-    /// Whether each character of a text has a number.
     fn has_all(&self, text: &str) -> bool
         ensures { result ≡ list_all (λ c. is_some (number_of self.now c)) (chars text.now) }
     {
@@ -102,7 +101,6 @@ impl Encoder {
             .all(|character| self.number_of(character).is_some())
     }
 
-    /// The number of the bytes of a character.
     fn number_of(&self, character: char) -> Option<u16>
         ensures { result ≡ number_of self.now character }
     {
@@ -112,7 +110,7 @@ impl Encoder {
         }
     }
 
-    /// The bytes of the characters of a text: `?` where the page lacks one.
+    /// Returns the bytes of a text, with `?` where the page lacks a character.
     fn bytes_written(&self, alloc: Global, text: &str) -> Result<Vec<u8>, AllocError>
         ensures { IfOk result (λ bytes. bytes.items ≡ bytes_written self.now (chars text.now)) }
     {
@@ -123,7 +121,6 @@ impl Encoder {
         Ok(bytes)
     }
 
-    /// The number of the bytes that are written for a character: that of `?` where the page lacks it.
     fn number_written(&self, character: char) -> u16
         ensures { result ≡ number_written self.now character }
     {
@@ -154,7 +151,6 @@ fn is_written(page: Page, number: u16) -> bool
     }
 }
 
-/// What the sequence of a number stands for.
 fn character_of_number(decoder: &Decoder, number: u16) -> Option<char>
     ensures { result ≡ character_of decoder.now (sequence_of number) }
 {
@@ -171,7 +167,6 @@ fn character_of_number(decoder: &Decoder, number: u16) -> Option<char>
     }
 }
 
-/// What the sequence of a number stands for, where it is written.
 #[tactic(auto, unfolding(crate::specs::Spelling::written_character))]
 fn written_character(decoder: &Decoder, number: u16) -> Option<char>
     ensures { result ≡ written_character decoder.now number }
@@ -183,7 +178,6 @@ fn written_character(decoder: &Decoder, number: u16) -> Option<char>
     }
 }
 
-/// Nothing at each of so many places.
 fn nothing(alloc: Global, count: usize) -> Result<Vec<Option<u16>>, AllocError>
     ensures size { IfOk result (λ numbers. length numbers.items ≡ count) }
     ensures none { IfOk result (λ numbers. (c : ℕ) → c < count → slice_get numbers.items c ≡ Some None) }
@@ -191,7 +185,6 @@ fn nothing(alloc: Global, count: usize) -> Result<Vec<Option<u16>>, AllocError>
     vec![in alloc; None; count]
 }
 
-/// Enters the sequences of all numbers.
 fn fill(decoder: &Decoder, numbers: &mut [Option<u16>])
     requires { IsIndex decoder.now 0 numbers.old }
     ensures { IsIndex decoder.now 0x10000 numbers.new }
@@ -201,7 +194,7 @@ fn fill(decoder: &Decoder, numbers: &mut [Option<u16>])
     }
 }
 
-/// Enters the sequence of a number at its character, unless one before it stands there.
+/// Enters the sequence of a number at its character, unless an earlier one is there.
 fn enter(decoder: &Decoder, numbers: &mut [Option<u16>], number: u16)
     requires { IsIndex decoder.now number numbers.old }
     ensures { IsIndex decoder.now (number + 1) numbers.new }
@@ -212,7 +205,7 @@ fn enter(decoder: &Decoder, numbers: &mut [Option<u16>], number: u16)
     }
 }
 
-/// Puts a number at a place, unless one stands there, or the place is past the end.
+/// Puts a number at a place, unless one is there, or the place is past the end.
 fn put_first(numbers: &mut [Option<u16>], place: usize, number: u16)
     ensures { numbers.new ≡ with_first numbers.old place number }
 {

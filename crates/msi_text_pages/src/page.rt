@@ -95,7 +95,6 @@ impl Page {
         }
     }
 
-    /// The page of an id without sign.
     fn from_number(number: u32) -> Option<Page>
         ensures { result ≡ page_with_id number }
     {
@@ -107,7 +106,6 @@ impl Page {
         None
     }
 
-    /// Whether an id without sign is the page's own.
     fn has_number(self, number: u32) -> bool
         ensures { result ≡ (page_id self == number) }
     {
@@ -121,7 +119,6 @@ impl Page {
         self.to_number() as i32
     }
 
-    /// The id without sign.
     fn to_number(self) -> u32
         ensures value { result ≡ page_id self }
         ensures most { result < 2 ^ 31 }

@@ -5,7 +5,7 @@ ghost use Rattle.msi_text_pages.specs.Sequences.{row_among, row_of};
 
 use crate::page::Page;
 
-/// The row of a byte among those from a first to a last one, where the first has this row.
+/// Returns the row of a byte among those from a first to a last one, where the first has this row.
 fn row_among(first: u8, last: u8, row: u8, byte: u8) -> Option<usize>
     ensures is { result ≡ row_among first last row byte }
     ensures few { IfSome result (λ place. place < 512) }
@@ -16,7 +16,6 @@ fn row_among(first: u8, last: u8, row: u8, byte: u8) -> Option<usize>
     Some(row as usize + (byte - first) as usize)
 }
 
-/// The row of the pairs that begin with a byte, where pairs do.
 #[tactic(auto, unfolding(crate::specs::Sequences::row_of))]
 pub(crate) fn row_of(page: Page, byte: u8) -> Option<usize>
     ensures is { result ≡ row_of page byte }

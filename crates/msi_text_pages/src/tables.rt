@@ -11,8 +11,8 @@ pub(crate) mod windows_950;
 
 use crate::page::Page;
 
-/// The characters of a page: those of the bytes from 80 on that stand alone, and then a row of 192 for each first byte
-/// of two, those of the second bytes from 40 on. An ASCII character fills a place that stands for nothing.
+/// Returns the characters of a page: those of the bytes from 0x80 on that are alone, and then a row of 192 for each
+/// first byte of two, those of the second bytes from 0x40 on. An ASCII character fills a place that stands for nothing.
 #[tactic(auto, unfolding(crate::specs::Tables::page_text))]
 pub(crate) fn page_text(page: Page) -> &'static str
     ensures { result.now ≡ page_text page }

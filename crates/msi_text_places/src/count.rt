@@ -10,7 +10,6 @@ pub(crate) struct Count {
 }
 
 impl Count {
-    /// The count of a place that has its text.
     pub(crate) fn new(cells: u16) -> Count
         ensures { result ≡ record { cells = cells; is_forgotten = false } }
     {
@@ -20,14 +19,12 @@ impl Count {
         }
     }
 
-    /// How many cells name the place.
     pub(crate) fn cells(self) -> u16
         ensures { result ≡ self.cells }
     {
         self.cells
     }
 
-    /// Whether the text is lost.
     pub(crate) fn is_forgotten(self) -> bool
         ensures { result ≡ self.is_forgotten }
     {
@@ -46,7 +43,7 @@ impl Count {
         is_changed
     }
 
-    /// The text of a free place is lost unless the place is named.
+    /// Forgets the text of a free place unless the place is named.
     pub(crate) fn forget_text(&mut self, named: bool)
         ensures { self.new
             ≡ record self.old { is_forgotten = ((self.old.cells == 0) && not named) || self.old.is_forgotten } }

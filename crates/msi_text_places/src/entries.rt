@@ -74,7 +74,6 @@ impl Entries {
         Entry::new(len, self.counts[at].cells())
     }
 
-    /// The lengths and the counts.
     pub(crate) fn into_parts(self) -> (Numbers, Vec<Count>)
         ensures unread { AreUnread result.0 result.1.items }
         ensures entries { entries_with result.0 result.1.items ≡ self }

@@ -33,7 +33,6 @@ pub struct IndexedPlaces {
 }
 
 impl IndexedPlaces {
-    /// The places with indexes made of them. The only error is `OutOfMemory`.
     pub(crate) fn of(places: Places) -> Result<IndexedPlaces, Error>
         requires { length places ≤ 16777215 }
         ensures ok { IfOk result (λ all. all.places ≡ places) }
@@ -51,7 +50,7 @@ impl IndexedPlaces {
         })
     }
 
-    /// The same places and indexes once more, with no operation yet. The only error is `OutOfMemory`.
+    /// Returns the same places and indexes, with no operation yet.
     pub(crate) fn clone(&self) -> Result<IndexedPlaces, Error>
         requires { IsIndexed self.now }
         ensures ok { IfOk result (λ all. all.places ≡ self.now.places) }
@@ -75,14 +74,12 @@ impl IndexedPlaces {
         self.operations.count()
     }
 
-    /// The places, from number 1 on.
     pub(crate) fn places(&self) -> &Places
         ensures { result.now ≡ self.now.places }
     {
         &self.places
     }
 
-    /// The places, which are moved out. None is left.
     pub(crate) fn take_places(&mut self) -> Places
         ensures { result ≡ self.old.places }
     {
@@ -101,9 +98,9 @@ impl IndexedPlaces {
         self.places.forget_texts(is_named);
     }
 
-    /// Stores a text and returns its place, counted from 0: the first that is free or has the text and fewer than
-    /// 65535 cells, or else a new one. `InvalidInput` where there is room for no more, and else `OutOfMemory`; then
-    /// the places are as they were, and so are the indexes, which have what the places say.
+    /// Stores a text and returns its place, counted from 0: the first that is free or has the text and fewer than 65535
+    /// cells, or else a new one. Fails with `InvalidInput` where there is room for no more. If it fails, the places and
+    /// the indexes are as they were.
     pub(crate) fn take(&mut self, text: String, long: bool) -> Result<u32, Error>
         requires indexed { IsIndexed self.old }
         requires most { length self.old.places ≤ 16777215 }
@@ -133,7 +130,7 @@ impl IndexedPlaces {
         }
     }
 
-    /// One cell more names a place that has the text. Answers that place.
+    /// Counts one cell more for a place that has the text, and returns that place.
     fn raise(&mut self, at: u32, text: SharedText) -> Result<u32, Error>
         requires indexed { IsIndexed self.old }
         requires room { has_room_for text (slice_get self.old.places at) ≡ true }
@@ -159,7 +156,6 @@ impl IndexedPlaces {
         Ok(at)
     }
 
-    /// Puts a text at a free place. Answers that place.
     fn fill(&mut self, at: u32, text: SharedText) -> Result<u32, Error>
         requires indexed { IsIndexed self.old }
         requires free { is_free (slice_get self.old.places at) ≡ true }
@@ -179,7 +175,6 @@ impl IndexedPlaces {
         Ok(at)
     }
 
-    /// Puts a text at a new place behind the last, and returns that place.
     fn append(&mut self, text: SharedText, long: bool) -> Result<u32, Error>
         requires indexed { IsIndexed self.old }
         requires most { length self.old.places ≤ 16777215 }
@@ -209,9 +204,8 @@ impl IndexedPlaces {
         Ok(at)
     }
 
-    /// Gives back the place of a number from 1 on: one cell less names it, and its text goes with the last.
-    /// `InvalidData` past the end and for a free place, and else `OutOfMemory`; then the places are as they were, and
-    /// so are the indexes, which have what the places say.
+    /// Takes one cell from the place of a number from 1 on; its text goes with the last. Fails with `InvalidData` past
+    /// the end and for a free place. If it fails, the places and the indexes are as they were.
     pub(crate) fn give_back(&mut self, number: u32) -> Result<(), Error>
         requires indexed { IsIndexed self.old }
         requires most { length self.old.places ≤ 16777215 }
@@ -242,7 +236,6 @@ impl IndexedPlaces {
         }
     }
 
-    /// Frees a place of this text that one cell names.
     fn empty(&mut self, at: u32, text: SharedText) -> Result<(), Error>
         requires indexed { IsIndexed self.old }
         requires place { slice_get self.old.places at ≡ Some (record { text = text; count = 1 }) }
@@ -262,7 +255,7 @@ impl IndexedPlaces {
         Ok(())
     }
 
-    /// Puts a place that is still in use for what it was with one cell more.
+    /// Replaces a place that is still in use and had one cell more.
     fn lower(&mut self, at: u32, place: Place) -> Result<(), Error>
         requires indexed { IsIndexed self.old }
         requires place { slice_get self.old.places at ≡ Some (record { text = place.text; count = place.count + 1 }) }
@@ -289,7 +282,6 @@ pub fn most_places(long: bool) -> usize
     if long { MAX_PLACES } else { MAX_SHORT_PLACES }
 }
 
-/// The lesser of two places, where there is one.
 fn lesser(a: Option<u32>, b: Option<u32>) -> Option<u32>
     ensures { result ≡ lesser_of a b }
 {
@@ -315,8 +307,7 @@ fn close(texts: &mut TextIndex, entry: &Entry, count: u16, operations: &mut Oper
     }
 }
 
-/// Enters a place in the index of texts where its count was the most and is one less now. The only error is
-/// `OutOfMemory`.
+/// Enters a place in the index of texts where its count was the most and is one less now.
 fn reopen(
     texts: &mut TextIndex,
     at: u32,
@@ -337,7 +328,6 @@ fn reopen(
     Ok(())
 }
 
-/// Enters the text of a place in the index of texts. The only error is `OutOfMemory`.
 fn insert_text(
     texts: &mut TextIndex,
     at: u32,
@@ -355,7 +345,6 @@ fn insert_text(
     texts.insert(Entry::new(place.shared_text()?, at), operations)
 }
 
-/// Takes the text of a place out of the index of texts.
 fn remove_text(texts: &mut TextIndex, at: u32, text: SharedText, operations: &mut Operations)
     requires { operations.old + 1 < 2 ^ 32 }
     ensures removed { (other : List ℕ) (i : ℕ) → is_entered texts.new other i
@@ -365,7 +354,7 @@ fn remove_text(texts: &mut TextIndex, at: u32, text: SharedText, operations: &mu
     texts.remove(&Entry::new(text, at), operations);
 }
 
-/// The indexes of places, made in one pass. Its operations aren't counted.
+/// Makes the indexes in one pass. Its operations aren't counted.
 fn indexes_of(alloc: Global, places: &[Place]) -> Result<(FreePlaces, TextIndex), Error>
     requires { length places.now ≤ 16777215 }
     ensures free { IfOk result (λ indexes. AreFree indexes.0 places.now) }
@@ -381,7 +370,6 @@ fn indexes_of(alloc: Global, places: &[Place]) -> Result<(FreePlaces, TextIndex)
     Ok((free, texts))
 }
 
-/// Enters a place in the index where it belongs. The only error is `OutOfMemory`.
 fn enter(
     free: &mut FreePlaces,
     texts: &mut TextIndex,

@@ -38,7 +38,6 @@ impl JoinedTexts {
         }
     }
 
-    /// Texts that are cut at these ends.
     pub(crate) fn from_parts(whole: TextBuffer, ends: Numbers, counts: Vec<Count>) -> JoinedTexts
         requires { IsAllCut whole ends counts.items }
         ensures joined { IsJoined result }
@@ -51,7 +50,6 @@ impl JoinedTexts {
         }
     }
 
-    /// The same texts once more. The only error is `OutOfMemory`.
     pub(crate) fn clone(&self) -> Result<JoinedTexts, Error>
         requires { IsJoined self.now }
         ensures joined { IfOk result (λ texts. IsJoined texts) }
@@ -65,19 +63,16 @@ impl JoinedTexts {
         })
     }
 
-    /// The allocator that the texts keep.
     pub(crate) fn allocator(&self) -> Global {
         *self.counts.allocator()
     }
 
-    /// How many places there are.
     pub(crate) fn len(&self) -> usize
         ensures { result ≡ length (places_joined self.now) }
     {
         self.counts.len()
     }
 
-    /// A place, counted from 0.
     pub(crate) fn place(&self, at: usize) -> PlaceRef<'_>
         requires joined { IsJoined self.now }
         requires place { at < length (places_joined self.now) }
@@ -87,7 +82,7 @@ impl JoinedTexts {
         PlaceRef::new(&self.whole.as_str()[start..end], count)
     }
 
-    /// Where the text of a place begins and ends, and how many cells name the place. A forgotten text is empty.
+    /// Returns where the text of a place begins and ends, and how many cells name the place. A forgotten text is empty.
     fn piece(&self, at: usize) -> (usize, usize, u16)
         requires joined { IsJoined self.now }
         requires place { at < length (places_joined self.now) }
@@ -131,7 +126,7 @@ impl JoinedTexts {
         }
     }
 
-    /// The places, whose texts share one piece of memory. The only error is `OutOfMemory`.
+    /// Returns the places, whose texts share one piece of memory.
     pub(crate) fn to_places(&self) -> Result<Places, Error>
         requires { IsJoined self.now }
         ensures ok { IfOk result (λ places. places ≡ places_joined self.now) }

@@ -88,7 +88,6 @@ impl KeptPlaces {
         })
     }
 
-    /// The places, each with its text, to be changed. The only error is `OutOfMemory`.
     fn to_places(&self) -> Result<Places, Error>
         requires { HasTrueIndexes self.now }
         ensures ok { IfOk result (λ places. places ≡ places_of self.now) }
@@ -193,7 +192,6 @@ impl KeptPlaces {
         self.len() < most_places(long) || self.has_fit(text)
     }
 
-    /// Whether a place fits a text.
     fn has_fit(&self, text: &str) -> bool
         requires { HasTrueIndexes self.now }
         ensures { result ≡ list_any (is_fit text.now) (places_of self.now) }

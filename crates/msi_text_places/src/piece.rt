@@ -30,7 +30,7 @@ impl Model for Piece {
 }
 
 impl Piece {
-    /// The piece of a text between two places where characters begin or end.
+    /// Returns the piece of a text between two places where characters begin or end.
     pub(crate) fn new(whole: RcStr, start: usize, end: usize) -> Piece
         requires start { IsCharBoundary (rc_str_bytes whole) start }
         requires end { IsCharBoundary (rc_str_bytes whole) end }
@@ -40,7 +40,6 @@ impl Piece {
         Piece { whole, start, end }
     }
 
-    /// The text, borrowed.
     pub(crate) fn as_str(&self) -> &str
         ensures { result.now ≡ self.now }
     {

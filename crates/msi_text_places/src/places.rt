@@ -37,14 +37,12 @@ impl Model for Place {
 }
 
 impl Place {
-    /// A place of this text that so many cells name.
     pub(crate) fn new(text: SharedText, count: u16) -> Place
         ensures { result ≡ record { text = text; count = count } }
     {
         Place { text, count }
     }
 
-    /// The text once more, which takes no memory for its bytes where it is shared.
     pub(crate) fn shared_text(&self) -> Result<SharedText, Error>
         ensures ok { IfOk result (λ text. text ≡ self.now.text) }
         ensures kind { OnlyMemory result }
@@ -52,7 +50,6 @@ impl Place {
         Ok(self.text.clone()?)
     }
 
-    /// How many cells name the place.
     pub(crate) fn count(&self) -> u16
         ensures { result ≡ self.now.count }
     {
@@ -88,7 +85,6 @@ impl<'a> Model for PlaceRef<'a> {
 }
 
 impl<'a> PlaceRef<'a> {
-    /// A place of this text that so many cells name.
     pub(crate) fn new(text: &'a str, count: u16) -> PlaceRef<'a>
         ensures { result ≡ record { text = text.now; count = count } }
     {
@@ -126,14 +122,12 @@ impl Model for Places {
 }
 
 impl Places {
-    /// The places of a vector, which is moved in.
     pub(crate) fn from_vec(items: Vec<Place>) -> Places
         ensures { result ≡ items.items }
     {
         Places { items }
     }
 
-    /// The same places once more. The only error is `OutOfMemory`.
     pub(crate) fn clone(&self) -> Result<Places, Error>
         ensures ok { IfOk result (λ places. places ≡ self.now) }
         ensures kind { OnlyMemory result }
@@ -143,21 +137,19 @@ impl Places {
         })
     }
 
-    /// The places, borrowed.
     pub(crate) fn as_slice(&self) -> &[Place]
         ensures { result.now ≡ self.now }
     {
         self.items.as_slice()
     }
 
-    /// How many places there are.
     pub(crate) fn len(&self) -> usize
         ensures { result ≡ length self.now }
     {
         self.items.len()
     }
 
-    /// A place, counted from 0, which is no operation on the places.
+    /// Returns a place, counted from 0, which is no operation on the places.
     pub(crate) fn place(&self, at: usize) -> PlaceRef<'_>
         requires { at < length self.now }
         ensures { slice_get self.now at ≡ Some result }
@@ -166,12 +158,10 @@ impl Places {
         PlaceRef::new(place.text.as_str(), place.count)
     }
 
-    /// The allocator that the places keep.
     pub(crate) fn allocator(&self) -> Global {
         *self.items.allocator()
     }
 
-    /// A place, counted from 0.
     pub(crate) fn get(&self, at: usize, operations: &mut Operations) -> &Place
         requires place { at < length self.now }
         requires operations { operations.old + 1 < 2 ^ 32 }
@@ -182,7 +172,6 @@ impl Places {
         &self.items[at]
     }
 
-    /// Puts a place in the place of another.
     pub(crate) fn set(&mut self, at: usize, place: Place, operations: &mut Operations)
         requires place { at < length self.old }
         requires operations { operations.old + 1 < 2 ^ 32 }
@@ -193,7 +182,6 @@ impl Places {
         self.items[at] = place;
     }
 
-    /// Puts a place behind the last. The only error is `OutOfMemory`.
     pub(crate) fn push(&mut self, place: Place, operations: &mut Operations) -> Result<(), Error>
         requires { operations.old + 1 < 2 ^ 32 }
         ensures ok { OnOk result (self.new ≡ self.old ++ place ∷ []) }
@@ -216,7 +204,6 @@ impl Places {
         set_counts(&mut self.items, counts)
     }
 
-    /// Empties the texts of free places that aren't named.
     pub(crate) fn forget_texts(&mut self, is_named: &[bool])
         requires { length is_named.now ≡ length self.old }
         ensures { self.new ≡ without_unnamed_texts is_named.now self.old }
@@ -225,7 +212,6 @@ impl Places {
     }
 }
 
-/// Sets the count of a place, and returns whether it had another one.
 fn set_count(place: &mut Place, count: u16, alloc: Global) -> bool
     ensures place { place.new ≡ with_count count place.old }
     ensures changed { result ≡ not (count == place.old.count) }
@@ -238,7 +224,6 @@ fn set_count(place: &mut Place, count: u16, alloc: Global) -> bool
     is_changed
 }
 
-/// Sets the count of each place, and returns how many got another one.
 fn set_counts(places: &mut Vec<Place>, counts: &[u16]) -> u32
     requires many { length counts.now ≡ vec_len places.old }
     requires most { vec_len places.old ≤ 16777215 }
@@ -256,7 +241,6 @@ fn set_counts(places: &mut Vec<Place>, counts: &[u16]) -> u32
     changed
 }
 
-/// Empties the text of a place that is free and isn't named.
 fn forget_text(place: &mut Place, named: bool, alloc: Global)
     ensures { place.new ≡ forgotten named place.old }
 {
@@ -265,7 +249,6 @@ fn forget_text(place: &mut Place, named: bool, alloc: Global)
     }
 }
 
-/// Empties the texts of free places that aren't named.
 fn forget_texts(places: &mut Vec<Place>, is_named: &[bool])
     requires { length is_named.now ≡ vec_len places.old }
     ensures items { places.new.items ≡ without_unnamed_texts is_named.now places.old.items }

@@ -42,7 +42,6 @@ impl Model for SharedText {
 }
 
 impl SharedText {
-    /// The text of a string, which is moved in. It isn't shared yet.
     pub(crate) fn from_string(text: String) -> SharedText
         ensures { result ≡ string_bytes text }
     {
@@ -51,7 +50,6 @@ impl SharedText {
         }
     }
 
-    /// A piece of a longer text. Copies of it share that text.
     pub(crate) fn from_piece(piece: Piece) -> SharedText
         ensures { result ≡ piece }
     {
@@ -60,14 +58,12 @@ impl SharedText {
         }
     }
 
-    /// The empty text. It takes no memory.
     pub(crate) fn empty(alloc: Global) -> SharedText
         ensures { result ≡ [] }
     {
         SharedText::from_string(String::new(alloc))
     }
 
-    /// The text, borrowed.
     pub(crate) fn as_str(&self) -> &str
         ensures { result.now ≡ self.now }
     {
@@ -78,7 +74,7 @@ impl SharedText {
         }
     }
 
-    /// The text, to be shared from now on. An empty text stays as it is. The only error is `OutOfMemory`.
+    /// Returns the text, to be shared from now on. An empty text stays as it is.
     pub(crate) fn into_shared(self) -> Result<SharedText, Error>
         ensures ok { IfOk result (λ text. text ≡ self) }
         ensures kind { OnlyMemory result }
@@ -94,7 +90,6 @@ impl SharedText {
     }
 }
 
-/// The text of a string, to be shared. An empty text takes no memory, so it needs none.
 fn shared(text: String) -> Result<SharedText, Error>
     ensures ok { IfOk result (λ shared. shared ≡ string_bytes text) }
     ensures kind { OnlyMemory result }

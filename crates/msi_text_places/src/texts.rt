@@ -20,14 +20,12 @@ pub(crate) struct Entry {
 }
 
 impl Entry {
-    /// A text with one of its places.
     pub(crate) fn new(text: SharedText, at: u32) -> Entry
         ensures { result ≡ record { text = text; at = at } }
     {
         Entry { text, at }
     }
 
-    /// The text, which is moved out.
     pub(crate) fn into_text(self) -> SharedText
         ensures { result ≡ self.text }
     {
@@ -52,7 +50,6 @@ impl Model for TextIndex {
 }
 
 impl TextIndex {
-    /// There is no text.
     pub(crate) fn new(alloc: Global) -> TextIndex
         ensures { result ≡ [] }
     {
@@ -61,7 +58,6 @@ impl TextIndex {
         }
     }
 
-    /// The same entries once more, which share the texts. The only error is `OutOfMemory`.
     pub(crate) fn clone(&self) -> Result<TextIndex, Error>
         ensures ok { IfOk result (λ texts. texts ≡ self.now) }
         ensures kind { OnlyMemory result }
@@ -71,7 +67,7 @@ impl TextIndex {
         })
     }
 
-    /// The least place of the text that `start` has, with 0 as its place.
+    /// Returns the least place of the text that `start` has, with 0 as its place.
     pub(crate) fn least(&self, start: &Entry, operations: &mut Operations) -> Option<u32>
         requires start { start.now.at ≡ 0 }
         requires operations { operations.old + 1 < 2 ^ 32 }
@@ -85,7 +81,6 @@ impl TextIndex {
         }
     }
 
-    /// Enters a text with a place. The only error is `OutOfMemory`.
     pub(crate) fn insert(&mut self, entry: Entry, operations: &mut Operations) -> Result<(), Error>
         requires { operations.old + 1 < 2 ^ 32 }
         ensures ok { OnOk result ((text : List ℕ) (i : ℕ) →
@@ -99,7 +94,6 @@ impl TextIndex {
         Ok(())
     }
 
-    /// Takes a text with a place out.
     pub(crate) fn remove(&mut self, entry: &Entry, operations: &mut Operations)
         requires { operations.old + 1 < 2 ^ 32 }
         ensures removed { (text : List ℕ) (i : ℕ) →

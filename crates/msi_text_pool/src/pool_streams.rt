@@ -24,7 +24,6 @@ use msi_text_base::parts::{number_of, read_exactly, write_fully};
 use std::alloc::Global;
 use std::io::{Read, Write};
 
-/// All that a reader has left.
 fn bytes_of<R: Read + Drop>(alloc: Global, mut reader: R) -> Result<Vec<u8>, Error>
     ensures ok { IfSome (R.remaining reader) (λ bytes. IfOk result (λ all. all.items ≡ bytes)) }
     ensures kinds { IfErr result (λ kind. (kind ≡ Io) ⊎ (kind ≡ OutOfMemory)) }

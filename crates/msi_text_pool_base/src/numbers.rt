@@ -121,7 +121,6 @@ impl Numbers {
     }
 }
 
-/// The same numbers in eight bytes each. The only error is `OutOfMemory`.
 fn widened(narrow: &Vec<u32>) -> Result<Vec<usize>, Error>
     ensures ok { IfOk result (λ wide. wide.items ≡ narrow.now.items) }
     ensures kind { OnlyMemory result }

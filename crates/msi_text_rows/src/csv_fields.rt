@@ -10,7 +10,6 @@ use msi_table_values::value::Value;
 use msi_text_base::errors::Error;
 use std::alloc::Global;
 
-/// The number that a field is, if it is one of 32 bits.
 fn number_of(field: &str) -> Option<i32>
     ensures { result ≡ number_in field.now }
 {
@@ -20,7 +19,7 @@ fn number_of(field: &str) -> Option<i32>
     }
 }
 
-/// What a field stands for in a column of a type, if neither null nor a text.
+/// Returns the value of a field in a column of a type, if it is neither null nor a text.
 fn plain_value(coltype: ColumnType, field: &str) -> Option<Value>
     ensures { result ≡ plain_in coltype field.now }
 {

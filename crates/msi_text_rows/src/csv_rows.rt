@@ -13,7 +13,6 @@ use msi_table_rows::row::Row;
 use msi_table_values::value::Value;
 use std::io::Write;
 
-/// Writes the field of a value.
 fn write_csv_value<W: Write + Drop>(writer: &mut Writer<W>, value: &Value) -> Result<(), Error>
     ensures text { OnOk result ((writer_setup writer.old).style ≢ NonNumeric
         → Appends (text_written W.contents writer.old) (text_written W.contents writer.new)

@@ -10,7 +10,6 @@ use msi_text_base::errors::Error;
 use serde_json::Value as Json;
 use std::alloc::Global;
 
-/// The value of a number, if it has 32 bits.
 fn number_value(number: i64) -> Option<Value>
     ensures { result ≡ number_value_of number }
 {

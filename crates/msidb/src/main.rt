@@ -6,8 +6,8 @@ use std::process::ExitCode;
 use std::rt::Env;
 use std::{env, io};
 
-/// The arguments behind the program's name. If one isn't UTF-8 there are none: it matches no command, and neither do
-/// no arguments.
+/// Returns the arguments behind the program's name. If one isn't UTF-8, it returns none: such an argument matches no
+/// command, and neither do no arguments.
 fn words<R: Env + AllocGlobal>(rt: &R) -> Result<Vec<String>, Error> {
     let mut words = Vec::new(rt.alloc());
     match env::args(rt) {

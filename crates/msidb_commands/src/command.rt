@@ -29,7 +29,6 @@ pub enum Command<'a> {
 }
 
 impl<'a> Command<'a> {
-    /// Returns the command that the arguments match, if there is one.
     pub(crate) fn parse(words: &'a [String]) -> Option<Command<'a>>
         ensures fits { is_some result ≡ fits_command words.now }
         ensures asked { IfSome result (λ command. words_of command ≡ texts_of words.now) }
@@ -41,7 +40,6 @@ impl<'a> Command<'a> {
         }
     }
 
-    /// The command of this verb on a file alone, if there is one.
     fn of_file(verb: &str, file: &'a str) -> Option<Command<'a>>
         ensures fits { is_some result ≡ takes_file verb.now }
         ensures asked { IfSome result (λ command. words_of command ≡ verb.now ∷ file.now ∷ []) }
@@ -57,7 +55,6 @@ impl<'a> Command<'a> {
         }
     }
 
-    /// The command of this verb on a file and a name, if there is one.
     fn of_name(verb: &str, file: &'a str, name: &'a str) -> Option<Command<'a>>
         ensures fits { is_some result ≡ takes_name verb.now }
         ensures asked { IfSome result (λ command. words_of command ≡ verb.now ∷ file.now ∷ name.now ∷ []) }

@@ -49,7 +49,6 @@ where
     }
 }
 
-/// Carries out a command.
 fn carry_out<I, O>(
     rt: &HostRuntime,
     command: &Command,

@@ -26,7 +26,6 @@ impl Drop for Lines {
 }
 
 impl Lines {
-    /// Returns no lines.
     pub(crate) fn new(alloc: Global) -> Lines {
         Lines {
             bytes: Vec::new(alloc),
@@ -34,25 +33,20 @@ impl Lines {
         }
     }
 
-    /// Writes a value, for `write!` and `writeln!`.
     pub(crate) fn write_fmt<D: Display + Drop>(&mut self, value: D) {
         self.is_cut |= self.bytes.write_fmt(value).is_err();
     }
 
-    /// Writes a text.
     pub(crate) fn push_str(&mut self, text: &str) {
         self.is_cut |= self.bytes.extend_from_slice(text.as_bytes()).is_err();
     }
 
-    /// Returns whether so much is collected that it is to be handed on.
+    /// Returns whether enough is collected to be handed on.
     pub(crate) fn are_many(&self) -> bool {
         self.bytes.len() >= CAPACITY
     }
 
-    /// Hands on what is collected.
-    ///
-    /// # Errors
-    /// Fails with `OutOfMemory` if memory was refused for a line, and otherwise as the writer does.
+    /// Hands on what is collected. Fails with `OutOfMemory` if memory was refused for a line.
     pub(crate) fn hand_on<W: Write>(&mut self, output: &mut W) -> Result<(), Error> {
         if self.is_cut {
             return Err(Error::from(AllocError));
@@ -62,10 +56,6 @@ impl Lines {
         Ok(())
     }
 
-    /// Hands on what is collected, and flushes the writer.
-    ///
-    /// # Errors
-    /// Fails as `hand_on` and the writer do.
     pub(crate) fn end<W: Write>(&mut self, output: &mut W) -> Result<(), Error> {
         self.hand_on(output)?;
         output.flush()?;

@@ -6,13 +6,13 @@ use msi_text_base::errors::Error;
 use std::fs::{self, OpenOptions};
 use std::io;
 
-/// Opens a file that is there, for reading and writing, and closes it: `Ok` if that can be done.
+/// Opens an existing file for reading and writing, and closes it.
 pub(crate) fn check_writable(rt: &HostRuntime, path: &str) -> io::Result<()> {
     drop(OpenOptions::new().read(true).write(true).open(rt, path)?);
     Ok(())
 }
 
-/// Makes a file or empties it, and writes a new installer package to it.
+/// Creates a file, or empties an existing one, and writes a new installer package to it.
 pub(crate) fn create(rt: &HostRuntime, path: &str) -> Result<(), Error> {
     let device = Buffered::new(rt.alloc(), fs::create(rt, path)?)?;
     Package::create(rt.alloc(), PackageType::Installer, device)?;

@@ -18,7 +18,7 @@ pub(crate) fn print_streams<O: Write>(
     list(rt.alloc(), bytes.as_slice())?.end(output)
 }
 
-/// The bytes of a file. Its length is asked for first, so that the vector needn't grow while it is read.
+/// Asks for the length of the file first, so that the vector needn't grow while it is read.
 fn read_whole(rt: &HostRuntime, path: &str) -> Result<Vec<u8>, Error> {
     let mut file = fs::open(rt, path)?;
     let len = file.metadata()?.len() as usize;
@@ -28,7 +28,6 @@ fn read_whole(rt: &HostRuntime, path: &str) -> Result<Vec<u8>, Error> {
     Ok(bytes)
 }
 
-/// A line for each stream of a container.
 fn list(alloc: Global, file: &[u8]) -> Result<Lines, Error> {
     let listing = compound::list(alloc, file)?;
     let mut lines = Lines::new(alloc);

@@ -3,7 +3,6 @@
 use msi_text_base::errors::Error;
 use std::io::Write;
 
-/// Counts the cells of a package anew, writes the package, and prints how many texts got another count.
 pub(crate) fn recount<O: Write>(rt: &HostRuntime, file: &str, output: &mut O) -> Result<(), Error> {
     let mut package = msi::open_rw(rt, file)?;
     let changed = package.recount()?;

@@ -9,7 +9,6 @@ use msi_text_base::errors::Error;
 use std::alloc::Global;
 use std::io::{self, Read, Write};
 
-/// Prints the names of a package's streams, each on a line.
 pub(crate) fn print_names<O: Write>(
     rt: &HostRuntime,
     file: &str,
@@ -19,7 +18,6 @@ pub(crate) fn print_names<O: Write>(
     lines_of(rt.alloc(), package.streams())?.end(output)
 }
 
-/// Returns names, each on a line.
 fn lines_of(alloc: Global, names: Streams<'_>) -> Result<Lines, Error> {
     let mut lines = Lines::new(alloc);
     for name in names {
@@ -29,7 +27,6 @@ fn lines_of(alloc: Global, names: Streams<'_>) -> Result<Lines, Error> {
     Ok(lines)
 }
 
-/// Prints the bytes of a stream as they are.
 pub(crate) fn print_bytes<O: Write>(
     rt: &HostRuntime,
     file: &str,
@@ -46,9 +43,9 @@ fn write_rest<W: Write>(stream: StreamReader<'_>, output: &mut W) -> io::Result<
     output.flush()
 }
 
-/// Stores standard input as a stream of a package, and writes the package. Whether the file can be opened is reported
-/// first, then the input's errors, and then the package's. The file is closed while the input is read: if the program
-/// was started without a standard input, the file has its descriptor, and would be stored in itself.
+/// Reports first whether the file can be opened, then the input's errors, and then the package's. The file is closed
+/// while the input is read: if the program was started without a standard input, the file has its descriptor and would
+/// be stored in itself.
 pub(crate) fn store_input<I: Read>(
     rt: &HostRuntime,
     file: &str,
@@ -61,14 +58,12 @@ pub(crate) fn store_input<I: Read>(
     store_bytes(rt, file, name, bytes)
 }
 
-/// Stores bytes as a stream of a package, and writes the package.
 fn store_bytes(rt: &HostRuntime, file: &str, name: &str, bytes: Vec<u8>) -> Result<(), Error> {
     let mut package = msi::open_rw(rt, file)?;
     fill_stream(&mut package, name, bytes)?;
     package.flush()
 }
 
-/// Makes the stream of a name, or empties it, and fills it with these bytes, which aren't copied.
 fn fill_stream<F: Device>(
     package: &mut Package<F>,
     name: &str,

@@ -8,7 +8,6 @@ use std::alloc::Global;
 use std::fmt::Display;
 use std::io::Write;
 
-/// Prints a line for each property of a package's summary that is there.
 pub(crate) fn print_summary<O: Write>(
     rt: &HostRuntime,
     file: &str,
@@ -18,7 +17,6 @@ pub(crate) fn print_summary<O: Write>(
     lines_of(rt.alloc(), package.summary_info())?.end(output)
 }
 
-/// Returns a line for each property that is there. The page always is.
 fn lines_of(alloc: Global, summary: &SummaryInfo) -> Result<Lines, Error> {
     let mut lines = Lines::new(alloc);
     write_description(summary, &mut lines)?;
@@ -28,7 +26,6 @@ fn lines_of(alloc: Global, summary: &SummaryInfo) -> Result<Lines, Error> {
     Ok(lines)
 }
 
-/// Writes what the package is, and whose.
 fn write_description(summary: &SummaryInfo, lines: &mut Lines) -> Result<(), Error> {
     write_value("codepage", Some(summary.codepage().id()), lines);
     write_value("title", summary.title(), lines);
@@ -39,7 +36,6 @@ fn write_description(summary: &SummaryInfo, lines: &mut Lines) -> Result<(), Err
     Ok(())
 }
 
-/// Writes what the package is for, and which one it is.
 fn write_target(summary: &SummaryInfo, lines: &mut Lines) -> Result<(), Error> {
     write_value("arch", summary.arch(), lines);
     write_languages(summary.languages()?.as_slice(), lines);
@@ -48,14 +44,12 @@ fn write_target(summary: &SummaryInfo, lines: &mut Lines) -> Result<(), Error> {
     Ok(())
 }
 
-/// Writes when things were done to the package.
 fn write_times(summary: &SummaryInfo, lines: &mut Lines) {
     write_value("last_printed", ticks(summary.last_printed()), lines);
     write_value("creation_time", ticks(summary.creation_time()), lines);
     write_value("last_saved_time", ticks(summary.last_saved_time()), lines);
 }
 
-/// Writes the numbers of the package, and what made it.
 fn write_numbers(summary: &SummaryInfo, lines: &mut Lines) {
     write_value("page_count", summary.page_count(), lines);
     write_value("word_count", summary.word_count(), lines);
@@ -68,19 +62,16 @@ fn write_numbers(summary: &SummaryInfo, lines: &mut Lines) {
     write_value("doc_security", summary.doc_security(), lines);
 }
 
-/// The ticks of a time, if there is one.
 fn ticks(time: Option<Timestamp>) -> Option<u64> {
     time.map(|time| time.ticks())
 }
 
-/// Writes the line of a value, if there is one.
 fn write_value<T: Display + Copy>(name: &str, value: Option<T>, lines: &mut Lines) {
     if let Some(value) = value {
         writeln!(lines, "{name}: {value}");
     }
 }
 
-/// Writes the line of keywords, unless there are none.
 fn write_keywords(keywords: &[String], lines: &mut Lines) {
     let mut before = "keywords: ";
     for keyword in keywords {
@@ -91,7 +82,6 @@ fn write_keywords(keywords: &[String], lines: &mut Lines) {
     end_list(keywords.is_empty(), lines);
 }
 
-/// Writes the line of languages, unless there are none.
 fn write_languages(languages: &[LanguageId], lines: &mut Lines) {
     let mut before = "languages: ";
     for language in languages {
@@ -101,7 +91,6 @@ fn write_languages(languages: &[LanguageId], lines: &mut Lines) {
     end_list(languages.is_empty(), lines);
 }
 
-/// Ends the line of a list, unless it is empty.
 fn end_list(is_empty: bool, lines: &mut Lines) {
     lines.push_str(if is_empty { "" } else { "\n" });
 }

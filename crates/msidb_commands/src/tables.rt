@@ -10,7 +10,6 @@ use msi_text_base::errors::Error;
 use std::alloc::Global;
 use std::io::Write;
 
-/// Prints the names of a package's tables, each on a line.
 pub(crate) fn print_tables<O: Write>(
     rt: &HostRuntime,
     file: &str,
@@ -20,7 +19,6 @@ pub(crate) fn print_tables<O: Write>(
     lines_of(rt.alloc(), package.tables()).end(output)
 }
 
-/// Returns the names of tables, each on a line.
 fn lines_of(alloc: Global, tables: Tables<'_>) -> Lines {
     let mut lines = Lines::new(alloc);
     for table in tables {
@@ -30,7 +28,6 @@ fn lines_of(alloc: Global, tables: Tables<'_>) -> Lines {
     lines
 }
 
-/// Prints the names of a table's columns on a line, and then each row on one of its own.
 pub(crate) fn print_rows<O: Write>(
     rt: &HostRuntime,
     file: &str,
@@ -41,7 +38,6 @@ pub(crate) fn print_rows<O: Write>(
     write_table(rt.alloc(), &package, table, output)
 }
 
-/// Writes the names of a table's columns and its rows.
 fn write_table<F: Source, W: Write>(
     alloc: Global,
     package: &Package<F>,
@@ -55,7 +51,7 @@ fn write_table<F: Source, W: Write>(
     lines.end(output)
 }
 
-/// Writes rows. Each is written as it is made, so that one alone has its texts in memory of its own.
+/// Writes each row as it is made, so that only one at a time has its texts in memory of its own.
 fn write_rows<W: Write>(rows: Rows<'_>, lines: &mut Lines, output: &mut W) -> Result<(), Error> {
     for row in rows {
         write_row(&row?, lines);
@@ -66,7 +62,6 @@ fn write_rows<W: Write>(rows: Rows<'_>, lines: &mut Lines, output: &mut W) -> Re
     Ok(())
 }
 
-/// Writes the names of columns on a line, parted by tabs.
 fn write_columns(columns: &[Column], lines: &mut Lines) {
     let mut before = "";
     for column in columns {
@@ -77,7 +72,6 @@ fn write_columns(columns: &[Column], lines: &mut Lines) {
     lines.push_str("\n");
 }
 
-/// Writes the values of a row on a line, parted by tabs.
 fn write_row(row: &Row, lines: &mut Lines) {
     let mut before = "";
     for i in 0..row.len() {

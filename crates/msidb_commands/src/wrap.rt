@@ -48,7 +48,6 @@ where
     write_whole(rt.alloc(), &contents, &mut device)
 }
 
-/// The container's name of an accepted stream name.
 fn container_name(alloc: Global, name: &str) -> Result<Name, Error>
     ensures ok { IfOk result (λ held. held ≡ utf16_units (encoded_name false (chars name.now))) }
     ensures refused { IsErrOf result InvalidInput ↔ (is_valid_name false (chars name.now) ≡ false) }
@@ -61,7 +60,6 @@ fn container_name(alloc: Global, name: &str) -> Result<Name, Error>
     Name::new(encoded.as_str())
 }
 
-/// The contents of a container with one stream.
 fn contents_of(alloc: Global, name: Name, bytes: Vec<u8>) -> Result<Contents, Error>
     ensures ok { IfOk result (λ contents. contents ≡ wrapped name bytes.items) }
     ensures memory { IsErr result → IsErrOf result OutOfMemory }
@@ -75,7 +73,7 @@ fn contents_of(alloc: Global, name: Name, bytes: Vec<u8>) -> Result<Contents, Er
     })
 }
 
-/// Writes a container over an empty device, and passes on what the device has buffered.
+/// Writes a container over an empty device, and flushes the device.
 fn write_whole<W: Device>(alloc: Global, contents: &Contents, device: &mut W) -> Result<(), Error>
     ensures ok { OnOk result (W.held device.new ≡ option_map (with_piece (layout contents.now 0)) (W.held device.old)) }
     ensures holds { OnOk result (Holds (layout contents.now 0) contents.now) }

@@ -5,9 +5,9 @@ use msipkg_output::{Output, System};
 use msipkg_words::words_of;
 use std::io;
 
-/// Runs the commands of standard input, a line each, and prints each line before what it prints. A line has the words
-/// behind the program's name; quotes keep blanks. Messages go to the output too, and a status that isn't 0 has a line
-/// of its own. An empty line and one that begins with `#` are printed alone. Returns the highest status.
+/// Runs each line of standard input as a command, and prints the line before its output. Quotes keep blanks. Messages
+/// go to the output too, and a status other than 0 has its own line. Empty lines and those that begin with `#` are only
+/// printed. Returns the highest status.
 pub(crate) fn run_lines(rt: HostRuntime) -> u8 {
     match io::read_to_string(rt.alloc(), rt.stdin()) {
         Ok(text) => run_text(rt, text.as_str()),
@@ -15,7 +15,6 @@ pub(crate) fn run_lines(rt: HostRuntime) -> u8 {
     }
 }
 
-/// Runs the commands of a text, and returns the highest status.
 fn run_text(rt: HostRuntime, text: &str) -> u8 {
     let system = System {
         rt,
@@ -29,7 +28,6 @@ fn run_text(rt: HostRuntime, text: &str) -> u8 {
     }
 }
 
-/// Runs the commands of a text, until the output fails.
 fn run_each(rt: &System, text: &str, output: &mut Output) -> io::Result<u8> {
     let mut highest = 0u8;
     for line in text.lines() {
@@ -38,7 +36,6 @@ fn run_each(rt: &System, text: &str, output: &mut Output) -> io::Result<u8> {
     Ok(highest)
 }
 
-/// Runs the command of a line, if there is one. The line is written before the command runs.
 fn run_line(rt: &System, line: &str, output: &mut Output) -> io::Result<u8> {
     if line.trim().is_empty() || line.starts_with('#') {
         writeln!(output, "{line}");
@@ -53,7 +50,7 @@ fn run_line(rt: &System, line: &str, output: &mut Output) -> io::Result<u8> {
     }
 }
 
-/// Says that a line has a quote that isn't closed.
+/// Reports that a line has a quote that isn't closed.
 fn refuse_line(output: &mut Output) -> io::Result<u8> {
     writeln!(output, "msipkg: a quote in this line isn't closed");
     writeln!(output, "[status 2]");
@@ -61,7 +58,6 @@ fn refuse_line(output: &mut Output) -> io::Result<u8> {
     Ok(2)
 }
 
-/// Runs a command, and puts its messages behind what it prints, and then its status, unless that is 0.
 fn run_words(rt: &System, words: &[String], output: &mut Output) -> io::Result<u8> {
     let mut messages = Output::to_memory(rt.alloc());
     let status = run(rt, words, false, output, &mut messages);

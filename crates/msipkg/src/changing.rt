@@ -6,7 +6,6 @@ use msipkg_output::{Failure, Output, System};
 use msipkg_packages::Purpose;
 use msipkg_words::Verb;
 
-/// Whether a command changes a package.
 pub(crate) fn is_change(asked: &Asked<'_, '_>) -> bool {
     match asked.verb {
         Verb::New | Verb::Add | Verb::Remove | Verb::Exec | Verb::Import | Verb::Batch => true,
@@ -16,9 +15,6 @@ pub(crate) fn is_change(asked: &Asked<'_, '_>) -> bool {
 }
 
 /// Carries out a command that changes a package: all of the change, or none of it.
-///
-/// # Errors
-/// Fails as the command does. Then the file is as it was.
 pub(crate) fn change(
     rt: &System,
     asked: &Asked<'_, '_>,
@@ -35,7 +31,6 @@ pub(crate) fn change(
     }
 }
 
-/// How a command changes a package.
 pub(crate) fn manner_of(asked: &Asked<'_, '_>) -> Manner {
     Manner {
         is_strict: asked.given.get_flag("strict"),
@@ -45,7 +40,6 @@ pub(crate) fn manner_of(asked: &Asked<'_, '_>) -> Manner {
     }
 }
 
-/// Changes the package of the first file.
 fn change_by(
     rt: &System,
     asked: &Asked<'_, '_>,
@@ -58,7 +52,6 @@ fn change_by(
     change_file(rt, &file, change, manner_of(asked), output, errors)
 }
 
-/// Carries out the statements of a file.
 fn execute_script(
     rt: &System,
     asked: &Asked<'_, '_>,
@@ -74,14 +67,12 @@ fn execute_script(
     change_by(rt, asked, Change::Execute(texts.as_slice()), output, errors)
 }
 
-/// Makes a file with a new package.
 fn create(rt: &System, asked: &Asked<'_, '_>) -> Result<(), Failure> {
     let (kind, page) = (asked.text("kind"), asked.given.get_str("page"));
     let is_forced = asked.given.get_flag("force");
     create_file(rt, asked.file(), kind, page, is_forced)
 }
 
-/// What becomes of rows whose keys are given.
 fn merging_of(asked: &Asked<'_, '_>) -> Merging {
     if asked.given.get_flag("replace") {
         Merging::Replace
@@ -92,7 +83,6 @@ fn merging_of(asked: &Asked<'_, '_>) -> Merging {
     }
 }
 
-/// The change that a command makes.
 fn change_of<'a, 'b>(asked: &Asked<'a, 'b>) -> Change<'a, 'b> {
     match asked.verb {
         Verb::Add => Change::Add(asked.texts("NAME=PATH")),

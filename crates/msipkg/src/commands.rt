@@ -14,9 +14,8 @@ use msipkg_words::{Verb, matches_of, verb_named};
 /// The exit status where the reader of the output has gone away: that of a program which the signal for it ended.
 const CLOSED: u8 = 141;
 
-/// Runs a command over its arguments. What it prints is written when this returns. Returns the exit status: 0 on
-/// success; 1 on an error, which is written to `errors`; 2 with a hint there, if the arguments match no command; and
-/// 141 without a word if the reader of the output has gone away.
+/// Returns the exit status: 0 on success; 1 on an error, which is written to `errors`; 2 with a hint there, if the
+/// arguments match no command; and 141 without a message if the reader of the output has gone away.
 pub(crate) fn run(
     rt: &System,
     words: &[String],
@@ -30,7 +29,7 @@ pub(crate) fn run(
     }
 }
 
-/// Shows why the words gave no command: help and the version on the output, and a mistake with its hint on `errors`.
+/// Shows why the words are no command: help and the version on the output, and a mistake with its hint on `errors`.
 fn show_parse(error: &clap::Error, output: &mut Output, errors: &mut Output) -> u8 {
     if error.use_stderr() {
         write!(errors, "{error}");
@@ -43,12 +42,10 @@ fn show_parse(error: &clap::Error, output: &mut Output, errors: &mut Output) -> 
     }
 }
 
-/// The exit status where the output couldn't be written.
 pub(crate) fn unwritten_status(output: &Output) -> u8 {
     if output.is_closed() { CLOSED } else { 1 }
 }
 
-/// The exit status for words that gave no command: memory may have run out, too.
 fn status_of(kind: ErrorKind) -> u8 {
     match kind {
         ErrorKind::OutOfMemory => 1,
@@ -56,7 +53,6 @@ fn status_of(kind: ErrorKind) -> u8 {
     }
 }
 
-/// Runs the command that the words ask for.
 fn run_matched(
     rt: &System,
     matches: &ArgMatches<'_>,
@@ -86,7 +82,6 @@ pub(crate) fn failure_status(verb: Verb) -> u8 {
     }
 }
 
-/// The command that the words ask for.
 fn asked_of<'a, 'b>(matches: &'b ArgMatches<'a>, is_terminal: bool) -> Option<Asked<'a, 'b>> {
     let (name, given) = matches.subcommand()?;
     let verb = verb_named(name)?;
@@ -106,12 +101,10 @@ pub(crate) struct Asked<'a, 'b> {
 }
 
 impl<'a, 'b> Asked<'a, 'b> {
-    /// The first file.
     pub(crate) fn file(&self) -> &'a str {
         self.text("FILE")
     }
 
-    /// A package's file, which is opened for this.
     pub(crate) fn package<'c>(&self, path: &'c str, purpose: Purpose) -> PackageFile<'c> {
         PackageFile {
             path,
@@ -120,8 +113,7 @@ impl<'a, 'b> Asked<'a, 'b> {
         }
     }
 
-    /// What a package is opened for that is changed: where its texts are recoded, this one is allowed to be with
-    /// `--recode` alone.
+    /// Returns what a package that is to be changed is opened for, which is `recoded` only with `--recode`.
     pub(crate) fn purpose_of_change(&self, recoded: Purpose) -> Purpose {
         if self.given.get_flag("recode") {
             recoded
@@ -130,28 +122,24 @@ impl<'a, 'b> Asked<'a, 'b> {
         }
     }
 
-    /// The page that is given for texts.
     fn page(&self) -> Option<i32> {
         self.given.get_str("page")?.parse().ok()
     }
 
-    /// Whether JSON is to be printed.
     pub(crate) fn is_json(&self) -> bool {
         self.given.get_flag("json")
     }
 
-    /// The value of an argument, or the empty text.
+    /// Returns the value of an argument, or the empty text.
     pub(crate) fn text(&self, id: &str) -> &'a str {
         self.given.get_str(id).unwrap_or("")
     }
 
-    /// The values of an argument.
     pub(crate) fn texts(&self, id: &str) -> &'b [&'a str] {
         self.given.get_strs(id).unwrap_or(&[])
     }
 }
 
-/// Writes on a line why a command failed on a file.
 pub(crate) fn report(file: &str, failure: &Failure, errors: &mut Output) {
     let file = Shown::escaped(file);
     if failure.is_mended_by_counting() {
@@ -164,8 +152,8 @@ pub(crate) fn report(file: &str, failure: &Failure, errors: &mut Output) {
     }
 }
 
-/// Carries out a command, and returns the exit status: 0 where all is well, so that nothing was found to be wrong. What
-/// it printed before it failed is written, too.
+/// Carries out a command, and returns the exit status, which is 0 if nothing was found to be wrong. What it printed
+/// before it failed is written, too.
 fn carry_out(
     rt: &System,
     asked: &Asked<'_, '_>,
@@ -191,7 +179,6 @@ fn first_failure(failure: Failure, output: &mut Output) -> Failure {
     }
 }
 
-/// Changes a package or prints what is asked for, and returns the exit status.
 fn obey(
     rt: &System,
     asked: &Asked<'_, '_>,
@@ -205,7 +192,7 @@ fn obey(
     look_or_compare(&with_input(rt, asked)?, asked, output, errors)
 }
 
-/// The system for a command that looks at packages: in one that names `-`, standard input is read.
+/// Returns the system for a command that looks at packages. If the command names `-`, standard input is read.
 fn with_input(rt: &System, asked: &Asked<'_, '_>) -> Result<System, Failure> {
     let has_input = |id: &str| asked.texts(id).contains(&"-");
     let is_named = has_input("FILE") || has_input("OTHER") || is_each(asked) && has_input("TABLE");
@@ -216,7 +203,6 @@ fn with_input(rt: &System, asked: &Asked<'_, '_>) -> Result<System, Failure> {
     }
 }
 
-/// Prints what is asked for, and returns the exit status.
 fn look_or_compare(
     rt: &System,
     asked: &Asked<'_, '_>,

@@ -7,15 +7,11 @@ use msipkg_output::{Failure, Output, System};
 use msipkg_packages::{PackageFile, Purpose};
 use msipkg_words::Verb;
 
-/// Whether packages are exported as a line each.
+/// Returns whether packages are exported as one line each.
 pub(crate) fn is_each(asked: &Asked<'_, '_>) -> bool {
     matches!(asked.verb, Verb::Export) && asked.given.get_flag("each")
 }
 
-/// Exports the package of a file, or tables of it, and returns whether all of it can be read.
-///
-/// # Errors
-/// Fails as opening the package and exporting do.
 pub(crate) fn export_asked(
     rt: &System,
     asked: &Asked<'_, '_>,
@@ -31,7 +27,7 @@ pub(crate) fn export_asked(
     export(rt, file, asked.texts("TABLE"), &target, output, errors)
 }
 
-/// What an export goes to: `-` is the output.
+/// Returns what an export goes to, where `-` is the output.
 fn target_of<'a>(asked: &Asked<'a, '_>) -> Target<'a> {
     Target {
         format: FileFormat::of_name(asked.text("format")).unwrap_or(FileFormat::Json),
@@ -42,9 +38,6 @@ fn target_of<'a>(asked: &Asked<'a, '_>) -> Target<'a> {
 }
 
 /// Compares two packages, and returns whether nothing differs.
-///
-/// # Errors
-/// Fails as opening the packages and comparing them do.
 pub(crate) fn compare(
     rt: &System,
     asked: &Asked<'_, '_>,

@@ -10,7 +10,7 @@ use msipkg_packages::{Folder, Purpose};
 use msipkg_texts::Escapes;
 use msipkg_words::Verb;
 
-/// What a command prints as escapes. JSON and CSV have escapes or quotes of their own.
+/// Returns what a command prints as escapes. JSON and CSV have escapes or quotes of their own.
 pub(crate) fn escapes_of(verb: Verb, given: &ArgMatches<'_>, is_terminal: bool) -> Escapes {
     if is_terminal || given.get_flag("escape") {
         return Escapes::Hidden;
@@ -34,7 +34,6 @@ pub(crate) fn escapes_of(verb: Verb, given: &ArgMatches<'_>, is_terminal: bool) 
     }
 }
 
-/// What is printed as escapes in the rows of a query that go into a pipe.
 fn row_escapes(given: &ArgMatches<'_>) -> Escapes {
     match Format::of_name(given.get_str("format").unwrap_or("tabs")) {
         Some(Format::Table) => Escapes::Hidden,
@@ -43,11 +42,7 @@ fn row_escapes(given: &ArgMatches<'_>) -> Escapes {
     }
 }
 
-/// Carries out a command that looks at the package of a file, and returns whether all is well: nothing was found to be
-/// wrong.
-///
-/// # Errors
-/// Fails as opening the package and the command do.
+/// Carries out a command that looks at the package of a file, and returns whether nothing was found to be wrong.
 pub(crate) fn look(
     rt: &System,
     asked: &Asked<'_, '_>,
@@ -63,7 +58,6 @@ pub(crate) fn look(
     }
 }
 
-/// How findings are printed.
 fn options_of(asked: &Asked<'_, '_>) -> CheckOptions {
     CheckOptions {
         style: asked.style,
@@ -72,7 +66,6 @@ fn options_of(asked: &Asked<'_, '_>) -> CheckOptions {
     }
 }
 
-/// What a command looks at.
 fn look_of<'a, 'b>(asked: &Asked<'a, 'b>) -> Look<'a, 'b> {
     let is_json = asked.is_json();
     match asked.verb {
@@ -98,7 +91,6 @@ fn look_of<'a, 'b>(asked: &Asked<'a, 'b>) -> Look<'a, 'b> {
     }
 }
 
-/// The folder that `extract` writes to.
 fn folder_of<'a>(asked: &Asked<'a, '_>) -> Folder<'a> {
     Folder {
         path: asked.text("output"),
@@ -106,7 +98,6 @@ fn folder_of<'a>(asked: &Asked<'a, '_>) -> Folder<'a> {
     }
 }
 
-/// The form of columns that was asked for.
 fn form_of(asked: &Asked<'_, '_>) -> Form {
     if asked.is_json() {
         Form::Json
@@ -117,7 +108,8 @@ fn form_of(asked: &Asked<'_, '_>) -> Form {
     }
 }
 
-/// The format that was asked for: else aligned columns on a terminal, and tab-parted lines elsewhere.
+/// Returns the format that was asked for, or by default aligned columns on a terminal and tab-separated lines
+/// elsewhere.
 fn format_of(asked: &Asked<'_, '_>) -> Format {
     match Format::of_name(asked.text("format")) {
         Some(format) => format,

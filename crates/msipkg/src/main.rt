@@ -13,7 +13,6 @@ use std::io::IsTerminal;
 use std::process::ExitCode;
 use std::{env, io};
 
-/// The arguments behind the program's name.
 fn arguments(rt: HostRuntime) -> io::Result<Vec<String>> {
     let mut arguments = Vec::new(rt.alloc());
     for argument in env::args(&rt)?.skip(1) {
@@ -22,7 +21,6 @@ fn arguments(rt: HostRuntime) -> io::Result<Vec<String>> {
     Ok(arguments)
 }
 
-/// Whether `batch` is all that is asked for.
 fn is_batch(arguments: &[String]) -> bool {
     match arguments {
         [argument] => argument.as_str() == "batch",
@@ -30,7 +28,6 @@ fn is_batch(arguments: &[String]) -> bool {
     }
 }
 
-/// Runs the command of the arguments, and returns the exit status.
 fn run_command(rt: HostRuntime, arguments: &[String]) -> u8 {
     let system = System {
         rt,

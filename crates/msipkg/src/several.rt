@@ -10,8 +10,8 @@ use msipkg_packages::Purpose;
 use msipkg_words::Verb;
 use std::alloc::Global;
 
-/// Prints each file, and returns the exit status, which is the greatest of those of the files. As JSON each file gives
-/// one line, with its error as `error`.
+/// Prints each file, and returns the greatest of their exit statuses. As JSON each file has one line, with its error as
+/// `error`.
 pub(crate) fn print_each(
     rt: &System,
     asked: &Asked<'_, '_>,
@@ -25,7 +25,6 @@ pub(crate) fn print_each(
     status.max(print_files(rt, asked, asked.texts("TABLE"), output, errors))
 }
 
-/// Prints these files, until the output fails, and returns the status.
 fn print_files(
     rt: &System,
     asked: &Asked<'_, '_>,
@@ -43,7 +42,6 @@ fn print_files(
     status
 }
 
-/// Prints a file, or why that failed, and returns the status.
 fn print_or_report(
     rt: &System,
     asked: &Asked<'_, '_>,
@@ -61,7 +59,7 @@ fn print_or_report(
     }
 }
 
-/// Writes the path of a file above what `info` prints of it, where there are several.
+/// Writes the path of a file above what `info` prints of it, if there are several files.
 fn write_head(asked: &Asked<'_, '_>, file: &str, output: &mut Output) {
     let is_alone = asked.texts("FILE").len() < 2;
     if matches!(asked.verb, Verb::Info) && !is_alone && !asked.is_json() {
@@ -69,8 +67,8 @@ fn write_head(asked: &Asked<'_, '_>, file: &str, output: &mut Output) {
     }
 }
 
-/// Prints a file, whose counts may have to be mended first, and returns whether all is well. That its texts are recoded
-/// isn't noted while its counts are mended: who looks at it afterwards is told where it still is so.
+/// Prints a file, and returns whether all is well. While its counts are mended it isn't noted that its texts are
+/// recoded, since looking at it afterwards notes where that is still so.
 fn print_one(
     rt: &System,
     asked: &Asked<'_, '_>,
@@ -85,7 +83,6 @@ fn print_one(
     look(rt, asked, file, output, errors)
 }
 
-/// Writes why a file failed: on `errors`, or as JSON on the output.
 fn report_one(
     alloc: Global,
     asked: &Asked<'_, '_>,

@@ -7,10 +7,7 @@ use msipkg_packages::msi::{Error, Expr, Package, Select, Statement};
 use msipkg_packages::output::{Failure, Opened};
 use std::alloc::Global;
 
-/// Carries out a statement on rows.
-///
-/// # Errors
-/// Fails for a `SELECT`, and as the change does. Then nothing has changed.
+/// Carries out a statement on rows. Fails for a `SELECT`. After a failure nothing has changed.
 pub(crate) fn apply_statement(
     package: &mut Package<Opened>,
     statement: Statement,
@@ -26,11 +23,8 @@ pub(crate) fn apply_statement(
     Ok(changed?)
 }
 
-/// Returns what a statement does, and to how many rows: an insert to those that it gives, the others to those for which
-/// their condition holds.
-///
-/// # Errors
-/// Fails if the condition can't be decided, as the statement itself does then.
+/// Returns what a statement does, and to how many rows: an insert to those that it has, the others to those that meet
+/// their condition.
 pub(crate) fn counted(
     alloc: Global,
     package: &Package<Opened>,
@@ -54,7 +48,6 @@ pub(crate) fn counted(
     }
 }
 
-/// How many rows of a table meet a condition.
 fn count_rows(
     alloc: Global,
     package: &Package<Opened>,
@@ -68,10 +61,7 @@ fn count_rows(
     Ok(package.select_rows(query)?.len())
 }
 
-/// Carries out a change of tables, and returns what it did.
-///
-/// # Errors
-/// Fails as the change does. Then nothing has changed.
+/// Carries out a change of tables, and returns what it did. After a failure nothing has changed.
 pub(crate) fn apply_definition(
     package: &mut Package<Opened>,
     definition: Definition<'_>,

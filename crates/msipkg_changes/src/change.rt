@@ -8,7 +8,7 @@ use crate::recounting::{mend_first, noted};
 use crate::statements::{carry_out_statements, check_statements};
 use crate::storing::store;
 use crate::streams::{add_streams, remove_parts};
-use crate::validation::Before;
+use crate::validation::{Before, check_unlisted};
 use msipkg_packages::msi::Package;
 use msipkg_packages::output::{Failure, Opened, Output, System};
 use msipkg_packages::{Claim, FileState, PackageFile, open_to_change};
@@ -69,6 +69,7 @@ pub fn change_file(
     let mut outcome = Outcome::new(rt.alloc());
     let (package, state) = changed_package(rt, file, change, manner, &mut outcome, notes)?;
     store(rt, file.path, &claim, package, state, manner, notes)?;
+    outcome.note_added(file.path, notes);
     outcome.note_mended(file.path, notes);
     if manner.is_json {
         outcome.print(rt.alloc(), manner.style, file.path, output);
@@ -78,7 +79,7 @@ pub fn change_file(
     Ok(())
 }
 
-/// The package of a file with the change made, and how the file differed from it when it was opened.
+/// Returns the package of a file with the change made, and how the file differed from it when it was opened.
 fn changed_package(
     rt: &System,
     file: &PackageFile<'_>,
@@ -90,12 +91,14 @@ fn changed_package(
     let (mut package, state) = open_to_change(rt, file, notes)?;
     let before = Before::of(&package);
     apply(rt, file.path, &mut package, change, manner, outcome, notes)?;
-    before.note(file.path, &package, notes);
+    if let Some(added) = before.added(&package) {
+        check_unlisted(rt, file, notes)?;
+        outcome.add_validation(added);
+    }
     recode(&mut package, file.purpose, manner, outcome)?;
     Ok((package, state))
 }
 
-/// Fails if a statement is given that is none.
 fn check_words(alloc: Global, change: Change<'_, '_>) -> Result<(), Failure> {
     match change {
         Change::Execute(texts) => check_statements(alloc, texts),
@@ -104,7 +107,6 @@ fn check_words(alloc: Global, change: Change<'_, '_>) -> Result<(), Failure> {
     }
 }
 
-/// Makes the change in a package.
 fn apply(
     rt: &System,
     file: &str,
@@ -129,8 +131,8 @@ fn apply(
     }
 }
 
-/// Carries out statements. Counts that are too low for that are mended first, or their failure has the note that
-/// counting anew mends it.
+/// Carries out statements. Counts that are too low for that are mended first, or the failure has the note that counting
+/// anew mends them.
 fn execute(
     alloc: Global,
     package: &mut Package<Opened>,

@@ -23,7 +23,6 @@ pub fn create_file(
     write_package(rt, path, is_forced, &bytes)
 }
 
-/// The bytes of a new package.
 fn new_bytes(alloc: Global, kind: &str, page: Option<&str>) -> Result<FileBytes, Failure> {
     let kind = kind_of(kind)?;
     let page = match page {
@@ -35,7 +34,6 @@ fn new_bytes(alloc: Global, kind: &str, page: Option<&str>) -> Result<FileBytes,
     Ok(FileBytes::of(&package)?)
 }
 
-/// The kind of a name.
 fn kind_of(name: &str) -> Result<PackageType, Failure> {
     match name {
         "installer" => Ok(PackageType::Installer),
@@ -45,10 +43,6 @@ fn kind_of(name: &str) -> Result<PackageType, Failure> {
     }
 }
 
-/// Returns the code page of a number.
-///
-/// # Errors
-/// Fails if there is none.
 pub(crate) fn page_of(number: &str) -> Result<CodePage, Failure> {
     let known = match number.parse::<i32>() {
         Ok(number) => CodePage::from_id(number),
@@ -60,7 +54,6 @@ pub(crate) fn page_of(number: &str) -> Result<CodePage, Failure> {
     }
 }
 
-/// Sets the page of a package's database and of its summary.
 fn set_pages(package: &mut Package<Opened>, page: CodePage) -> Result<(), Failure> {
     package.set_database_codepage(page)?;
     Ok(package.summary_info_mut()?.set_codepage(page)?)

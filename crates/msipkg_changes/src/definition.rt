@@ -56,17 +56,14 @@ enum Kind {
     Stream,
 }
 
-/// Returns whether a text is to be read as a definition: its first word is `CREATE` or `DROP`.
+/// Returns whether the first word of a text is `CREATE` or `DROP`.
 pub(crate) fn is_definition(text: &str) -> bool {
     let mut tokens = Tokens::new(text);
     tokens.takes_word("CREATE") || tokens.takes_word("DROP")
 }
 
-/// Reads a definition, as ``CREATE TABLE `T` (`A` CHAR(72) NOT NULL, `B` LONG PRIMARY KEY `A`)`` or
-/// ``DROP TABLE `T` ``.
-///
-/// # Errors
-/// Fails with `OutOfMemory`, and if the text is no definition.
+/// Reads a definition, such as ``CREATE TABLE `T` (`A` CHAR(72) NOT NULL, `B` LONG PRIMARY KEY `A`)`` or ``DROP TABLE
+/// `T` ``.
 pub(crate) fn definition_of<'a>(alloc: Global, text: &'a str) -> Result<Definition<'a>, Failure> {
     let mut tokens = Tokens::new(text);
     if tokens.takes_word("CREATE") {
@@ -78,13 +75,11 @@ pub(crate) fn definition_of<'a>(alloc: Global, text: &'a str) -> Result<Definiti
     Ok(Definition::Remove { table })
 }
 
-/// Reads `TABLE` and the name of a table.
 fn named_table<'a>(tokens: &mut Tokens<'a>) -> Result<&'a str, Failure> {
     tokens.expect_word("TABLE", "expected TABLE")?;
     tokens.name()
 }
 
-/// Reads what stands behind `CREATE`.
 fn creation<'a>(alloc: Global, tokens: &mut Tokens<'a>) -> Result<Definition<'a>, Failure> {
     let table = named_table(tokens)?;
     check_reserved(table)?;
@@ -93,10 +88,7 @@ fn creation<'a>(alloc: Global, tokens: &mut Tokens<'a>) -> Result<Definition<'a>
     Ok(Definition::Create { table, columns })
 }
 
-/// Fails if the installer has a name for itself: it lists streams and storages as tables of these names.
-///
-/// # Errors
-/// Fails with that.
+/// Fails if the installer uses the name itself: it lists streams and storages as tables of these names.
 pub(crate) fn check_reserved(table: &str) -> Result<(), Failure> {
     match table {
         "_Streams" | "_Storages" => {
@@ -106,14 +98,12 @@ pub(crate) fn check_reserved(table: &str) -> Result<(), Failure> {
     }
 }
 
-/// Reads the columns of a table, and which of them are its key.
 fn columns(alloc: Global, tokens: &mut Tokens<'_>) -> Result<Vec<Column>, Failure> {
     let described = described_columns(alloc, tokens)?;
     let keys = keys(alloc, tokens)?;
     built_columns(alloc, described.as_slice(), keys.as_slice())
 }
 
-/// Reads columns, parted by commas, behind a bracket.
 fn described_columns<'a>(
     alloc: Global,
     tokens: &mut Tokens<'a>,
@@ -129,7 +119,6 @@ fn described_columns<'a>(
     Err(Failure::rule(TOO_MANY))
 }
 
-/// Reads a column: its name, its type, and whether it takes null and can be localized.
 fn described_column<'a>(tokens: &mut Tokens<'a>) -> Result<Described<'a>, Failure> {
     let name = tokens.name()?;
     let kind = column_type(tokens)?;
@@ -146,7 +135,6 @@ fn described_column<'a>(tokens: &mut Tokens<'a>) -> Result<Described<'a>, Failur
     })
 }
 
-/// Reads a type.
 fn column_type(tokens: &mut Tokens<'_>) -> Result<Kind, Failure> {
     let Some(Token::Word(word)) = tokens.take() else {
         return Err(Failure::rule(NO_TYPE));
@@ -162,7 +150,7 @@ fn column_type(tokens: &mut Tokens<'_>) -> Result<Kind, Failure> {
     Err(Failure::rule(NO_TYPE))
 }
 
-/// Reads a length in brackets, or 0 where there is none.
+/// Reads a length in brackets, or returns 0 if there is none.
 fn length(tokens: &mut Tokens<'_>) -> Result<usize, Failure> {
     if !tokens.takes('(') {
         return Ok(0);
@@ -186,7 +174,6 @@ fn keys<'a>(alloc: Global, tokens: &mut Tokens<'a>) -> Result<Vec<&'a str>, Fail
     Ok(names)
 }
 
-/// Reads names, parted by commas.
 fn names<'a>(alloc: Global, tokens: &mut Tokens<'a>) -> Result<Vec<&'a str>, Failure> {
     let mut names = Vec::new(alloc);
     for _ in 0..MOST_COLUMNS {
@@ -213,7 +200,6 @@ fn built_columns(
     Ok(columns)
 }
 
-/// Builds the columns of the key.
 fn key_columns(
     alloc: Global,
     described: &[Described<'_>],
@@ -229,7 +215,6 @@ fn key_columns(
     Ok(columns)
 }
 
-/// The message for a column of the key that isn't there.
 fn missing_key(
     alloc: Global,
     described: &[Described<'_>],
@@ -244,7 +229,6 @@ fn missing_key(
     format!(in alloc; "column {key} of the key isn't there{near}")
 }
 
-/// Builds a column.
 fn built_column(alloc: Global, described: &Described<'_>, is_key: bool) -> Result<Column, Error> {
     let mut builder = Column::build(alloc, described.name)?;
     if is_key {

@@ -26,11 +26,8 @@ impl Drop for Emptied {
     }
 }
 
-/// Makes the empty texts of a package null where their columns take null, and returns how many there were. Where that
-/// is refused, as two rows would share a key then, they stay.
-///
-/// # Errors
-/// Fails with `OutOfMemory`, and so do the other calls.
+/// Makes the empty texts of a package null where their columns take null, and returns how many there were. They stay
+/// where two rows would share a key then.
 pub(crate) fn empty_texts(alloc: Global, package: &mut Package<Opened>) -> Result<usize, Failure> {
     let mut found = Vec::new(alloc);
     for table in package.tables() {
@@ -60,7 +57,6 @@ fn find_columns(
     Ok(())
 }
 
-/// A column with so many empty texts.
 fn emptied_column(
     alloc: Global,
     table: &str,
@@ -74,7 +70,6 @@ fn emptied_column(
     })
 }
 
-/// How many empty texts a column has.
 fn count_of(
     alloc: Global,
     package: &Package<Opened>,
@@ -88,7 +83,7 @@ fn count_of(
     }
 }
 
-/// How many rows have an empty text as their only value.
+/// Returns how many rows have an empty text as their only value.
 fn count_empty(mut rows: Rows<'_>) -> usize {
     let mut count = 0usize;
     for _ in 0..rows.len() {
@@ -102,7 +97,6 @@ fn count_empty(mut rows: Rows<'_>) -> usize {
     count
 }
 
-/// Makes the empty texts of columns null, and returns how many became so.
 fn empty_columns(
     alloc: Global,
     package: &mut Package<Opened>,
@@ -115,7 +109,6 @@ fn empty_columns(
     Ok(count)
 }
 
-/// Makes the empty texts of a column null, and returns how many became so.
 fn empty_column(
     alloc: Global,
     package: &mut Package<Opened>,
@@ -127,7 +120,6 @@ fn empty_column(
     }
 }
 
-/// The update that makes the empty texts of a column null.
 fn update_of(alloc: Global, column: &Emptied) -> Result<Update, Error> {
     let name = column.column.as_str();
     let empty = Expr::string(alloc, "")?;
@@ -137,7 +129,7 @@ fn update_of(alloc: Global, column: &Emptied) -> Result<Update, Error> {
         .with(condition)
 }
 
-/// None, where a call failed for another reason than memory.
+/// Returns 0 if a call failed for another reason than memory.
 fn passed_over(error: Error) -> Result<usize, Failure> {
     if error.kind() == ErrorKind::OutOfMemory {
         return Err(Failure::from(error));

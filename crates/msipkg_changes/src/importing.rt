@@ -44,14 +44,9 @@ pub struct Import<'a, 'b> {
     pub is_lossy: bool,
 }
 
-/// Gives a package what files have: the code page, tables and rows, streams, and the summary, of which nothing of the
-/// old one stays. Counts that are too low for its tables are mended first. What the package can't hold of rows of
-/// `_Validation` has a line each in `losses`.
-///
-/// # Errors
-/// Fails if a file can't be read, or isn't what its ending says, at its place there; as the changes of the package do,
-/// at the table, the row and the column; and if something is lost, unless `is_lossy` allows it. Some changes are made
-/// then, so the package is to be dropped.
+/// Adds the code page, tables and rows, streams, and the summary, of which nothing old stays. Counts that are too low
+/// are mended first. What is lost of rows of `_Validation` has a line each in `losses`. After a failure some changes
+/// are made, so the package is to be dropped.
 pub(crate) fn import_files(
     rt: &System,
     package: &mut Package<Opened>,
@@ -71,7 +66,6 @@ pub(crate) fn import_files(
     losses.permit(import.is_lossy)
 }
 
-/// Gives a package what files give.
 fn apply(
     alloc: Global,
     package: &mut Package<Opened>,
@@ -90,7 +84,6 @@ fn apply(
     }
 }
 
-/// Gives a package streams.
 fn apply_streams(
     alloc: Global,
     package: &mut Package<Opened>,

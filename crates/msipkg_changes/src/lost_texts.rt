@@ -18,7 +18,6 @@ pub(crate) fn refusal(alloc: Global, package: &Package<Opened>, error: Error) ->
     }
 }
 
-/// The failure of the first text that wouldn't read back, in the database and then in the summary.
 fn lost_text(alloc: Global, package: &Package<Opened>) -> Result<Option<Failure>, Failure> {
     for table in package.tables() {
         let lost = lost_in_table(alloc, package, table)?;
@@ -29,7 +28,7 @@ fn lost_text(alloc: Global, package: &Package<Opened>) -> Result<Option<Failure>
     lost_in_summary(alloc, package.summary_info())
 }
 
-/// The failure of the first such text of a table, or none if the table can't be read.
+/// Returns the failure of the first text of a table that wouldn't read back, or none if the table can't be read.
 fn lost_in_table(
     alloc: Global,
     package: &Package<Opened>,
@@ -49,7 +48,8 @@ fn lost_in_table(
     Ok(None)
 }
 
-/// The place of the first column of the next row with such a text, and its first character that the page hasn't.
+/// Returns the place of the first column of the next row whose text has a character that the page lacks, and that
+/// character.
 fn lost_in_row(page: CodePage, rows: &Rows<'_>) -> Option<(usize, char)> {
     for place in 0..rows.columns().len() {
         if let Some(ValueView::Str(text)) = rows.peek(place)
@@ -61,7 +61,6 @@ fn lost_in_row(page: CodePage, rows: &Rows<'_>) -> Option<(usize, char)> {
     None
 }
 
-/// The first character of a text that a page hasn't.
 fn lost_character(page: CodePage, text: &str) -> Option<char> {
     for c in text.chars() {
         let mut bytes = [0u8; 4];
@@ -72,7 +71,7 @@ fn lost_character(page: CodePage, text: &str) -> Option<char> {
     None
 }
 
-/// The name of a table, the key of its next row, whose values are parted by slashes, and the name of a column.
+/// Returns the name of a table, the key of its next row with its values separated by slashes, and the name of a column.
 fn cell_text(
     alloc: Global,
     table: &Table,
@@ -97,7 +96,6 @@ fn cell_text(
     Ok(text)
 }
 
-/// The failure of the first such property of a summary.
 fn lost_in_summary(alloc: Global, summary: &SummaryInfo) -> Result<Option<Failure>, Failure> {
     let page = summary.codepage();
     for (id, name) in &PROPERTIES {
@@ -110,7 +108,6 @@ fn lost_in_summary(alloc: Global, summary: &SummaryInfo) -> Result<Option<Failur
     Ok(None)
 }
 
-/// The failure of a character that a page hasn't.
 fn lacking(alloc: Global, page: CodePage, c: char) -> Result<Failure, AllocError> {
     let mut bytes = [0u8; 4];
     let (id, c) = (page.id(), Shown::escaped(c.encode_utf8(&mut bytes)));

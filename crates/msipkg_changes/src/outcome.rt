@@ -1,5 +1,6 @@
 //! What a change did, which is said once the file is written.
 
+use crate::validation::Added;
 use msipkg_packages::output::Output;
 use msipkg_texts::{JsonObject, Shown, Style};
 use std::alloc::{AllocError, Global};
@@ -15,7 +16,6 @@ pub(crate) enum Carried {
 }
 
 impl Carried {
-    /// Returns how many rows were inserted, changed or deleted.
     fn count(self) -> usize {
         match self {
             Carried::Inserted(count) | Carried::Changed(count) | Carried::Deleted(count) => count,
@@ -23,7 +23,6 @@ impl Carried {
         }
     }
 
-    /// Returns what was done.
     fn word(self) -> &'static str {
         match self {
             Carried::Inserted(_) => "inserted",
@@ -49,6 +48,8 @@ impl Carried {
 
 /// What a change did.
 pub(crate) struct Outcome {
+    /// What adding `_Validation` did, if it was added.
+    added: Option<Added>,
     /// How many reference counts were mended first.
     mended: u32,
     /// What each statement did.
@@ -59,6 +60,7 @@ pub(crate) struct Outcome {
 impl Drop for Outcome {
     fn drop(self) {
         let Outcome {
+            added: _,
             mended: _,
             carried: _,
         } = self;
@@ -66,33 +68,38 @@ impl Drop for Outcome {
 }
 
 impl Outcome {
-    /// Returns that of a change that did nothing yet.
     pub(crate) fn new(alloc: Global) -> Outcome {
         Outcome {
+            added: None,
             mended: 0,
             carried: Vec::new(alloc),
         }
     }
 
-    /// Adds how many reference counts were mended.
+    /// Adds that `_Validation` was added.
+    pub(crate) fn add_validation(&mut self, added: Added) {
+        self.added = Some(added);
+    }
+
+    /// Writes lines about the file if `_Validation` was added.
+    pub(crate) fn note_added(&self, file: &str, notes: &mut Output) {
+        if let Some(added) = self.added {
+            added.note(file, notes);
+        }
+    }
+
     pub(crate) fn add_mended(&mut self, count: u32) {
         self.mended = self.mended.saturating_add(count);
     }
 
-    /// Adds what a statement did.
-    ///
-    /// # Errors
-    /// Fails if memory is refused.
     pub(crate) fn add_carried(&mut self, carried: Carried) -> Result<(), AllocError> {
         Ok(self.carried.push(carried)?)
     }
 
-    /// Writes a line if reference counts of a file were mended.
     pub(crate) fn note_mended(&self, file: &str, notes: &mut Output) {
         note_mended(file, self.mended, notes);
     }
 
-    /// Writes a line for each statement.
     pub(crate) fn note_carried(&self, file: &str, notes: &mut Output) {
         for carried in &self.carried {
             write!(notes, "msipkg: {}: ", Shown::escaped(file));
@@ -100,7 +107,6 @@ impl Outcome {
         }
     }
 
-    /// Prints as JSON how many rows each statement inserted, changed or deleted.
     pub(crate) fn print(&self, alloc: Global, style: Style, file: &str, output: &mut Output) {
         let mut object = JsonObject::new(alloc);
         object.put_text("file", Some(file));
@@ -113,7 +119,6 @@ impl Outcome {
     }
 }
 
-/// Writes how many counts of a file were mended, unless none was.
 pub(crate) fn note_mended(file: &str, count: u32, notes: &mut Output) {
     if count > 0 {
         let (file, counts) = (

@@ -9,9 +9,6 @@ use msipkg_packages::output::{Failure, Opened};
 
 /// Sets the pages of a package to UTF-8, if it is opened to be written so. Counts that are too low for that are mended
 /// first.
-///
-/// # Errors
-/// Fails as `Package::set_database_codepage` does.
 pub(crate) fn recode(
     package: &mut Package<Opened>,
     purpose: Purpose,
@@ -24,7 +21,6 @@ pub(crate) fn recode(
     }
 }
 
-/// Sets the pages of a package to UTF-8, where they aren't.
 fn set_pages(
     package: &mut Package<Opened>,
     manner: Manner,
@@ -39,7 +35,6 @@ fn set_pages(
     Ok(set_summary_page(package)?)
 }
 
-/// Sets the page of a package's summary to UTF-8, unless it is that.
 fn set_summary_page(package: &mut Package<Opened>) -> Result<(), Error> {
     if is_utf8(package.summary_info().codepage()) {
         return Ok(());
@@ -47,7 +42,6 @@ fn set_summary_page(package: &mut Package<Opened>) -> Result<(), Error> {
     package.summary_info_mut()?.set_codepage(CodePage::Utf8)
 }
 
-/// Whether a page is UTF-8.
 fn is_utf8(page: CodePage) -> bool {
     matches!(page, CodePage::Utf8)
 }

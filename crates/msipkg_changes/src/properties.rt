@@ -54,11 +54,8 @@ static PROPERTIES: [(&str, Property); 18] = [
     ("doc_security", Property::DocSecurity),
 ];
 
-/// Sets properties, each given as `NAME=VALUE`, and then clears others.
-///
-/// # Errors
-/// Fails at the first word for which there is no property of the name, or which doesn't take the value. Those in front
-/// of it are set.
+/// Sets properties, each written as `NAME=VALUE`, and then clears others. Fails at the first word that names no
+/// property or whose value the property doesn't take. Those in front of it are set.
 pub(crate) fn set_properties(
     alloc: Global,
     package: &mut Package<Opened>,
@@ -72,7 +69,6 @@ pub(crate) fn set_properties(
     clear_all(alloc, summary, cleared)
 }
 
-/// Sets the property of a pair.
 fn set_pair(alloc: Global, summary: &mut SummaryInfo, pair: &str) -> Result<(), Failure> {
     let Some((name, value)) = pair.split_once('=') else {
         return Err(Failure::rule("it isn't of the form NAME=VALUE").at(alloc, "word", pair));
@@ -80,10 +76,6 @@ fn set_pair(alloc: Global, summary: &mut SummaryInfo, pair: &str) -> Result<(), 
     set_property(alloc, summary, name, value).map_err(|failure| failure.at(alloc, "property", name))
 }
 
-/// Sets the property of a name to the value that a text stands for.
-///
-/// # Errors
-/// Fails if there is no such property, if it doesn't take the value, and with `OutOfMemory`.
 pub(crate) fn set_property(
     alloc: Global,
     summary: &mut SummaryInfo,
@@ -96,7 +88,6 @@ pub(crate) fn set_property(
     }
 }
 
-/// Clears properties.
 fn clear_all(alloc: Global, summary: &mut SummaryInfo, names: &[&str]) -> Result<(), Failure> {
     for name in names {
         clear_property(summary, name).map_err(|failure| failure.at(alloc, "property", name))?;
@@ -104,10 +95,6 @@ fn clear_all(alloc: Global, summary: &mut SummaryInfo, names: &[&str]) -> Result
     Ok(())
 }
 
-/// Clears the property of a name.
-///
-/// # Errors
-/// Fails if there is no such property that can be cleared, and with `OutOfMemory`.
 pub(crate) fn clear_property(summary: &mut SummaryInfo, name: &str) -> Result<(), Failure> {
     match property_named(name) {
         Some(property) => clear(summary, property),
@@ -115,7 +102,6 @@ pub(crate) fn clear_property(summary: &mut SummaryInfo, name: &str) -> Result<()
     }
 }
 
-/// The property of a name.
 fn property_named(name: &str) -> Option<Property> {
     for (known, property) in &PROPERTIES {
         if *known == name {
@@ -125,12 +111,10 @@ fn property_named(name: &str) -> Option<Property> {
     None
 }
 
-/// The error of a name that no property has.
 fn no_property() -> Failure {
     Failure::rule("there is no property of this name that can be set")
 }
 
-/// Sets a property.
 fn set(
     alloc: Global,
     summary: &mut SummaryInfo,
@@ -153,7 +137,6 @@ fn set(
     }
 }
 
-/// Sets a property that is a text.
 fn set_text(summary: &mut SummaryInfo, property: Property, value: &str) -> Result<(), Error> {
     match property {
         Property::Title => summary.set_title(value),
@@ -166,7 +149,6 @@ fn set_text(summary: &mut SummaryInfo, property: Property, value: &str) -> Resul
     }
 }
 
-/// Sets a property that is a number.
 fn set_number(summary: &mut SummaryInfo, property: Property, value: &str) -> Result<(), Failure> {
     let Ok(number) = value.parse::<i32>() else {
         return Err(Failure::rule("its value has to be a number of 32 bits"));
@@ -180,7 +162,6 @@ fn set_number(summary: &mut SummaryInfo, property: Property, value: &str) -> Res
     Ok(set?)
 }
 
-/// Sets a property that is a time.
 fn set_time(summary: &mut SummaryInfo, property: Property, value: &str) -> Result<(), Failure> {
     let Some(time) = time_of(value) else {
         return Err(Failure::rule("its value has to be a time such as 2024-02-29T12:00:00Z"));
@@ -193,8 +174,7 @@ fn set_time(summary: &mut SummaryInfo, property: Property, value: &str) -> Resul
     Ok(set?)
 }
 
-/// The time of a text, if it is one as `summary` prints it: as ISO 8601 has it, as `2024-02-29T12:00:00Z`, or a number
-/// of ticks.
+/// Reads a time as `summary` prints it: in ISO 8601, such as `2024-02-29T12:00:00Z`, or as a number of ticks.
 fn time_of(text: &str) -> Option<Timestamp> {
     if let Some(number) = text.strip_suffix(" ticks") {
         return Some(Timestamp::from_ticks(number.parse::<u64>().ok()?));
@@ -206,12 +186,10 @@ fn time_of(text: &str) -> Option<Timestamp> {
     Some(Timestamp::from_unix(seconds, rest))
 }
 
-/// Sets the code page of the summary.
 fn set_page(summary: &mut SummaryInfo, value: &str) -> Result<(), Failure> {
     Ok(summary.set_codepage(page_of(value)?)?)
 }
 
-/// Sets the UUID of the package.
 fn set_uuid(summary: &mut SummaryInfo, value: &str) -> Result<(), Failure> {
     match Uuid::parse_str(value) {
         Ok(uuid) => Ok(summary.set_uuid(uuid)?),
@@ -219,13 +197,12 @@ fn set_uuid(summary: &mut SummaryInfo, value: &str) -> Result<(), Failure> {
     }
 }
 
-/// Sets the keywords, which are parted by `;`.
 fn set_keywords(alloc: Global, summary: &mut SummaryInfo, value: &str) -> Result<(), Failure> {
     let keywords = keywords_of(alloc, value)?;
     Ok(summary.set_keywords(keywords.as_slice())?)
 }
 
-/// Reads keywords, parted by `;`.
+/// Reads keywords, separated by `;`.
 fn keywords_of(alloc: Global, value: &str) -> Result<Vec<String>, Failure> {
     let mut keywords = Vec::new(alloc);
     for keyword in value.split(';') {
@@ -234,13 +211,12 @@ fn keywords_of(alloc: Global, value: &str) -> Result<Vec<String>, Failure> {
     Ok(keywords)
 }
 
-/// Sets the languages, whose numbers are parted by commas.
 fn set_languages(alloc: Global, summary: &mut SummaryInfo, value: &str) -> Result<(), Failure> {
     let languages = languages_of(alloc, value)?;
     Ok(summary.set_languages(languages.as_slice())?)
 }
 
-/// Reads the numbers of languages, parted by commas.
+/// Reads the numbers of languages, separated by commas.
 fn languages_of(alloc: Global, value: &str) -> Result<Vec<LanguageId>, Failure> {
     let mut languages = Vec::new(alloc);
     for number in value.split(',') {
@@ -254,7 +230,7 @@ fn languages_of(alloc: Global, value: &str) -> Result<Vec<LanguageId>, Failure> 
     Ok(languages)
 }
 
-/// Clears a property. There is always a code page, so that one isn't cleared.
+/// Clears a property, but never the code page, since there always is one.
 fn clear(summary: &mut SummaryInfo, property: Property) -> Result<(), Failure> {
     match property {
         Property::Codepage => return Err(no_property()),
@@ -266,7 +242,6 @@ fn clear(summary: &mut SummaryInfo, property: Property) -> Result<(), Failure> {
     Ok(())
 }
 
-/// Clears a property that has a value of its own.
 fn clear_plain(summary: &mut SummaryInfo, property: Property) {
     match property {
         Property::Title => summary.clear_title(),

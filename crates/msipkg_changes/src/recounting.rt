@@ -53,7 +53,6 @@ impl Mended {
         self.counts == 0 && self.texts == 0
     }
 
-    /// Writes what was mended in a file.
     fn note(self, file: &str, notes: &mut Output) {
         note_mended(file, self.counts, notes);
         let file = Shown::escaped(file);
@@ -65,7 +64,6 @@ impl Mended {
     }
 }
 
-/// Mends a package.
 fn mend(alloc: Global, package: &mut Package<Opened>) -> Result<Mended, Failure> {
     let counts = package.recount()?;
     let texts = empty_texts(alloc, package)?;
@@ -93,7 +91,6 @@ pub(crate) fn noted(package: &mut Package<Opened>, failure: Failure) -> Failure 
     }
 }
 
-/// Whether the counts of a package are too low for a change.
 fn is_refused_for_counts(package: &mut Package<Opened>) -> bool {
     match package.drop_table(KEPT_TABLE) {
         Err(error) => matches!(error.kind(), ErrorKind::InvalidData),

@@ -16,13 +16,11 @@ pub fn read_script(rt: &System, path: &str) -> Result<Vec<String>, Failure> {
     }
 }
 
-/// The statements of a file.
 fn script_in(rt: &System, path: &str) -> Result<Vec<String>, Failure> {
     let text = text_of(rt, path)?;
     statements_of(rt.alloc(), text.as_str())
 }
 
-/// The text of a file, or of standard input.
 fn text_of(rt: &System, path: &str) -> Result<String, Failure> {
     if path == "-" {
         return Ok(io::read_to_string(rt.alloc(), rt.rt.stdin())?);
@@ -33,7 +31,6 @@ fn text_of(rt: &System, path: &str) -> Result<String, Failure> {
     }
 }
 
-/// The statements of a text.
 fn statements_of(alloc: Global, text: &str) -> Result<Vec<String>, Failure> {
     let mut cutter = Cutter {
         alloc,
@@ -85,7 +82,6 @@ impl Drop for Cutter {
 }
 
 impl Cutter {
-    /// Returns the statements.
     fn into_statements(self) -> Vec<String> {
         let Cutter {
             alloc: _,
@@ -96,12 +92,10 @@ impl Cutter {
         statements
     }
 
-    /// Returns whether a quote is open.
     fn is_quoted(&self) -> bool {
         matches!(self.state, State::Quoted(_) | State::Escaped)
     }
 
-    /// Takes a text.
     fn take_all(&mut self, text: &str) -> Result<(), AllocError> {
         for c in text.chars() {
             self.take(c)?;
@@ -109,7 +103,6 @@ impl Cutter {
         Ok(())
     }
 
-    /// Takes a character.
     fn take(&mut self, c: char) -> Result<(), AllocError> {
         match self.state {
             State::Plain => self.take_plain(c),
@@ -130,7 +123,6 @@ impl Cutter {
         }
     }
 
-    /// Takes a character outside quotes and comments.
     fn take_plain(&mut self, c: char) -> Result<(), AllocError> {
         self.state = match c {
             '-' => State::Minus,
@@ -144,7 +136,7 @@ impl Cutter {
         }
     }
 
-    /// Takes a character of a comment, which stands for a blank at its end.
+    /// Takes a character of a comment, which becomes a blank at its end.
     fn take_comment(&mut self, c: char) -> Result<(), AllocError> {
         if c != '\n' {
             return Ok(());
@@ -153,7 +145,6 @@ impl Cutter {
         self.statement.push(' ')
     }
 
-    /// Takes a character in quotes.
     fn take_quoted(&mut self, quote: char, c: char) -> Result<(), AllocError> {
         if c == quote {
             self.state = State::Plain;
@@ -163,7 +154,6 @@ impl Cutter {
         self.statement.push(c)
     }
 
-    /// Ends a statement, if one has begun.
     fn end(&mut self) -> Result<(), AllocError> {
         if matches!(self.state, State::Minus) {
             self.statement.push('-')?;

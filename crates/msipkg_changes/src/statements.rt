@@ -12,10 +12,7 @@ use std::alloc::Global;
 /// How many characters of a statement a message has at most.
 const MOST_SHOWN: usize = 200;
 
-/// Fails if one of the texts is no statement: an insert, an update, a delete or a change of tables.
-///
-/// # Errors
-/// Fails with the rule that the text breaks, and with `OutOfMemory`.
+/// Fails if one of the texts is no insert, update, delete or change of tables.
 pub(crate) fn check_statements(alloc: Global, texts: &[&str]) -> Result<(), Failure> {
     for text in texts {
         if let Err(failure) = check_text(alloc, text) {
@@ -25,10 +22,8 @@ pub(crate) fn check_statements(alloc: Global, texts: &[&str]) -> Result<(), Fail
     Ok(())
 }
 
-/// Carries out the statements that texts spell, in turn, and adds what each did.
-///
-/// # Errors
-/// Fails at the first text that is no statement, or whose change is refused. Those in front of it are carried out.
+/// Carries out statements in turn, and adds what each did. Fails at the first text that is no statement or whose change
+/// is refused. Those in front of it are carried out.
 pub(crate) fn carry_out_statements(
     alloc: Global,
     package: &mut Package<Opened>,
@@ -44,7 +39,6 @@ pub(crate) fn carry_out_statements(
     Ok(())
 }
 
-/// Fails if a text is no statement.
 fn check_text(alloc: Global, text: &str) -> Result<(), Failure> {
     if is_definition(text) {
         drop(definition_of(alloc, text)?);
@@ -54,7 +48,6 @@ fn check_text(alloc: Global, text: &str) -> Result<(), Failure> {
     }
 }
 
-/// Carries out the statement that a text spells, and returns what it did.
 fn apply_text(
     alloc: Global,
     package: &mut Package<Opened>,
@@ -71,8 +64,8 @@ fn apply_text(
     }
 }
 
-/// Carries out the change of rows that a text spells, and returns what it did. The rows are counted first, but why
-/// that fails is told last.
+/// Carries out a change of rows, and returns what it did. The rows are counted first, but why that fails is reported
+/// last.
 fn apply_rows(
     alloc: Global,
     package: &mut Package<Opened>,
@@ -85,7 +78,6 @@ fn apply_rows(
     }
 }
 
-/// The failure of a statement, whose text is cut where it is long.
 fn at_statement(alloc: Global, failure: Failure, text: &str) -> Failure {
     match text.char_indices().nth(MOST_SHOWN) {
         Some((end, _)) => match format!(in alloc; "{}..", text.get(..end).unwrap_or("")) {

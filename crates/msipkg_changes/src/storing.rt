@@ -10,13 +10,9 @@ use msipkg_packages::{
 use msipkg_texts::Shown;
 use std::alloc::Global;
 
-/// Replaces a file by a package that was changed, and leaves the file alone if nothing was. If a package that was
-/// changed is signed, `errors` gets a line that says that the signature is no longer valid, and one if the file has
-/// other names, which keep the old package.
-///
-/// # Errors
-/// Fails as `bytes_to_write` does, at the place of a text that its page can't hold, and as `verified` and the calls of
-/// the system do. Then the file is as it was.
+/// Replaces a file by a changed package, and leaves it alone if nothing was changed. `errors` gets a line if a
+/// signature is no longer valid, and one if the file has other names, which keep the old package. After a failure the
+/// file is as it was.
 pub(crate) fn store(
     rt: &System,
     file: &str,
@@ -38,7 +34,6 @@ pub(crate) fn store(
     Ok(())
 }
 
-/// The bytes that the file of a package is to get, unless it is left alone.
 fn new_bytes(
     alloc: Global,
     package: Package<Opened>,
@@ -50,7 +45,6 @@ fn new_bytes(
     }
 }
 
-/// Replaces a file by these bytes.
 fn replace_by(
     rt: &System,
     file: &str,
@@ -71,7 +65,6 @@ fn replace_by(
     replace_package(rt, claim, &bytes)
 }
 
-/// Writes a line about a file.
 fn note(file: &str, text: &str, errors: &mut Output) {
     let file = Shown::escaped(file);
     writeln!(errors, "msipkg: {file}: {text}");

@@ -5,11 +5,8 @@ use msipkg_packages::output::{Failure, Opened, System};
 use std::alloc::Global;
 use std::io::Write;
 
-/// Stores files as streams of a package, each given as `NAME=PATH`.
-///
-/// # Errors
-/// Fails at the first word that has no `=`, whose file can't be read, or whose name no stream may have. Those in front
-/// of it are stored.
+/// Stores files as streams, each written as `NAME=PATH`. Fails at the first word that has no `=`, whose file can't be
+/// read, or whose name no stream may have. Those in front of it are stored.
 pub(crate) fn add_streams(
     rt: &System,
     package: &mut Package<Opened>,
@@ -21,7 +18,6 @@ pub(crate) fn add_streams(
     Ok(())
 }
 
-/// Stores the file of a pair.
 fn add_pair(rt: &System, package: &mut Package<Opened>, pair: &str) -> Result<(), Failure> {
     let Some((name, path)) = pair.split_once('=') else {
         return Err(Failure::rule("it isn't of the form NAME=PATH").at(rt.alloc(), "word", pair));
@@ -32,7 +28,6 @@ fn add_pair(rt: &System, package: &mut Package<Opened>, pair: &str) -> Result<()
     }
 }
 
-/// Fills the stream of a name, which a failure names too.
 fn fill_named(
     alloc: Global,
     package: &mut Package<Opened>,
@@ -42,10 +37,6 @@ fn fill_named(
     fill_stream(package, name, bytes).map_err(|failure| failure.at(alloc, "stream", name))
 }
 
-/// Makes the stream of a name, or empties it, and fills it.
-///
-/// # Errors
-/// Fails if no stream may have the name, and with `OutOfMemory`.
 pub(crate) fn fill_stream(
     package: &mut Package<Opened>,
     name: &str,
@@ -54,11 +45,8 @@ pub(crate) fn fill_stream(
     Ok(package.write_stream(name)?.write_all(bytes)?)
 }
 
-/// Removes streams of a package, and its digital signature where that is asked for.
-///
-/// # Errors
-/// Fails if nothing is asked for, if it isn't signed, and at the first stream that isn't there. What stands in front of
-/// it is removed.
+/// Removes streams of a package, and its digital signature if that is asked for. Fails if nothing is asked for, if the
+/// package isn't signed, and at the first stream that doesn't exist. What is in front of it is removed.
 pub(crate) fn remove_parts(
     alloc: Global,
     package: &mut Package<Opened>,
@@ -73,7 +61,6 @@ pub(crate) fn remove_parts(
     remove_streams(alloc, package, names)
 }
 
-/// Removes the digital signature of a package.
 fn remove_signature(package: &mut Package<Opened>) -> Result<(), Failure> {
     if !package.has_digital_signature() {
         return Err(Failure::rule("it has no digital signature"));
@@ -81,10 +68,7 @@ fn remove_signature(package: &mut Package<Opened>) -> Result<(), Failure> {
     Ok(package.remove_digital_signature()?)
 }
 
-/// Removes streams of a package.
-///
-/// # Errors
-/// Fails at the first stream that isn't there. Those in front of it are removed.
+/// Removes streams of a package. Fails at the first one that doesn't exist. Those in front of it are removed.
 fn remove_streams(
     alloc: Global,
     package: &mut Package<Opened>,

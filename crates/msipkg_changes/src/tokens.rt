@@ -14,7 +14,7 @@ pub(crate) enum Token<'a> {
 }
 
 impl<'a> Token<'a> {
-    /// Returns whether it is this key word, in any case.
+    /// Returns whether it is this keyword, in any case.
     pub(crate) fn is_word(self, word: &str) -> bool {
         match self {
             Token::Word(text) => text.eq_ignore_ascii_case(word),
@@ -30,12 +30,10 @@ pub(crate) struct Tokens<'a> {
 }
 
 impl<'a> Tokens<'a> {
-    /// Returns the pieces of a text.
     pub(crate) fn new(text: &'a str) -> Tokens<'a> {
         Tokens { left: text }
     }
 
-    /// Takes the next piece, if there is one.
     pub(crate) fn take(&mut self) -> Option<Token<'a>> {
         let text = self.left.trim_start();
         let first = text.chars().next()?;
@@ -59,7 +57,6 @@ impl<'a> Tokens<'a> {
         }
     }
 
-    /// Takes the next piece if it is this key word, and returns whether it was.
     pub(crate) fn takes_word(&mut self, word: &str) -> bool {
         let mut ahead = *self;
         match ahead.take() {
@@ -71,7 +68,6 @@ impl<'a> Tokens<'a> {
         }
     }
 
-    /// Takes the next piece if it is this sign, and returns whether it was.
     pub(crate) fn takes(&mut self, sign: char) -> bool {
         let mut ahead = *self;
         match ahead.take() {
@@ -83,10 +79,7 @@ impl<'a> Tokens<'a> {
         }
     }
 
-    /// Takes this key word.
-    ///
-    /// # Errors
-    /// Fails with this rule if something else is next, and so do the other calls.
+    /// Takes this keyword. Fails with this rule if something else is next.
     pub(crate) fn expect_word(&mut self, word: &str, rule: &'static str) -> Result<(), Failure> {
         if self.takes_word(word) {
             Ok(())
@@ -95,7 +88,6 @@ impl<'a> Tokens<'a> {
         }
     }
 
-    /// Takes this sign.
     pub(crate) fn expect(&mut self, sign: char, rule: &'static str) -> Result<(), Failure> {
         if self.takes(sign) {
             Ok(())
@@ -113,7 +105,6 @@ impl<'a> Tokens<'a> {
         }
     }
 
-    /// Fails if a piece is left.
     pub(crate) fn expect_end(&mut self) -> Result<(), Failure> {
         match self.take() {
             Some(_) => Err(Failure::rule("expected the end of the text")),
@@ -122,7 +113,7 @@ impl<'a> Tokens<'a> {
     }
 }
 
-/// Returns where the word at the start of a text ends, which is 0 where there is none.
+/// Returns where the word at the start of a text ends, which is 0 if there is none.
 fn end_of_word(text: &str) -> usize {
     for (i, c) in text.char_indices() {
         if !c.is_ascii_alphanumeric() && !matches!(c, '_' | '.') {

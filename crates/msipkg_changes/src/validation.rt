@@ -3,8 +3,8 @@
 
 use crate::streams::fill_stream;
 use msipkg_packages::msi::{Column, Error, Insert, Package, Row, Table, Value};
-use msipkg_packages::output::{Failure, Opened, Output};
-use msipkg_packages::{is_list, new_package, rows_of};
+use msipkg_packages::output::{Failure, Opened, Output, System};
+use msipkg_packages::{PackageFile, is_list, new_package, rows_of, unlisted_table};
 use msipkg_texts::Shown;
 use std::alloc::Global;
 use std::mem;
@@ -20,7 +20,6 @@ pub(crate) struct Before {
 }
 
 impl Before {
-    /// Returns what a package has.
     pub(crate) fn of(package: &Package<Opened>) -> Before {
         Before {
             has_validation: package.has_table(VALIDATION),
@@ -28,27 +27,62 @@ impl Before {
         }
     }
 
-    /// Writes a line where `_Validation` was added, and one where the signature was left out for that.
-    pub(crate) fn note(self, file: &str, package: &Package<Opened>, notes: &mut Output) {
+    /// Returns what adding `_Validation` did to the package, if it was added.
+    pub(crate) fn added(self, package: &Package<Opened>) -> Option<Added> {
         if self.has_validation || !package.has_table(VALIDATION) {
-            return;
+            return None;
         }
+        Some(Added {
+            lost_signature: self.is_signed,
+        })
+    }
+}
+
+/// What adding `_Validation` did to a package.
+#[derive(Clone, Copy, Debug)]
+pub(crate) struct Added {
+    lost_signature: bool,
+}
+
+impl Added {
+    /// Writes a line that says so, and one if the signature was left out for it.
+    pub(crate) fn note(self, file: &str, notes: &mut Output) {
         let file = Shown::escaped(file);
         writeln!(
             notes,
             "msipkg: {file}: _Validation is added, which new tables need"
         );
-        if self.is_signed {
+        if self.lost_signature {
             writeln!(notes, "msipkg: {file}: its digital signature is removed");
         }
     }
 }
 
-/// Gives a package `_Validation`, as a new package has it, if it isn't there. It then describes all tables.
+/// Fails if a file has rows of a table that its package doesn't list: a package made anew doesn't have them.
 ///
 /// # Errors
-/// Fails if the package isn't sound, at a table that can't be read or has a row that its columns don't take, at a
-/// stream that can't be read, and with `OutOfMemory`.
+/// Fails at that table's name, and as `unlisted_table` does.
+pub(crate) fn check_unlisted(
+    rt: &System,
+    file: &PackageFile<'_>,
+    notes: &mut Output,
+) -> Result<(), Failure> {
+    match unlisted_table(rt, file, notes)? {
+        None => Ok(()),
+        Some(table) => {
+            let failure = Failure::rule("_Tables doesn't list it, so its rows would be lost");
+            Err(failure.at(
+                rt.alloc(),
+                "_Validation can't be added, table",
+                table.as_str(),
+            ))
+        }
+    }
+}
+
+/// Adds `_Validation`, as a new package has it, if it doesn't exist. It then describes all tables. Fails if the package
+/// isn't sound, at a table that can't be read or has a row that its columns don't take, and at a stream that can't be
+/// read.
 pub(crate) fn add_validation(alloc: Global, package: &mut Package<Opened>) -> Result<(), Failure> {
     if package.has_table(VALIDATION) {
         return Ok(());
@@ -66,7 +100,6 @@ fn check_sound(package: &mut Package<Opened>) -> Result<(), Error> {
     package.set_database_codepage(page)
 }
 
-/// Copies what a package has to a new one.
 fn copy_package(
     alloc: Global,
     package: &mut Package<Opened>,
@@ -80,7 +113,6 @@ fn copy_package(
     Ok(())
 }
 
-/// Creates the tables of a package in another one.
 fn create_tables(
     alloc: Global,
     package: &Package<Opened>,
@@ -97,12 +129,10 @@ fn create_tables(
     Ok(())
 }
 
-/// Creates a table in another package.
 fn create_table(alloc: Global, table: &Table, made: &mut Package<Opened>) -> Result<(), Error> {
     made.create_table(table.name(), copied_columns(alloc, table.columns())?)
 }
 
-/// Copies of columns.
 fn copied_columns(alloc: Global, columns: &[Column]) -> Result<Vec<Column>, Error> {
     let mut copies = Vec::with_capacity(alloc, columns.len())?;
     for column in columns {
@@ -111,7 +141,6 @@ fn copied_columns(alloc: Global, columns: &[Column]) -> Result<Vec<Column>, Erro
     Ok(copies)
 }
 
-/// Copies the rows of all tables.
 fn copy_tables(
     alloc: Global,
     package: &Package<Opened>,
@@ -128,7 +157,6 @@ fn copy_tables(
     Ok(())
 }
 
-/// Copies the rows of a table.
 fn copy_table(
     alloc: Global,
     package: &Package<Opened>,
@@ -139,10 +167,6 @@ fn copy_table(
     Ok(made.insert_rows(Insert::into(alloc, table)?.rows(rows)?)?)
 }
 
-/// Returns copies of the rows of a table.
-///
-/// # Errors
-/// Fails if the table isn't there or can't be read, at its name, and with `OutOfMemory`.
 pub(crate) fn copied_rows(
     alloc: Global,
     package: &Package<Opened>,
@@ -155,7 +179,6 @@ pub(crate) fn copied_rows(
     Ok(copies)
 }
 
-/// A copy of a row.
 fn copied_row(alloc: Global, row: &Row) -> Result<Vec<Value>, Error> {
     let mut values = Vec::with_capacity(alloc, row.len())?;
     for i in 0..row.len() {
@@ -164,7 +187,6 @@ fn copied_row(alloc: Global, row: &Row) -> Result<Vec<Value>, Error> {
     Ok(values)
 }
 
-/// Copies the streams of a package.
 fn copy_streams(
     alloc: Global,
     package: &Package<Opened>,
@@ -179,7 +201,6 @@ fn copy_streams(
     Ok(())
 }
 
-/// Copies a stream.
 fn copy_stream(
     package: &Package<Opened>,
     name: &str,
@@ -189,7 +210,6 @@ fn copy_stream(
     fill_stream(made, name, stream.rest())
 }
 
-/// A failure at a table that can't be copied.
 fn at_table(alloc: Global, failure: Failure, table: &Table) -> Failure {
     failure.at(alloc, "_Validation can't be added, table", table.name())
 }

@@ -40,7 +40,6 @@ pub fn check_file(
     print_check(rt.alloc(), options, file.path, &mut looked, output)
 }
 
-/// Prints the findings in a package, and returns whether there is no error among them.
 fn print_check(
     alloc: Global,
     options: CheckOptions,

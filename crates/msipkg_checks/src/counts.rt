@@ -6,12 +6,9 @@ use msipkg_packages::msi::{Error, ErrorKind, Package};
 use msipkg_packages::output::{Failure, Opened};
 use std::fmt;
 
-/// Finds out whether the counts of the texts are too low, so that the tables can't be changed as they are, and how many
-/// of them are wrong. Many tools write such counts, so it is a warning where counting anew mends them. The package is
-/// counted anew in memory. One with storages below its root isn't looked at: it is only read.
-///
-/// # Errors
-/// Fails with `OutOfMemory`.
+/// Finds out if counts of texts are too low to change tables, and how many are wrong. Many tools write such counts, so
+/// it is a warning if counting anew mends them. The package is counted anew in memory, unless it has storages below its
+/// root: it is only read then.
 pub(crate) fn check_counts(
     package: &mut Package<Opened>,
     report: &mut Report<'_>,
@@ -53,10 +50,6 @@ impl fmt::Display for WrongCounts<'_> {
     }
 }
 
-/// Adds the error with which a change was refused, if it was.
-///
-/// # Errors
-/// Fails with `OutOfMemory` if that is the error.
 fn add_refused(refused: Result<(), Error>, report: &mut Report<'_>) -> Result<(), Failure> {
     match refused {
         Ok(()) => Ok(()),
@@ -64,10 +57,7 @@ fn add_refused(refused: Result<(), Error>, report: &mut Report<'_>) -> Result<()
     }
 }
 
-/// Adds an error of the string pool.
-///
-/// # Errors
-/// Fails with `OutOfMemory` if that is the error.
+/// Adds an error of the string pool. Fails with `OutOfMemory` if that is the error.
 fn add_error(error: Error, report: &mut Report<'_>) -> Result<(), Failure> {
     if error.kind() == ErrorKind::OutOfMemory {
         return Err(Failure::from(error));

@@ -7,9 +7,6 @@ use std::alloc::{AllocError, Global};
 use std::collections::{BTreeMap, BTreeSet};
 
 /// Returns a value's text: a number in decimal, and nothing for null and streams.
-///
-/// # Errors
-/// Fails if memory is refused.
 pub(crate) fn key_text(alloc: Global, value: ValueView<'_>) -> Result<Option<String>, AllocError> {
     match value {
         ValueView::Int(number) => Ok(Some(number.to_string(alloc)?)),
@@ -43,7 +40,6 @@ impl Drop for KeyColumns {
 }
 
 impl KeyColumns {
-    /// Returns no columns.
     pub(crate) fn new(alloc: Global) -> KeyColumns {
         KeyColumns {
             alloc,
@@ -55,9 +51,6 @@ impl KeyColumns {
 
     /// Returns the number of a table's column, whose place is counted from 1. It has no texts if there is no such table
     /// or column, or if the table can't be read.
-    ///
-    /// # Errors
-    /// Fails with `OutOfMemory`.
     pub(crate) fn column(
         &mut self,
         package: &Package<Opened>,
@@ -74,7 +67,6 @@ impl KeyColumns {
         Ok(column)
     }
 
-    /// Adds the texts of a table's column, whose place is counted from 1, if it can be read.
     fn add_column(
         &mut self,
         package: &Package<Opened>,
@@ -100,7 +92,6 @@ impl KeyColumns {
         Ok(())
     }
 
-    /// Adds a value's text, if it has one.
     fn add_value(&mut self, column: usize, value: ValueView<'_>) -> Result<(), AllocError> {
         if let Some(text) = key_text(self.alloc, value)? {
             let text = self.text_number(text)?;
@@ -119,7 +110,6 @@ impl KeyColumns {
         Ok(number)
     }
 
-    /// Returns whether one of these columns has a text.
     pub(crate) fn have_text(&self, columns: &BTreeSet<usize>, text: &str) -> bool {
         let Some(text) = self.texts.get(text) else {
             return false;

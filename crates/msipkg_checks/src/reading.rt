@@ -3,10 +3,7 @@
 use msipkg_packages::msi::{Error, ErrorKind};
 use msipkg_packages::output::Failure;
 
-/// Passes over the error with which rows can't be selected: a table or a column isn't there, or the table can't be
-/// read.
-///
-/// # Errors
+/// Passes over the error with which rows can't be selected: a table or a column is missing, or the table can't be read.
 /// Fails with `OutOfMemory` if that is the error.
 pub(crate) fn pass_over(error: Error) -> Result<(), Failure> {
     if error.kind() == ErrorKind::OutOfMemory {

@@ -25,7 +25,6 @@ impl Display for Refusal<'_> {
     }
 }
 
-/// Writes why a column doesn't take a number.
 fn write_number<W: fmt::Write>(
     column: &Column,
     number: i32,
@@ -39,7 +38,7 @@ fn write_number<W: fmt::Write>(
     }
 }
 
-/// The least and the greatest number that a column takes, if it takes numbers. The least of a width means null.
+/// Returns the least and the greatest number that a column takes, if it takes numbers. The least of a width means null.
 fn limits_of(column: &Column) -> Option<(i32, i32)> {
     let (least, greatest) = match column.coltype() {
         ColumnType::Int16 => (-32767, 32767),
@@ -52,7 +51,6 @@ fn limits_of(column: &Column) -> Option<(i32, i32)> {
     }
 }
 
-/// Writes why a column doesn't take a text.
 fn write_text<W: fmt::Write>(
     column: &Column,
     text: &str,
@@ -74,7 +72,6 @@ fn write_text<W: fmt::Write>(
     write_listed(column, f)
 }
 
-/// Writes the texts that a column takes.
 fn write_listed<W: fmt::Write>(column: &Column, f: &mut fmt::Formatter<W>) -> fmt::Result {
     let listed = column.enum_values().unwrap_or(&[]);
     for (place, text) in listed.iter().take(MOST_LISTED).enumerate() {

@@ -27,11 +27,8 @@ impl Drop for Reference {
     }
 }
 
-/// Finds the values of columns with a foreign key that no row has of the tables to which it refers. Tables that can't
+/// Finds the values of columns with a foreign key that no row of the tables to which it refers has. Tables that can't
 /// be read are passed over.
-///
-/// # Errors
-/// Fails with `OutOfMemory`, and so do the other calls.
 pub(crate) fn check_references(
     alloc: Global,
     package: &Package<Opened>,
@@ -41,7 +38,6 @@ pub(crate) fn check_references(
     check_tables(alloc, package, &mut keys, report)
 }
 
-/// Finds such values of all tables.
 fn check_tables(
     alloc: Global,
     package: &Package<Opened>,
@@ -54,7 +50,6 @@ fn check_tables(
     Ok(())
 }
 
-/// Finds such values of a table.
 fn check_table(
     alloc: Global,
     package: &Package<Opened>,
@@ -67,7 +62,6 @@ fn check_table(
     check_columns(alloc, package, table, references.as_slice(), keys, report)
 }
 
-/// Finds such values in these columns of a table.
 fn check_columns(
     alloc: Global,
     package: &Package<Opened>,
@@ -85,7 +79,6 @@ fn check_columns(
     }
 }
 
-/// Adds the columns of a table that have a foreign key.
 fn add_references(
     alloc: Global,
     package: &Package<Opened>,
@@ -102,8 +95,8 @@ fn add_references(
     Ok(())
 }
 
-/// Returns the columns to which a foreign key refers: those at a place, counted from 1, of tables whose names stand
-/// between semicolons.
+/// Returns the columns to which a foreign key refers: those at a place, counted from 1, of tables whose names are
+/// separated by semicolons.
 fn targets_of(
     alloc: Global,
     package: &Package<Opened>,
@@ -120,7 +113,6 @@ fn targets_of(
     Ok(targets)
 }
 
-/// Finds the values of rows whose foreign keys no row has.
 fn check_rows(
     alloc: Global,
     table: &Table,
@@ -137,7 +129,6 @@ fn check_rows(
     Ok(())
 }
 
-/// Finds the values of the next row whose foreign keys no row has.
 fn check_row(
     alloc: Global,
     table: &Table,
@@ -170,7 +161,6 @@ fn is_met(
     }
 }
 
-/// Adds the error of a cell whose key no row has.
 fn add_missing(
     table: &Table,
     row: &str,

@@ -69,7 +69,6 @@ pub(crate) struct Report<'a> {
 }
 
 impl<'a> Report<'a> {
-    /// Returns the report of a file, without findings.
     pub(crate) fn new(
         alloc: Global,
         options: CheckOptions,
@@ -86,12 +85,10 @@ impl<'a> Report<'a> {
         }
     }
 
-    /// Returns whether no error was found.
     pub(crate) fn is_well(&self) -> bool {
         self.is_well
     }
 
-    /// Returns the path of the file, for messages.
     pub(crate) fn file(&self) -> Cut<'a> {
         Cut(self.file)
     }
@@ -110,7 +107,6 @@ impl<'a> Report<'a> {
         }
     }
 
-    /// Prints an error.
     pub(crate) fn add<M: fmt::Display>(&mut self, place: Place<'_>, message: &M) {
         self.put(Severity::Error, place, message);
     }
@@ -125,7 +121,6 @@ impl<'a> Report<'a> {
         self.put(severity, place, message);
     }
 
-    /// Prints a finding: behind the file's path, or as an item of the list.
     fn put<M: fmt::Display>(&mut self, severity: Severity, place: Place<'_>, message: &M) {
         let is_first = mem::replace(&mut self.is_empty, false);
         self.is_well &= matches!(severity, Severity::Warning);
@@ -141,7 +136,6 @@ impl<'a> Report<'a> {
         }
     }
 
-    /// Prints a finding as an item of the list.
     fn put_item<M: fmt::Display>(
         &mut self,
         is_first: bool,
@@ -163,7 +157,7 @@ impl<'a> Report<'a> {
         object.print(self.options.style, self.output);
     }
 
-    /// Ends the report, also where the check failed: then JSON says why.
+    /// Ends the report, also if the check failed, and then JSON says why.
     pub(crate) fn end(&mut self, failure: Option<&Failure>) {
         if !self.options.is_json {
             return;
@@ -176,7 +170,6 @@ impl<'a> Report<'a> {
         self.output.push_str("}\n");
     }
 
-    /// Prints why the check failed, as a text of JSON.
     fn put_failure(&mut self, failure: &Failure) {
         let style = self.options.style;
         match failure.to_string(self.alloc) {

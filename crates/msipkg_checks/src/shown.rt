@@ -21,7 +21,7 @@ impl Display for Cut<'_> {
     }
 }
 
-/// The first characters of a text that has more of them.
+/// Returns the first characters of a text, if it has more of them.
 fn front_of(text: &str) -> Option<&str> {
     let (place, _) = text.char_indices().nth(MOST)?;
     text.get(..place)
@@ -42,11 +42,8 @@ impl Display for ShownValue<'_> {
     }
 }
 
-/// Returns the name of the next row, which has this number: the values of its key, parted by slashes, as they are
-/// shown. A row without a key has its number.
-///
-/// # Errors
-/// Fails if memory is refused.
+/// Returns the name of the next row: the values of its key, separated by slashes, as they are shown. A row without a
+/// key has its number.
 pub(crate) fn row_name(
     alloc: Global,
     rows: &Rows<'_>,
@@ -83,7 +80,6 @@ impl RowName {
         }
     }
 
-    /// Adds the value of a column, if that is one of the key.
     fn push(&mut self, column: &Column, value: ValueView<'_>) -> Result<(), AllocError> {
         if !column.is_primary_key() {
             return Ok(());
@@ -99,7 +95,6 @@ impl RowName {
         }
     }
 
-    /// Returns the name, or the row's number where it has no key.
     fn or_number(mut self, number: usize) -> Result<String, AllocError> {
         if !self.has_key {
             self.text.write(number)?;

@@ -12,11 +12,8 @@ use std::fmt::{self, Display};
 /// The table that names cabinets.
 const MEDIA: &str = "Media";
 
-/// Finds the rows whose stream isn't there, and the streams that no row names. A row with a stream names it after its
-/// table and its key, as `Icon.App`, and a row of `Media` names a cabinet behind a `#`.
-///
-/// # Errors
-/// Fails with `OutOfMemory`, and so do the other calls.
+/// Finds the rows whose stream doesn't exist, and the streams that no row names. A row with a stream names it after its
+/// table and its key, such as `Icon.App`, and a row of `Media` names a cabinet behind a `#`.
 pub(crate) fn check_streams(
     alloc: Global,
     package: &Package<Opened>,
@@ -32,7 +29,6 @@ pub(crate) fn check_streams(
     check_unnamed(package, &names, report)
 }
 
-/// Finds the streams whose name isn't among these.
 fn check_unnamed(
     package: &Package<Opened>,
     names: &BTreeSet<String>,
@@ -70,7 +66,6 @@ struct Named<'a> {
 }
 
 impl Named<'_> {
-    /// Adds the streams that rows name, and finds the rows whose stream isn't there.
     fn add_all(&mut self, report: &mut Report<'_>) -> Result<(), Failure> {
         for table in self.package.tables() {
             if has_stream_column(table) {
@@ -80,7 +75,6 @@ impl Named<'_> {
         self.add_cabinets(report)
     }
 
-    /// Adds the streams of a table's rows.
     fn add_table(&mut self, table: &Table, report: &mut Report<'_>) -> Result<(), Failure> {
         match self
             .package
@@ -91,7 +85,6 @@ impl Named<'_> {
         }
     }
 
-    /// Adds the streams of rows.
     fn add_rows(
         &mut self,
         table: &str,
@@ -105,7 +98,7 @@ impl Named<'_> {
         Ok(())
     }
 
-    /// Adds the stream of the next row. One that isn't there is an error if the row needs it.
+    /// Adds the stream of the next row. A missing one is an error if the row needs it.
     fn add_row(
         &mut self,
         table: &str,
@@ -147,7 +140,6 @@ impl Named<'_> {
         Ok(())
     }
 
-    /// Adds the cabinets that are streams.
     fn add_cabinets(&mut self, report: &mut Report<'_>) -> Result<(), Failure> {
         let query = Select::table(self.alloc, MEDIA)?.columns(&["Cabinet", "DiskId"])?;
         match self.package.select_rows(query) {
@@ -156,7 +148,6 @@ impl Named<'_> {
         }
     }
 
-    /// Adds the cabinets of rows.
     fn add_cabinet_rows(
         &mut self,
         mut rows: Rows<'_>,
@@ -207,7 +198,6 @@ impl Display for Missing<'_> {
     }
 }
 
-/// Returns whether a table has a column of streams.
 fn has_stream_column(table: &Table) -> bool {
     for column in table.columns() {
         if matches!(column.coltype(), ColumnType::Binary) {
@@ -217,8 +207,8 @@ fn has_stream_column(table: &Table) -> bool {
     false
 }
 
-/// Returns whether the next row needs a stream: one of its columns of streams doesn't take null. Whether a cell of such
-/// a column is null, its value doesn't tell.
+/// Returns whether the next row needs a stream: one of its columns of streams doesn't take null. The value of a cell of
+/// such a column doesn't show whether it is null.
 fn needs_stream(rows: &Rows<'_>) -> bool {
     for column in rows.columns() {
         if matches!(column.coltype(), ColumnType::Binary) && !column.is_nullable() {

@@ -6,11 +6,8 @@ use msipkg_packages::msi::{Package, Row, Rows, Select, Value};
 use msipkg_packages::output::{Failure, Opened};
 use std::alloc::Global;
 
-/// Finds the rows of `_Validation` for columns that aren't in their tables. Those for tables that aren't there are no
-/// errors: many tools put in the rows of all standard tables.
-///
-/// # Errors
-/// Fails with `OutOfMemory`.
+/// Finds the rows of `_Validation` for columns that aren't in their tables. Those for missing tables are no errors:
+/// many tools put in the rows of all standard tables.
 pub(crate) fn check_validation(
     alloc: Global,
     package: &Package<Opened>,
@@ -23,7 +20,6 @@ pub(crate) fn check_validation(
     }
 }
 
-/// Finds such rows.
 fn check_rows(
     package: &Package<Opened>,
     rows: Rows<'_>,
@@ -35,7 +31,6 @@ fn check_rows(
     Ok(())
 }
 
-/// Adds an error if the row's column isn't in its table.
 fn check_row(package: &Package<Opened>, row: &Row, report: &mut Report<'_>) {
     if row.len() < 2 {
         return;

@@ -11,9 +11,6 @@ use std::alloc::Global;
 use std::fmt::{self, Display};
 
 /// Finds the tables that can't be read, and in the others the values that their columns don't take, and empty texts.
-///
-/// # Errors
-/// Fails with `OutOfMemory`, and so do the other calls.
 pub(crate) fn check_values(
     alloc: Global,
     package: &Package<Opened>,
@@ -25,7 +22,6 @@ pub(crate) fn check_values(
     Ok(())
 }
 
-/// Finds whether a table can't be read, and otherwise what is wrong with its values.
 fn check_table(
     alloc: Global,
     package: &Package<Opened>,
@@ -42,7 +38,6 @@ fn check_table(
     }
 }
 
-/// Finds what is wrong with the values of rows.
 fn check_rows(
     alloc: Global,
     table: &str,
@@ -56,7 +51,6 @@ fn check_rows(
     Ok(())
 }
 
-/// Finds what is wrong with the values of the next row.
 fn check_row(
     alloc: Global,
     table: &str,
@@ -82,7 +76,7 @@ fn check_row(
     Ok(())
 }
 
-/// Whether a column takes a value. A text is only copied where that doesn't show at once.
+/// Returns whether a column takes a value. A text is only copied where that doesn't show at once.
 fn is_taken(alloc: Global, column: &Column, value: ValueView<'_>) -> Result<bool, Error> {
     if let ValueView::Str(text) = value
         && let ColumnType::Str(most) = column.coltype()
@@ -97,7 +91,6 @@ fn is_taken(alloc: Global, column: &Column, value: ValueView<'_>) -> Result<bool
     Ok(column.is_valid_value(&value.into_value(alloc)?))
 }
 
-/// Whether a value is the empty text.
 fn is_empty_text(value: ValueView<'_>) -> bool {
     match value {
         ValueView::Str(text) => text.is_empty(),
@@ -105,7 +98,6 @@ fn is_empty_text(value: ValueView<'_>) -> bool {
     }
 }
 
-/// Adds that a column doesn't take the value of a cell, if that is so, and that it is an empty text.
 fn add_findings(cell: Place<'_>, is_taken: bool, refusal: Refusal<'_>, report: &mut Report<'_>) {
     if !is_taken {
         report.add(cell, &refusal);

@@ -7,7 +7,7 @@ use msipkg_packages::output::ColumnTypeText;
 use msipkg_texts::quoted;
 use std::alloc::{AllocError, Global};
 
-/// Compares the columns of two tables: by their places if they have the same names in the same order, as a table of
+/// Compares the columns of two tables by their places if they have the same names in the same order, as a table of
 /// another program may have two of one name, and else by their names.
 pub(crate) fn compare_columns(
     old: &Table,
@@ -27,7 +27,6 @@ pub(crate) fn compare_columns(
     add_columns(old, new, report);
 }
 
-/// Tells the columns that are in the new table alone.
 fn add_columns(old: &Table, new: &Table, report: &mut Report<'_>) {
     for column in new.columns() {
         if old.get_column(column.name()).is_none() {
@@ -37,10 +36,6 @@ fn add_columns(old: &Table, new: &Table, report: &mut Report<'_>) {
     }
 }
 
-/// Compares a column that is there in both tables, or in one of them.
-///
-/// # Errors
-/// Fails if memory is refused. So do the calls below.
 fn compare_column(
     table: &Table,
     old: Option<&Column>,
@@ -58,7 +53,6 @@ fn compare_column(
     }
 }
 
-/// Adds what is said of a column in one package only.
 fn add_facts(
     table: &Table,
     column: &Column,
@@ -114,7 +108,7 @@ struct Fact {
     json: String,
 }
 
-/// What is said of a column, if it is there, and not of another in the same way.
+/// Returns what is said of a column, if it exists, and not of another in the same way.
 fn facts_beside(
     alloc: Global,
     column: Option<&Column>,
@@ -134,7 +128,6 @@ fn facts_beside(
     Ok(facts)
 }
 
-/// The members that show facts.
 fn members_of(alloc: Global, facts: &[Fact]) -> Result<Vec<Member<'_>>, AllocError> {
     let mut members = Vec::new(alloc);
     for fact in facts {
@@ -147,7 +140,6 @@ fn members_of(alloc: Global, facts: &[Fact]) -> Result<Vec<Member<'_>>, AllocErr
     Ok(members)
 }
 
-/// What is said of a column, if it is there, in an aspect.
 fn fact_of(
     alloc: Global,
     column: Option<&Column>,
@@ -169,18 +161,15 @@ fn fact_of(
     }
 }
 
-/// The type of a column.
 fn type_json(alloc: Global, column: &Column) -> Result<Option<String>, AllocError> {
     let text = ColumnTypeText(column).to_string(alloc)?;
     Ok(Some(quoted(alloc, text.as_str())?))
 }
 
-/// Whether something is so.
 fn truth_json(alloc: Global, holds: bool) -> Result<Option<String>, AllocError> {
     Ok(Some(holds.to_string(alloc)?))
 }
 
-/// A text, if it is there.
 fn text_json(alloc: Global, text: Option<&str>) -> Result<Option<String>, AllocError> {
     match text {
         Some(text) => Ok(Some(quoted(alloc, text)?)),
@@ -188,7 +177,6 @@ fn text_json(alloc: Global, text: Option<&str>) -> Result<Option<String>, AllocE
     }
 }
 
-/// A number, if it is there.
 fn number_json(alloc: Global, number: Option<i32>) -> Result<Option<String>, AllocError> {
     match number {
         Some(number) => Ok(Some(number.to_string(alloc)?)),
@@ -196,7 +184,6 @@ fn number_json(alloc: Global, number: Option<i32>) -> Result<Option<String>, All
     }
 }
 
-/// The list of the texts that a column takes, if it takes no others.
 fn values_json(alloc: Global, column: &Column) -> Result<Option<String>, AllocError> {
     let Some(texts) = column.enum_values() else {
         return Ok(None);

@@ -61,7 +61,6 @@ pub fn compare_files(
     compare_with(rt, style, &old, new, is_json, output, notes)
 }
 
-/// Compares a package with that of the new file.
 fn compare_with(
     rt: &System,
     style: Style,
@@ -78,7 +77,7 @@ fn compare_with(
     print_differences(rt.alloc(), style, old, &new, is_json, output)
 }
 
-/// The page that a file names for the database of its package, where another may be read as UTF-8.
+/// Returns the page that a file names for the database of its package, where another may be read as UTF-8.
 fn stored_page(rt: &System, file: &str, package: &Package<Opened>) -> Result<i32, Failure> {
     let page = package.database_codepage().id();
     match package.database_codepage() {
@@ -87,7 +86,6 @@ fn stored_page(rt: &System, file: &str, package: &Package<Opened>) -> Result<i32
     }
 }
 
-/// The package of the new file, at which a failure is.
 fn open_new_file(
     rt: &System,
     file: &PackageFile<'_>,
@@ -99,7 +97,6 @@ fn open_new_file(
     }
 }
 
-/// Prints what differs between two packages, and returns whether nothing does.
 fn print_differences(
     alloc: Global,
     style: Style,
@@ -119,7 +116,6 @@ fn print_differences(
     }
 }
 
-/// Compares two packages.
 fn compare(old: &Compared<'_>, new: &Compared<'_>, report: &mut Report<'_>) -> Result<(), Failure> {
     compare_kinds(old, new, report);
     compare_summaries(

@@ -15,7 +15,7 @@ pub(crate) enum Change {
 }
 
 impl Change {
-    /// Returns how something differs that is there in the old package, in the new one, or in both.
+    /// Returns how something differs that exists in the old package, in the new one, or in both.
     pub(crate) fn of(is_old: bool, is_new: bool) -> Change {
         match (is_old, is_new) {
             (false, _) => Change::Added,
@@ -65,21 +65,18 @@ pub(crate) enum Content<'a> {
 }
 
 impl<'a> Content<'a> {
-    /// Returns how many things there are.
     pub(crate) fn count(count: usize) -> Content<'a> {
         Content::Number(i64::try_from(count).unwrap_or(i64::MAX))
     }
 }
 
-/// Prints a difference as lines: what differs, the old values behind `-`, and the new ones behind `+`. A value that is
-/// null has no line.
+/// Prints what differs, the old values behind `-`, and the new ones behind `+`. A value that is null has no line.
 pub(crate) fn print_lines(style: Style, difference: &Difference<'_>, output: &mut Output) {
     print_head(style, difference, output);
     print_members(style, '-', difference.old, output);
     print_members(style, '+', difference.new, output);
 }
 
-/// Prints the line that says what differs.
 fn print_head(style: Style, difference: &Difference<'_>, output: &mut Output) {
     let (change, kind) = (difference.change.name(), difference.kind);
     let name = style.show(difference.name);
@@ -91,14 +88,12 @@ fn print_head(style: Style, difference: &Difference<'_>, output: &mut Output) {
     }
 }
 
-/// Prints a line for each member that isn't null.
 fn print_members(style: Style, sign: char, members: &[Member<'_>], output: &mut Output) {
     for member in members {
         print_member(style, sign, member, output);
     }
 }
 
-/// Prints the line of a member, unless it is null.
 fn print_member(style: Style, sign: char, member: &Member<'_>, output: &mut Output) {
     if let Content::Value(Value::Null) = member.content {
         return;
@@ -132,7 +127,6 @@ impl Display for ShownContent<'_> {
     }
 }
 
-/// Returns a difference as a JSON object.
 pub(crate) fn difference_json(alloc: Global, difference: &Difference<'_>) -> JsonObject {
     let mut object = JsonObject::new(alloc);
     put_head(difference, &mut object);
@@ -141,7 +135,6 @@ pub(crate) fn difference_json(alloc: Global, difference: &Difference<'_>) -> Jso
     object
 }
 
-/// Puts what differs.
 fn put_head(difference: &Difference<'_>, object: &mut JsonObject) {
     object.put_text("change", Some(difference.change.name()));
     object.put_text("kind", Some(difference.kind));
@@ -151,7 +144,6 @@ fn put_head(difference: &Difference<'_>, object: &mut JsonObject) {
     object.put_text("name", Some(difference.name));
 }
 
-/// Puts an object of members under the name of a side, if there is one.
 fn put_members(side: &str, members: &[Member<'_>], object: &mut JsonObject) {
     if members.is_empty() {
         return;
@@ -163,7 +155,7 @@ fn put_members(side: &str, members: &[Member<'_>], object: &mut JsonObject) {
     object.close_item();
 }
 
-/// Puts a member, where a stream is `true`.
+/// Adds a member, where a stream is `true`.
 fn put_member(member: &Member<'_>, object: &mut JsonObject) {
     let name = member.name;
     match member.content {

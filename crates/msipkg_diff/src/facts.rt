@@ -24,12 +24,10 @@ pub(crate) fn compare_kinds(old: &Compared<'_>, new: &Compared<'_>, report: &mut
     }
 }
 
-/// A code page.
 fn page_content(page: i32) -> Content<'static> {
     Content::Number(i64::from(page))
 }
 
-/// Adds a fact on packages that differs.
 fn add_fact(name: &'static str, old: Content<'_>, new: Content<'_>, report: &mut Report<'_>) {
     report.add(&Difference {
         change: Change::Changed,
@@ -41,10 +39,6 @@ fn add_fact(name: &'static str, old: Content<'_>, new: Content<'_>, report: &mut
     });
 }
 
-/// Compares all properties.
-///
-/// # Errors
-/// Fails if memory is refused for the text of a property.
 pub(crate) fn compare_summaries(
     old: &SummaryInfo,
     new: &SummaryInfo,
@@ -56,7 +50,6 @@ pub(crate) fn compare_summaries(
     Ok(())
 }
 
-/// Compares a property.
 fn compare_property(
     id: i32,
     name: &'static str,
@@ -72,7 +65,6 @@ fn compare_property(
     Ok(())
 }
 
-/// Compares a text that is there in both packages, or in one of them.
 fn compare_texts(
     kind: &'static str,
     name: &'static str,
@@ -94,7 +86,6 @@ fn compare_texts(
     });
 }
 
-/// A text under its name, if it is there.
 fn text_member<'a>(name: &'a str, text: Option<&'a str>) -> Option<Member<'a>> {
     let content = Content::Text(text?);
     Some(Member { name, content })

@@ -25,7 +25,6 @@ impl Drop for Texts {
 }
 
 impl Texts {
-    /// Returns no texts.
     pub(crate) fn new(alloc: Global) -> Texts {
         Texts {
             alloc,
@@ -34,7 +33,6 @@ impl Texts {
         }
     }
 
-    /// Returns the number of a text, which is a new one if there was none.
     fn number(&mut self, text: &str) -> Result<i32, Error> {
         if let Some(number) = self.numbers.get(text) {
             return Ok(*number);
@@ -47,17 +45,13 @@ impl Texts {
         Ok(number)
     }
 
-    /// Returns the text of a number.
     fn text(&self, number: i32) -> Option<&Value> {
         self.values.get(usize::try_from(number).ok()?)
     }
 }
 
-/// Returns rows with the numbers of texts in their place. Where another column has the place of theirs and holds texts,
-/// numbers are texts, so that no number of a text is taken for one of them.
-///
-/// # Errors
-/// Fails if memory is refused. So do the other calls.
+/// Returns rows in which numbers replace the texts. Where the other column of the same place holds texts, numbers are
+/// texts, so that no number of a text is taken for one of them.
 pub(crate) fn numbered_rows(
     alloc: Global,
     texts: &mut Texts,
@@ -72,7 +66,6 @@ pub(crate) fn numbered_rows(
     Ok(all)
 }
 
-/// The next row with the numbers of texts in their place.
 fn numbered_row(
     alloc: Global,
     texts: &mut Texts,
@@ -92,7 +85,6 @@ fn numbered_row(
     Ok(Items::from_vec(values))
 }
 
-/// A number in the place of a column, as a text if that holds texts.
 fn number_beside(alloc: Global, number: i32, other: Option<&Column>) -> Result<Value, Error> {
     match other {
         Some(column) if holds_texts(column) => {
@@ -103,12 +95,10 @@ fn number_beside(alloc: Global, number: i32, other: Option<&Column>) -> Result<V
     }
 }
 
-/// Whether a column holds texts.
 fn holds_texts(column: &Column) -> bool {
     matches!(column.coltype(), ColumnType::Str(_))
 }
 
-/// Returns the content that a value of a row stands for, whose column this is.
 pub(crate) fn content_of<'a>(texts: &'a Texts, column: &Column, value: &'a Value) -> Content<'a> {
     match value {
         Value::Int(number) if holds_texts(column) => match texts.text(*number) {

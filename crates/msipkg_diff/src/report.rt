@@ -17,7 +17,6 @@ pub(crate) struct Report<'a> {
 }
 
 impl<'a> Report<'a> {
-    /// Returns a report in which nothing differs.
     pub(crate) fn new(
         alloc: Global,
         style: Style,
@@ -33,7 +32,6 @@ impl<'a> Report<'a> {
         }
     }
 
-    /// Begins the report on the packages of two files.
     pub(crate) fn begin(&mut self, old: &str, new: &str) {
         if !self.is_json {
             return;
@@ -45,7 +43,6 @@ impl<'a> Report<'a> {
         }
     }
 
-    /// Prints a difference.
     pub(crate) fn add(&mut self, difference: &Difference<'_>) {
         if self.is_json {
             if !self.is_equal {
@@ -58,7 +55,7 @@ impl<'a> Report<'a> {
         self.is_equal = false;
     }
 
-    /// Hands on to the output that memory was refused for what a difference is made of, if it was.
+    /// Reports to the output that memory was refused for what a difference is made of, if it was.
     pub(crate) fn keep(&mut self, made: Result<(), AllocError>) {
         if let Err(error) = made {
             self.output.refuse_memory(error);
@@ -74,7 +71,6 @@ impl<'a> Report<'a> {
         is_equal
     }
 
-    /// Ends the report with the reason why comparing the packages failed.
     pub(crate) fn end_failed(&mut self, failure: &Failure) {
         if !self.is_json {
             return;
@@ -88,7 +84,6 @@ impl<'a> Report<'a> {
     }
 }
 
-/// An object with the paths of two files, and an open list of differences.
 fn object_of(alloc: Global, old: &str, new: &str) -> JsonObject {
     let mut object = JsonObject::new(alloc);
     object.put_text("old", Some(old));

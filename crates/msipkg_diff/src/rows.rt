@@ -26,9 +26,6 @@ struct Pair<'a> {
 
 /// Compares the rows of a table by their keys. Where different rows of one package share a key, only how many rows
 /// there are is shown.
-///
-/// # Errors
-/// Fails if the table can't be read, and if memory is refused for its rows. So do the other calls.
 pub(crate) fn compare_rows(
     old: &Compared<'_>,
     new: &Compared<'_>,
@@ -49,7 +46,6 @@ pub(crate) fn compare_rows(
     }
 }
 
-/// The rows of a table of the old package.
 fn rows_of_old<'a>(old: &Compared<'a>, table: &Table, alloc: Global) -> Result<Rows<'a>, Failure> {
     match selected(alloc, old.package, table) {
         Ok(rows) => Ok(rows),
@@ -57,7 +53,6 @@ fn rows_of_old<'a>(old: &Compared<'a>, table: &Table, alloc: Global) -> Result<R
     }
 }
 
-/// The rows of a table of the new package.
 fn rows_of_new<'a>(new: &Compared<'a>, table: &Table, alloc: Global) -> Result<Rows<'a>, Failure> {
     match selected(alloc, new.package, table) {
         Ok(rows) => Ok(rows),
@@ -65,7 +60,6 @@ fn rows_of_new<'a>(new: &Compared<'a>, table: &Table, alloc: Global) -> Result<R
     }
 }
 
-/// All rows of a table.
 fn selected<'a>(
     alloc: Global,
     package: &'a Package<Opened>,
@@ -74,7 +68,6 @@ fn selected<'a>(
     package.select_rows(Select::table(alloc, table.name())?)
 }
 
-/// Compares rows that aren't the same.
 fn compare_numbered(
     table: &Table,
     other: &Table,
@@ -96,10 +89,6 @@ fn compare_numbered(
     compare_pair(&pair, report)
 }
 
-/// Adds the rows of a table that the old package alone has.
-///
-/// # Errors
-/// Fails if the table can't be read, and if memory is refused for a row. So does the other call.
 pub(crate) fn add_removed(
     old: &Compared<'_>,
     table: &Table,
@@ -109,7 +98,6 @@ pub(crate) fn add_removed(
     add_all_rows(Change::Removed, table, rows, report)
 }
 
-/// Adds the rows of a table that the new package alone has.
 pub(crate) fn add_added(
     new: &Compared<'_>,
     table: &Table,
@@ -119,7 +107,7 @@ pub(crate) fn add_added(
     add_all_rows(Change::Added, table, rows, report)
 }
 
-/// The failure at a table of the new package, whose file has to be named.
+/// Returns the failure at a table of the new package, whose file has to be named.
 fn failure_of_new(alloc: Global, file: &str, table: &str, error: Error) -> Failure {
     let file = Shown::escaped(file);
     match format!(in alloc; "file {file}: table") {
@@ -128,7 +116,6 @@ fn failure_of_new(alloc: Global, file: &str, table: &str, error: Error) -> Failu
     }
 }
 
-/// Adds what differs between rows.
 fn compare_pair(pair: &Pair<'_>, report: &mut Report<'_>) -> Result<(), Failure> {
     if share_keys(report.alloc, pair.old_columns, pair.old)?
         || share_keys(report.alloc, pair.old_columns, pair.new)?
@@ -139,7 +126,6 @@ fn compare_pair(pair: &Pair<'_>, report: &mut Report<'_>) -> Result<(), Failure>
     add_differences(pair, report)
 }
 
-/// Whether two tables have the same rows in the same order.
 fn are_same(mut rows: Rows<'_>, mut others: Rows<'_>) -> bool {
     if rows.len() != others.len() {
         return false;
@@ -154,7 +140,6 @@ fn are_same(mut rows: Rows<'_>, mut others: Rows<'_>) -> bool {
     true
 }
 
-/// Whether two tables have the same next row.
 fn are_same_next(rows: &Rows<'_>, others: &Rows<'_>) -> bool {
     (0..rows.columns().len()).all(|place| match (rows.peek(place), others.peek(place)) {
         (Some(value), Some(other)) => value.compare(other) == Ordering::Equal,
@@ -163,12 +148,12 @@ fn are_same_next(rows: &Rows<'_>, others: &Rows<'_>) -> bool {
     })
 }
 
-/// Whether different rows of a table share a key. Then one of them differs from the one that stands for the key.
+/// Returns whether different rows of a table share a key. Then one of them differs from the one that represents the
+/// key.
 fn share_keys(alloc: Global, columns: &[Column], rows: &[Items<Value>]) -> Result<bool, Error> {
     Ok(!differences(alloc, columns, rows, rows)?.is_empty())
 }
 
-/// Adds how many rows there are.
 fn add_counts(pair: &Pair<'_>, report: &mut Report<'_>) {
     report.add(&Difference {
         change: Change::Changed,
@@ -180,7 +165,6 @@ fn add_counts(pair: &Pair<'_>, report: &mut Report<'_>) {
     });
 }
 
-/// How many rows there are.
 fn count_member(rows: &[Items<Value>]) -> Member<'static> {
     Member {
         name: "rows",
@@ -188,7 +172,6 @@ fn count_member(rows: &[Items<Value>]) -> Member<'static> {
     }
 }
 
-/// Adds each difference between rows.
 fn add_differences(pair: &Pair<'_>, report: &mut Report<'_>) -> Result<(), Failure> {
     let found = differences(report.alloc, pair.old_columns, pair.old, pair.new)?;
     for difference in &found {
@@ -198,7 +181,6 @@ fn add_differences(pair: &Pair<'_>, report: &mut Report<'_>) -> Result<(), Failu
     Ok(())
 }
 
-/// Adds a difference between rows.
 fn add_difference(
     pair: &Pair<'_>,
     difference: RowDifference,
@@ -224,7 +206,6 @@ fn add_difference(
     }
 }
 
-/// The values of the row at a place, or none.
 fn values_at(rows: &[Items<Value>], place: usize) -> &[Value] {
     match rows.get(place) {
         Some(row) => row.as_slice(),
@@ -259,7 +240,6 @@ fn add_rows(
     Ok(())
 }
 
-/// The members of all values of a row.
 fn members_of<'a>(
     alloc: Global,
     texts: &'a Texts,
@@ -276,7 +256,7 @@ fn members_of<'a>(
     Ok(members)
 }
 
-/// The members of a row whose values another row doesn't have.
+/// Returns the members of a row whose values another row doesn't have.
 fn beside<'a>(
     alloc: Global,
     members: &[Member<'a>],
@@ -292,7 +272,6 @@ fn beside<'a>(
     Ok(differing)
 }
 
-/// The values of a row's key, parted by slashes.
 fn key_text(
     alloc: Global,
     columns: &[Column],
@@ -312,7 +291,6 @@ fn key_text(
     Ok(text)
 }
 
-/// Puts the value of a key behind a text.
 fn push_content(content: Content<'_>, text: &mut String) -> Result<(), AllocError> {
     match content {
         Content::Value(value) => push_key(ValueView::of(value), text),
@@ -321,7 +299,6 @@ fn push_content(content: Content<'_>, text: &mut String) -> Result<(), AllocErro
     }
 }
 
-/// Adds the rows of a table that one package alone has.
 fn add_all_rows(
     change: Change,
     table: &Table,
@@ -334,7 +311,6 @@ fn add_all_rows(
     Ok(())
 }
 
-/// Adds a row of such a table.
 fn add_row<'a>(
     change: Change,
     table: &'a Table,
@@ -359,7 +335,6 @@ fn add_row<'a>(
     Ok(())
 }
 
-/// The members of all values of a row.
 fn row_members<'a>(
     alloc: Global,
     columns: &'a [Column],

@@ -6,10 +6,6 @@ use crate::report::Report;
 use msipkg_packages::output::Failure;
 use msipkg_packages::stream_bytes;
 
-/// Compares all streams by their names and their bytes.
-///
-/// # Errors
-/// Fails if memory is refused for the name of a stream. So does the other call.
 pub(crate) fn compare_streams(
     old: &Compared<'_>,
     new: &Compared<'_>,
@@ -23,7 +19,6 @@ pub(crate) fn compare_streams(
     add_new_streams(old, new, report)
 }
 
-/// Adds the streams that the new package alone has.
 fn add_new_streams(
     old: &Compared<'_>,
     new: &Compared<'_>,
@@ -38,12 +33,10 @@ fn add_new_streams(
     Ok(())
 }
 
-/// The bytes of a stream, if it is there.
 fn bytes_of<'a>(package: &Compared<'a>, name: &str) -> Option<&'a [u8]> {
     stream_bytes(package.package, package.stored, name).ok()
 }
 
-/// Compares the bytes of a stream.
 fn compare_stream(name: &str, old: Option<&[u8]>, new: Option<&[u8]>, report: &mut Report<'_>) {
     if old == new {
         return;
@@ -59,7 +52,6 @@ fn compare_stream(name: &str, old: Option<&[u8]>, new: Option<&[u8]>, report: &m
     });
 }
 
-/// How many bytes a stream has, if it is there.
 fn length_member(bytes: Option<&[u8]>) -> Option<Member<'static>> {
     let content = Content::count(bytes?.len());
     Some(Member {

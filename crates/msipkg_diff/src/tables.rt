@@ -12,9 +12,6 @@ use std::alloc::{AllocError, Global};
 
 /// Compares all tables: their columns and, where these have the same names in the same order and the same keys, their
 /// rows.
-///
-/// # Errors
-/// Fails if a table can't be read, and if memory is refused for its rows. So do the calls on one table.
 pub(crate) fn compare_tables(
     old: &Compared<'_>,
     new: &Compared<'_>,
@@ -28,7 +25,6 @@ pub(crate) fn compare_tables(
     add_new_tables(old, new, report)
 }
 
-/// Adds the tables that the new package alone has, with their rows.
 fn add_new_tables(
     old: &Compared<'_>,
     new: &Compared<'_>,
@@ -43,7 +39,6 @@ fn add_new_tables(
     Ok(())
 }
 
-/// Adds a table that one package alone has.
 fn note_table(change: Change, table: &Table, report: &mut Report<'_>) {
     report.add(&Difference {
         change,
@@ -55,7 +50,6 @@ fn note_table(change: Change, table: &Table, report: &mut Report<'_>) {
     });
 }
 
-/// Compares a table of the old package.
 fn compare_table(
     old: &Compared<'_>,
     new: &Compared<'_>,
@@ -79,7 +73,6 @@ fn compare_table(
     compare_rows(old, new, table, other, report)
 }
 
-/// Whether columns have the same names in the same order.
 fn have_same_names(columns: &[Column], others: &[Column]) -> bool {
     columns.len() == others.len()
         && columns
@@ -88,7 +81,7 @@ fn have_same_names(columns: &[Column], others: &[Column]) -> bool {
             .all(|(column, other)| column.name() == other.name())
 }
 
-/// Whether of columns of the same names the same ones are keys.
+/// Returns whether, of columns with the same names, the same ones are keys.
 fn have_same_keys(columns: &[Column], others: &[Column]) -> bool {
     columns.iter().zip(others.iter()).all(|(column, other)| column.is_primary_key()
         == other.is_primary_key())
@@ -109,7 +102,6 @@ fn compare_orders(old: &Table, new: &Table, report: &mut Report<'_>) -> Result<(
     Ok(())
 }
 
-/// The names of columns under a name.
 fn names_member(names: &str) -> Member<'_> {
     Member {
         name: "columns",
@@ -117,7 +109,6 @@ fn names_member(names: &str) -> Member<'_> {
     }
 }
 
-/// The names of columns, in order.
 fn names_of(alloc: Global, columns: &[Column]) -> Result<String, AllocError> {
     let mut names = String::new(alloc);
     let mut before = "";

@@ -13,7 +13,6 @@ pub(crate) struct ArchivePage {
 }
 
 impl ArchivePage {
-    /// Returns the page of an archive without texts, in a package of this page.
     pub(crate) fn new(page: CodePage) -> ArchivePage {
         ArchivePage {
             page,
@@ -22,7 +21,6 @@ impl ArchivePage {
         }
     }
 
-    /// Takes in a text.
     pub(crate) fn add(&mut self, text: &str) {
         if !text.is_ascii() {
             self.is_ascii = false;
@@ -35,8 +33,8 @@ impl ArchivePage {
         !self.has_all || (!self.is_ascii && matches!(self.page, CodePage::Utf8))
     }
 
-    /// Returns the page: none where all texts are ASCII, and UTF-8 where the package's lacks a character. So no
-    /// character is written as `?`.
+    /// Returns none if all texts are ASCII, and UTF-8 if the package's page lacks a character, so that no character is
+    /// written as `?`.
     pub(crate) fn page(self) -> Option<CodePage> {
         if self.is_ascii {
             None

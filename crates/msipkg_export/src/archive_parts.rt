@@ -4,10 +4,6 @@ use msi_text_archive::ArchiveColumn;
 use msipkg_packages::msi::{Column, Error, IntoText, Items, Text, Value};
 use std::alloc::Global;
 
-/// Returns columns as an archive has them.
-///
-/// # Errors
-/// Fails with `OutOfMemory`, and so do the other calls.
 pub(crate) fn archive_columns(
     alloc: Global,
     columns: &[Column],
@@ -19,7 +15,6 @@ pub(crate) fn archive_columns(
     Ok(Items::from_vec(all))
 }
 
-/// A column as an archive has it.
 fn archive_column(alloc: Global, column: &Column) -> Result<ArchiveColumn, Error> {
     let name = column.name().into_text(alloc)?;
     Ok(ArchiveColumn::new(
@@ -30,7 +25,6 @@ fn archive_column(alloc: Global, column: &Column) -> Result<ArchiveColumn, Error
     ))
 }
 
-/// Returns the names of the key columns.
 pub(crate) fn key_names(alloc: Global, columns: &[Column]) -> Result<Items<Text>, Error> {
     let mut names = Vec::new(alloc);
     for column in columns {

@@ -30,15 +30,11 @@ impl Drop for StoredText {
 }
 
 impl StoredText {
-    /// Returns a text of ASCII.
     pub(crate) fn of_ascii(text: String) -> StoredText {
         StoredText { page: None, text }
     }
 
-    /// Returns the bytes of the text, as they are stored.
-    ///
-    /// # Errors
-    /// Fails with `InvalidInput` if the text can't be written in its code page, and with `OutOfMemory`.
+    /// Returns the bytes of the text. Fails with `InvalidInput` if it can't be written in its code page.
     pub(crate) fn encoded(&self, alloc: Global) -> Result<CowSlice<'_, u8, Global>, Error> {
         match self.page {
             None | Some(CodePage::Utf8) => Ok(CowSlice::Borrowed(self.text.as_bytes())),
@@ -46,7 +42,6 @@ impl StoredText {
         }
     }
 
-    /// Writes the bytes of the text.
     fn write(&self, alloc: Global, output: &mut Output) -> Result<(), Error> {
         let bytes = self.encoded(alloc)?;
         output.push_bytes(bytes.as_slice());
@@ -82,11 +77,9 @@ impl Drop for ArchiveText<'_> {
 }
 
 impl<'a> ArchiveText<'a> {
-    /// Returns the text of a table without rows. It names the code page only where one of its texts isn't ASCII, and
-    /// UTF-8 where the page lacks a character; those of the rows are taken in already.
-    ///
-    /// # Errors
-    /// Fails at a name that no archive can have, and with `OutOfMemory`.
+    /// Returns the text of a table without rows. It names the code page only if one of its texts isn't ASCII, and UTF-8
+    /// if the page lacks a character. The texts of the rows are taken in already. Fails at a name that no archive can
+    /// have.
     pub(crate) fn new(
         alloc: Global,
         mut pages: ArchivePage,
@@ -107,10 +100,6 @@ impl<'a> ArchiveText<'a> {
         })
     }
 
-    /// Adds the line of a row.
-    ///
-    /// # Errors
-    /// Fails at a text that no archive can have, and with `OutOfMemory`.
     pub(crate) fn push(&mut self, row: &[Value]) -> Result<(), Failure> {
         self.line = self.line.saturating_add(1);
         match write_row(&mut self.lines.text, self.line, self.archive.columns(), row) {
@@ -120,10 +109,7 @@ impl<'a> ArchiveText<'a> {
     }
 
     /// Writes the lines that aren't written yet, as they are stored, or with escapes in their fields if the style
-    /// escapes.
-    ///
-    /// # Errors
-    /// Fails with `InvalidInput` if a text can't be written in the code page, and with `OutOfMemory`.
+    /// escapes. Fails with `InvalidInput` if a text can't be written in the code page.
     pub(crate) fn write_lines(&mut self, style: Style, output: &mut Output) -> Result<(), Error> {
         if style.escapes_hidden() {
             write_shown(self.lines.text.as_str(), output);
@@ -134,7 +120,6 @@ impl<'a> ArchiveText<'a> {
         Ok(())
     }
 
-    /// Returns the lines that aren't written yet.
     fn into_lines(self) -> StoredText {
         let ArchiveText {
             alloc: _,
@@ -148,14 +133,12 @@ impl<'a> ArchiveText<'a> {
     }
 }
 
-/// Writes the lines of an archive with escapes.
 fn write_shown(text: &str, output: &mut Output) {
     for line in text.lines() {
         write_shown_line(line, output);
     }
 }
 
-/// Writes the fields of a line with escapes.
 fn write_shown_line(line: &str, output: &mut Output) {
     let mut before: &[u8] = b"";
     for field in line.split('\t') {
@@ -166,10 +149,6 @@ fn write_shown_line(line: &str, output: &mut Output) {
     output.push_str("\n");
 }
 
-/// Returns the text of an archive of rows.
-///
-/// # Errors
-/// Fails at a name or a text that no archive can have, and with `OutOfMemory`.
 pub(crate) fn text_of_rows(
     alloc: Global,
     page: CodePage,
@@ -186,7 +165,6 @@ pub(crate) fn text_of_rows(
     Ok(text.into_lines())
 }
 
-/// Adds the lines of rows.
 fn push_rows(rows: &[Items<Value>], text: &mut ArchiveText<'_>) -> Result<(), Failure> {
     for row in rows {
         text.push(row.as_slice())?;
@@ -194,14 +172,12 @@ fn push_rows(rows: &[Items<Value>], text: &mut ArchiveText<'_>) -> Result<(), Fa
     Ok(())
 }
 
-/// Takes in the texts of a row.
 fn add_texts(pages: &mut ArchivePage, row: &[Value]) {
     for value in row {
         pages.add(value.as_str().unwrap_or(""));
     }
 }
 
-/// Takes in the names of a table and its columns.
 fn add_names(pages: &mut ArchivePage, table: &str, columns: &[Column]) {
     pages.add(table);
     for column in columns {
@@ -209,12 +185,10 @@ fn add_names(pages: &mut ArchivePage, table: &str, columns: &[Column]) {
     }
 }
 
-/// The number of a code page.
 fn number_of(page: Option<CodePage>) -> Option<u16> {
     u16::try_from(page?.id()).ok()
 }
 
-/// The archive of columns, without rows.
 fn archive_of(
     alloc: Global,
     number: Option<u16>,
@@ -228,7 +202,6 @@ fn archive_of(
     Ok(Archive::new(number, table, keys, described, rows))
 }
 
-/// The text of a table's archive.
 fn text_of(
     alloc: Global,
     table: &str,
@@ -241,7 +214,7 @@ fn text_of(
     }
 }
 
-/// Why a table has no archive, for people: the column, and in a row also its number, counted from 1.
+/// Returns why a table has no archive: the column, and in a row also its number, counted from 1.
 fn refusal(alloc: Global, table: &str, columns: &[Column], error: &ArchiveError) -> Failure {
     let failure = Failure::rule(rule_of(error));
     match place_text(alloc, table, columns, error) {
@@ -250,7 +223,7 @@ fn refusal(alloc: Global, table: &str, columns: &[Column], error: &ArchiveError)
     }
 }
 
-/// The rule that is broken. In a row, whose values are those of a table, only a text breaks one.
+/// Returns the rule that is broken. In a row, whose values are those of a table, only a text breaks one.
 fn rule_of(error: &ArchiveError) -> &'static str {
     match error.place() {
         Some(place) if place.line > HEAD => STAND_IN,
@@ -258,7 +231,6 @@ fn rule_of(error: &ArchiveError) -> &'static str {
     }
 }
 
-/// The text of a place in a table.
 fn place_text(
     alloc: Global,
     table: &str,
@@ -279,7 +251,7 @@ fn place_text(
     }
 }
 
-/// The name of the column of a number, counted from 1.
+/// Returns the name of the column of a number, counted from 1.
 fn name_of(columns: &[Column], number: usize) -> &str {
     match columns.get(number.saturating_sub(1)) {
         Some(column) => column.name(),

@@ -33,7 +33,7 @@ impl Drop for Exported {
 }
 
 impl Exported {
-    /// Nothing. No table's file is named as that of the code page, the summary or the streams.
+    /// Returns an empty export. No table's file is named as that of the code page, the summary or the streams.
     fn new(alloc: Global) -> Result<Exported, AllocError> {
         let mut given = SafeNames::new(alloc);
         for name in [PAGE, SUMMARY, STREAMS] {
@@ -45,7 +45,6 @@ impl Exported {
         })
     }
 
-    /// Notes the streams of rows.
     fn add(&mut self, files: Vec<StreamFile>) -> Result<(), AllocError> {
         for file in files {
             self.streams.insert(file.into_stream())?;
@@ -54,13 +53,9 @@ impl Exported {
     }
 }
 
-/// Writes each of the tables to a file of a folder as a text archive, and the streams of its rows to files of a folder
-/// in it that has the name of that file. Where no table is named, the code page, the summary and the other streams are
-/// written too, as the installer's tables `_ForceCodepage`, `_SummaryInformation` and `_Streams`.
-///
-/// # Errors
-/// Fails if a table isn't there or can't be read, if a text can't stand in an archive, if a stream that a row has isn't
-/// there, if a file is there already and isn't to be replaced, and as the calls of the system do. Earlier files stay.
+/// Writes each table to a text archive, and its streams to an inner folder named as that file. If no table is named,
+/// the code page, the summary and the other streams are written too, as `_ForceCodepage`, `_SummaryInformation` and
+/// `_Streams`. After a failure earlier files stay.
 pub(crate) fn export_archives(
     rt: &System,
     package: &Package<Opened>,
@@ -77,7 +72,6 @@ pub(crate) fn export_archives(
     export_chosen(rt, package, names, tables.as_slice(), folder, &mut exported)
 }
 
-/// Fails if something is in the way of a table's archive.
 fn check_archives(rt: &System, tables: &[&Table], folder: &Folder<'_>) -> Result<(), Failure> {
     let mut exported = Exported::new(rt.alloc())?;
     for table in tables {
@@ -87,7 +81,6 @@ fn check_archives(rt: &System, tables: &[&Table], folder: &Folder<'_>) -> Result
     Ok(())
 }
 
-/// Fails if something is in the way of the archives of the code page and the summary.
 fn check_others(rt: &System, folder: &Folder<'_>) -> Result<(), Failure> {
     for archive in [PAGE, SUMMARY] {
         folder.check(rt, &archive_name(rt.alloc(), archive)?)?;
@@ -95,12 +88,10 @@ fn check_others(rt: &System, folder: &Folder<'_>) -> Result<(), Failure> {
     Ok(())
 }
 
-/// The name of the file of an archive that is no table's.
 fn archive_name(alloc: Global, archive: &str) -> Result<SafeName, AllocError> {
     safe_name(alloc, archive)?.with_ending(Ending::Idt)
 }
 
-/// Writes the tables that are chosen by these names, and what isn't in a table where there is no name.
 fn export_chosen(
     rt: &System,
     package: &Package<Opened>,
@@ -116,7 +107,6 @@ fn export_chosen(
     Ok(())
 }
 
-/// Writes tables and the streams of their rows, which are noted.
 fn export_tables(
     rt: &System,
     package: &Package<Opened>,
@@ -133,7 +123,6 @@ fn export_tables(
     Ok(())
 }
 
-/// Writes a table and the streams of its rows, which are noted.
 fn export_table(
     rt: &System,
     package: &Package<Opened>,
@@ -147,7 +136,6 @@ fn export_table(
     Ok(exported.add(files)?)
 }
 
-/// Writes a table to its file, and returns the streams of its rows.
 fn write_table(
     rt: &System,
     package: &Package<Opened>,
@@ -160,7 +148,6 @@ fn write_table(
     Ok(archive.into_files())
 }
 
-/// Writes the archive of a table to its file, which has this name and `.idt`.
 fn write_archive(
     rt: &System,
     archive: &mut TableArchive<'_>,
@@ -172,7 +159,6 @@ fn write_archive(
     at_file(rt.alloc(), path.as_str(), written)
 }
 
-/// Writes the archive of a table to a file, row by row.
 fn write_file(
     rt: &System,
     archive: &mut TableArchive<'_>,
@@ -185,14 +171,12 @@ fn write_file(
     new.settle(rt, written)
 }
 
-/// Writes the archive of a table, and waits until the disk has it.
 fn write_synced(archive: &mut TableArchive<'_>, output: &mut Output) -> Result<(), Failure> {
     archive.write(BARE, output)?;
     Ok(output.end_synced()?)
 }
 
-/// Writes what isn't in a table: the code page, the summary, and the streams that no row has. Those of rows are
-/// `named`.
+/// Writes the code page, the summary, and the streams that no row has. Those of rows are `named`.
 fn export_others(
     rt: &System,
     package: &Package<Opened>,
@@ -204,13 +188,11 @@ fn export_others(
     export_streams(rt, package, named, folder)
 }
 
-/// Writes the code page.
 fn export_page(rt: &System, package: &Package<Opened>, folder: &Folder<'_>) -> Result<(), Failure> {
     let page = page_archive(rt.alloc(), package.database_codepage())?;
     write_text(rt, PAGE, &page, folder)
 }
 
-/// Writes the summary.
 fn export_summary(
     rt: &System,
     package: &Package<Opened>,
@@ -220,7 +202,6 @@ fn export_summary(
     write_text(rt, SUMMARY, &summary, folder)
 }
 
-/// Writes the streams that no row has, if there are some.
 fn export_streams(
     rt: &System,
     package: &Package<Opened>,
@@ -238,7 +219,6 @@ fn export_streams(
     write_streams(rt, package, &safe, files.as_slice(), folder)
 }
 
-/// Writes the text of an archive of this name to its file.
 fn write_text(
     rt: &System,
     archive: &str,
@@ -252,7 +232,6 @@ fn write_text(
     }
 }
 
-/// Writes streams, if there are some, to files of an inner folder of this name.
 fn write_streams(
     rt: &System,
     package: &Package<Opened>,
@@ -275,7 +254,6 @@ fn write_streams(
     Ok(())
 }
 
-/// Writes a stream to its file.
 fn write_stream(
     rt: &System,
     package: &Package<Opened>,

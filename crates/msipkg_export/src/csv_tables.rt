@@ -8,12 +8,8 @@ use msipkg_packages::{Folder, chosen_tables, open_new, rows_of};
 use msipkg_texts::{Ending, SafeName, SafeNames, Style};
 use std::alloc::{AllocError, Global};
 
-/// Writes each of the tables to a file of a folder, which is named after the table. The folder is made where it isn't
-/// there.
-///
-/// # Errors
-/// Fails if a table isn't there, or if a file is there already and isn't to be replaced, and then nothing is written;
-/// if a table can't be read, and as the calls of the system do. The files of earlier tables stay.
+/// Writes each table to a file of a folder, which is made if it doesn't exist. Nothing is written if a table doesn't
+/// exist or a file is in the way. After other failures the files of earlier tables stay.
 pub(crate) fn export_csv(
     rt: &System,
     package: &Package<Opened>,
@@ -24,7 +20,6 @@ pub(crate) fn export_csv(
     export_tables(rt, package, tables.as_slice(), folder)
 }
 
-/// Makes the folder, and writes tables to files of it, if nothing is in the way of one.
 fn export_tables(
     rt: &System,
     package: &Package<Opened>,
@@ -40,7 +35,6 @@ fn export_tables(
     Ok(())
 }
 
-/// Fails if something is in the way of a table's file.
 fn check_files(rt: &System, tables: &[&Table], folder: &Folder<'_>) -> Result<(), Failure> {
     let mut given = SafeNames::new(rt.alloc());
     for table in tables {
@@ -49,7 +43,6 @@ fn check_files(rt: &System, tables: &[&Table], folder: &Folder<'_>) -> Result<()
     Ok(())
 }
 
-/// Writes a table to its file.
 fn export_table(
     rt: &System,
     package: &Package<Opened>,
@@ -63,12 +56,10 @@ fn export_table(
     at_file(rt.alloc(), path.as_str(), written)
 }
 
-/// The name of a table's file.
 fn file_name(table: &Table, given: &mut SafeNames) -> Result<SafeName, AllocError> {
     given.give(table.name())?.with_ending(Ending::Csv)
 }
 
-/// Writes rows to a file, piece by piece.
 fn write_file(rt: &System, path: &str, is_forced: bool, rows: Rows<'_>) -> Result<(), Failure> {
     let (new, bytes) = open_new(rt, path, is_forced)?;
     let mut output = Output::to_file(rt.alloc(), bytes);
@@ -76,16 +67,11 @@ fn write_file(rt: &System, path: &str, is_forced: bool, rows: Rows<'_>) -> Resul
     new.settle(rt, written)
 }
 
-/// Writes rows to a file, and waits until the disk has them.
 fn write_synced(alloc: Global, rows: Rows<'_>, output: &mut Output) -> Result<(), Failure> {
     write_rows(alloc, BARE, RowFormat::Csv, rows, output)?;
     Ok(output.end_synced()?)
 }
 
-/// Writes a table as `query` prints it.
-///
-/// # Errors
-/// Fails if the table can't be read.
 pub(crate) fn write_csv(
     alloc: Global,
     style: Style,

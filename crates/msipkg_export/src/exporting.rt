@@ -83,7 +83,6 @@ pub fn export(
     Ok(looked.has_summary)
 }
 
-/// Writes tables of a package, or the whole package where none is named.
 fn export_package(
     rt: &System,
     file: &str,
@@ -103,7 +102,6 @@ fn export_package(
     Ok(())
 }
 
-/// Prints a package as JSON, or a table in another format.
 fn print_package(
     alloc: Global,
     file: &str,
@@ -126,7 +124,6 @@ fn print_package(
     }
 }
 
-/// The table of the one name that is given.
 fn one_table<'a>(
     alloc: Global,
     package: &'a Package<Opened>,
@@ -138,7 +135,6 @@ fn one_table<'a>(
     }
 }
 
-/// Writes a package to a file of JSON, or tables to files of a folder.
 fn write_files(
     rt: &System,
     file: &str,
@@ -160,7 +156,6 @@ fn write_files(
     }
 }
 
-/// Writes a package to a file of JSON, piece by piece.
 fn write_json(
     rt: &System,
     file: &str,
@@ -174,7 +169,6 @@ fn write_json(
     new.settle(rt, written)
 }
 
-/// Writes a package as JSON to a file, and waits until the disk has it.
 fn write_synced(
     alloc: Global,
     file: &str,
@@ -197,7 +191,6 @@ fn note_hidden(file: &str, package: &Package<Opened>, notes: &mut Output) -> Res
     Ok(())
 }
 
-/// Writes the line for a stream that isn't exported.
 fn note_stream(file: &str, stream: &str, notes: &mut Output) {
     let (file, stream) = (Shown::escaped(file), Shown::escaped(stream));
     writeln!(
@@ -223,7 +216,6 @@ pub fn export_line(
     note_hidden(file.path, &package, notes)
 }
 
-/// Writes a package as a line of JSON, if its tables can all be read.
 fn write_line(
     alloc: Global,
     style: Style,
@@ -235,7 +227,6 @@ fn write_line(
     write_package(alloc, style, file, package, &[], output)
 }
 
-/// Fails if a table can't be read.
 fn check_tables(alloc: Global, package: &Package<Opened>) -> Result<(), Failure> {
     for table in package.tables() {
         if !is_list(table) {

@@ -7,10 +7,7 @@ use std::io::ErrorKind;
 /// The refusal of a file, or a link, in the place of a folder.
 const NO_FOLDER: &str = "it is no folder, but a file or a link";
 
-/// Makes a folder, and those above it, where they aren't there.
-///
-/// # Errors
-/// Fails as the call of the system does, at the folder's path.
+/// Makes a folder, and those above it, where they don't exist.
 pub(crate) fn make_folder(rt: &System, path: &str) -> Result<(), Failure> {
     match fs::create_dir_all(&rt.rt, path) {
         Ok(()) => Ok(()),
@@ -18,11 +15,8 @@ pub(crate) fn make_folder(rt: &System, path: &str) -> Result<(), Failure> {
     }
 }
 
-/// Makes a folder in a folder, where it isn't there. A link in its place isn't followed, since files would be written
-/// outside the outer folder then.
-///
-/// # Errors
-/// Fails if something else is there, and as the calls of the system do, at the folder's path.
+/// Makes a folder in a folder, where it doesn't exist. A link in its place isn't followed, since files would be written
+/// outside the outer folder then. Fails if something else is in its place.
 pub(crate) fn make_inner_folder(rt: &System, path: &str) -> Result<(), Failure> {
     match make_or_check(rt, path) {
         Ok(()) => Ok(()),
@@ -30,7 +24,6 @@ pub(crate) fn make_inner_folder(rt: &System, path: &str) -> Result<(), Failure> 
     }
 }
 
-/// Makes a folder, or checks that it is there.
 fn make_or_check(rt: &System, path: &str) -> Result<(), Failure> {
     match fs::create_dir(&rt.rt, path) {
         Ok(()) => Ok(()),

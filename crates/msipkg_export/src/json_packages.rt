@@ -10,12 +10,9 @@ use std::alloc::{AllocError, Global};
 /// How many bytes of a stream are written at a time. Three of them are four signs, so that the pieces join.
 const PIECE: usize = 48 * 1024;
 
-/// Writes a package as an object on one line. Where tables are named, it has these alone, and neither the summary nor
-/// the streams. Rows are lists of values in the order of the columns; a stream's value is `true`, and its bytes stand
-/// under `streams`, in base64.
-///
-/// # Errors
-/// Fails if a table isn't there or can't be read.
+/// Writes a package as an object on one line. If tables are named, it has these alone, without the summary and the
+/// streams. Rows are lists of values in the order of the columns; a stream's value is `true`, and its bytes are under
+/// `streams`, in base64.
 pub(crate) fn write_package(
     alloc: Global,
     style: Style,
@@ -33,7 +30,6 @@ pub(crate) fn write_package(
     }
 }
 
-/// Writes the path of a package, and what it is.
 fn write_head(
     alloc: Global,
     style: Style,
@@ -48,7 +44,6 @@ fn write_head(
     write!(output, ",\"kind\":\"{kind}\",\"codepage\":{page}");
 }
 
-/// Writes the summary, tables and the streams of a package, and ends it.
 fn write_whole(
     alloc: Global,
     style: Style,
@@ -63,7 +58,6 @@ fn write_whole(
     Ok(())
 }
 
-/// Writes tables of a package, and ends it.
 fn write_part(
     alloc: Global,
     style: Style,
@@ -76,7 +70,6 @@ fn write_part(
     Ok(())
 }
 
-/// Writes the properties that are there, each as a text.
 fn write_summary(alloc: Global, style: Style, summary: &SummaryInfo, output: &mut Output) {
     output.push_str(",\"summary\":");
     match summary_json(alloc, summary) {
@@ -86,7 +79,6 @@ fn write_summary(alloc: Global, style: Style, summary: &SummaryInfo, output: &mu
     }
 }
 
-/// The properties that are there as an object.
 fn summary_json(alloc: Global, summary: &SummaryInfo) -> Result<JsonObject, Error> {
     let mut object = JsonObject::new(alloc);
     for (id, name) in &PROPERTIES {
@@ -97,7 +89,6 @@ fn summary_json(alloc: Global, summary: &SummaryInfo) -> Result<JsonObject, Erro
     Ok(object)
 }
 
-/// Writes tables.
 fn write_tables(
     alloc: Global,
     style: Style,
@@ -116,7 +107,6 @@ fn write_tables(
     Ok(())
 }
 
-/// Writes a table.
 fn write_table(
     alloc: Global,
     style: Style,
@@ -129,7 +119,6 @@ fn write_table(
     write_rows(alloc, style, rows, output)
 }
 
-/// Writes the name and the columns of a table.
 fn write_columns(alloc: Global, style: Style, table: &Table, output: &mut Output) {
     let mut object = JsonObject::new(alloc);
     put_columns(table.name(), table.columns(), &mut object);
@@ -139,7 +128,6 @@ fn write_columns(alloc: Global, style: Style, table: &Table, output: &mut Output
     }
 }
 
-/// Writes rows, and ends their table.
 fn write_rows(
     alloc: Global,
     style: Style,
@@ -152,7 +140,6 @@ fn write_rows(
     Ok(())
 }
 
-/// Writes rows as lists of their values.
 fn write_lists(
     alloc: Global,
     style: Style,
@@ -170,7 +157,6 @@ fn write_lists(
     Ok(())
 }
 
-/// Writes the streams that are found under their names.
 fn write_streams(
     alloc: Global,
     style: Style,
@@ -191,7 +177,6 @@ fn write_streams(
     Ok(())
 }
 
-/// Writes a stream.
 fn write_stream(alloc: Global, style: Style, name: &str, bytes: &[u8], output: &mut Output) {
     output.push_str("{\"stream\":");
     write_quoted(alloc, style, name, output);
@@ -202,7 +187,6 @@ fn write_stream(alloc: Global, style: Style, name: &str, bytes: &[u8], output: &
     output.push_str("\"}");
 }
 
-/// Writes a piece of a stream in base64.
 fn write_piece(alloc: Global, piece: &[u8], output: &mut Output) {
     match STANDARD.encode(alloc, piece) {
         Ok(text) => output.push_str(text.as_str()),

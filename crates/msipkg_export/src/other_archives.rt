@@ -18,19 +18,13 @@ pub(crate) const SUMMARY: &str = "_SummaryInformation";
 pub(crate) const STREAMS: &str = "_Streams";
 
 /// Returns the archive of a code page, which has no columns.
-///
-/// # Errors
-/// Fails if memory is refused.
 pub(crate) fn page_archive(alloc: Global, page: CodePage) -> Result<StoredText, AllocError> {
     let id = page.id();
     let text = format!(in alloc; "\r\n\r\n{id}\t{PAGE}\r\n")?;
     Ok(StoredText::of_ascii(text))
 }
 
-/// Returns the archive of the summary, in the summary's own code page.
-///
-/// # Errors
-/// Fails at a text that no archive can have, and with `OutOfMemory`.
+/// Returns the archive of the summary, in the summary's own code page. Fails at a text that no archive can have.
 pub(crate) fn summary_archive(alloc: Global, summary: &SummaryInfo) -> Result<StoredText, Failure> {
     let columns = summary_columns(alloc)?;
     let rows = summary_rows(alloc, summary)?;
@@ -38,14 +32,12 @@ pub(crate) fn summary_archive(alloc: Global, summary: &SummaryInfo) -> Result<St
     text_of_rows(alloc, page, SUMMARY, columns.as_slice(), rows.as_slice())
 }
 
-/// The columns of the summary's archive.
 fn summary_columns(alloc: Global) -> Result<Vec<Column>, Error> {
     let id = Column::build(alloc, "PropertyId")?.primary_key().int16();
     let value = Column::build(alloc, "Value")?.localizable().string(255);
     Ok(vec![in alloc; id, value]?)
 }
 
-/// The rows of the summary's archive.
 fn summary_rows(alloc: Global, summary: &SummaryInfo) -> Result<Vec<Items<Value>>, Error> {
     let mut rows = Vec::new(alloc);
     for (id, _) in &PROPERTIES {
@@ -56,17 +48,12 @@ fn summary_rows(alloc: Global, summary: &SummaryInfo) -> Result<Vec<Items<Value>
     Ok(rows)
 }
 
-/// The row of a property.
 fn property_row(alloc: Global, id: i32, text: &str) -> Result<Items<Value>, Error> {
     let value = text_value(alloc, text)?;
     Ok(Items::from_vec(vec![in alloc; Value::Int(id), value]?))
 }
 
-/// Returns the streams that no row has and that are found under their names, with the names of their files. Those of
-/// rows are `named`.
-///
-/// # Errors
-/// Fails as reading the names does, and with `OutOfMemory`.
+/// Returns the streams that no row has and that are found under their names. Those of rows are in `named`.
 pub(crate) fn stream_files(
     alloc: Global,
     package: &Package<Opened>,
@@ -84,10 +71,6 @@ pub(crate) fn stream_files(
     Ok(files)
 }
 
-/// Returns the archive of streams.
-///
-/// # Errors
-/// Fails at a name that no archive can have, and with `OutOfMemory`.
 pub(crate) fn streams_archive(
     alloc: Global,
     page: CodePage,
@@ -98,14 +81,12 @@ pub(crate) fn streams_archive(
     text_of_rows(alloc, page, STREAMS, columns.as_slice(), rows.as_slice())
 }
 
-/// The columns of the archive of streams.
 fn stream_columns(alloc: Global) -> Result<Vec<Column>, Error> {
     let name = Column::build(alloc, "Name")?.primary_key().string(62);
     let data = Column::build(alloc, "Data")?.nullable().binary();
     Ok(vec![in alloc; name, data]?)
 }
 
-/// The rows of the archive of streams.
 fn stream_rows(alloc: Global, files: &[StreamFile]) -> Result<Vec<Items<Value>>, Error> {
     let mut rows = Vec::with_capacity(alloc, files.len())?;
     for file in files {
@@ -114,7 +95,6 @@ fn stream_rows(alloc: Global, files: &[StreamFile]) -> Result<Vec<Items<Value>>,
     Ok(rows)
 }
 
-/// The row of a stream.
 fn stream_row(alloc: Global, file: &StreamFile) -> Result<Items<Value>, Error> {
     let name = Value::from_text(alloc, file.stream.as_str())?;
     let data = Value::from_text(alloc, file.file.as_str())?;

@@ -27,7 +27,6 @@ impl Drop for StreamFile {
 }
 
 impl StreamFile {
-    /// Returns the name of the stream.
     pub(crate) fn into_stream(self) -> String {
         let StreamFile { stream, file: _ } = self;
         stream
@@ -65,9 +64,6 @@ impl Drop for TableArchive<'_> {
 impl<'a> TableArchive<'a> {
     /// Returns the archive of a table, which is still to be written. Its rows are gone over here for whether the code
     /// page is to be named, so that none of their lines is kept.
-    ///
-    /// # Errors
-    /// Fails if the table can't be read, and at a name that no archive can have.
     pub(crate) fn new(
         alloc: Global,
         package: &'a Package<Opened>,
@@ -86,12 +82,8 @@ impl<'a> TableArchive<'a> {
         })
     }
 
-    /// Writes the archive row by row, in its code page. If the style escapes, it is the archive's text instead, with
-    /// escapes in its fields.
-    ///
-    /// # Errors
-    /// Fails if the table can't be read, at a text that no archive can have, and with `InvalidInput` if a text can't be
-    /// written in the code page.
+    /// Writes the archive row by row, in its code page, or as text with escapes in its fields if the style escapes.
+    /// Fails with `InvalidInput` if a text can't be written in the code page.
     pub(crate) fn write(&mut self, style: Style, output: &mut Output) -> Result<(), Failure> {
         let mut rows = rows_of(self.alloc, self.package, self.table)?;
         for _ in 0..rows.len() {
@@ -102,7 +94,6 @@ impl<'a> TableArchive<'a> {
         Ok(self.text.write_lines(style, output)?)
     }
 
-    /// Returns the streams of the rows that were written.
     pub(crate) fn into_files(self) -> Vec<StreamFile> {
         let TableArchive {
             alloc: _,
@@ -116,7 +107,6 @@ impl<'a> TableArchive<'a> {
         files
     }
 
-    /// Adds the next row.
     fn add_row(&mut self, rows: &Rows<'_>) -> Result<(), Failure> {
         self.row.clear();
         for place in 0..rows.columns().len() {
@@ -126,7 +116,6 @@ impl<'a> TableArchive<'a> {
         self.text.push(self.row.as_slice())
     }
 
-    /// The value of an archive for the value of the next row at a place.
     fn value_of(&mut self, rows: &Rows<'_>, place: usize) -> Result<Value, Error> {
         match rows.peek(place).unwrap_or(ValueView::Null) {
             ValueView::Null => Ok(Value::Null),
@@ -136,8 +125,8 @@ impl<'a> TableArchive<'a> {
         }
     }
 
-    /// The name of the file of the next row's stream, as a value. It is null where the stream isn't there: the cells of
-    /// such columns don't tell null, and so no row of the installer's is without what it had.
+    /// Returns the name of the file of the next row's stream. It is null where the stream doesn't exist, since the
+    /// cells of such columns don't record null.
     fn file_of(&mut self, rows: &Rows<'_>) -> Result<Value, Error> {
         let Some(stream) = stream_name(self.alloc, self.table, rows)? else {
             return Ok(Value::Null);
@@ -152,8 +141,8 @@ impl<'a> TableArchive<'a> {
     }
 }
 
-/// The page of an archive of rows. The names of their streams' files are ASCII. Rows without columns of texts aren't
-/// gone over.
+/// Returns the page of an archive of rows. The names of their streams' files are ASCII. Rows without columns of texts
+/// aren't gone over.
 fn page_of_rows(page: CodePage, mut rows: Rows<'_>) -> ArchivePage {
     let mut pages = ArchivePage::new(page);
     if !rows.columns().iter().any(|column| has_texts(column)) {
@@ -169,7 +158,6 @@ fn page_of_rows(page: CodePage, mut rows: Rows<'_>) -> ArchivePage {
     pages
 }
 
-/// Takes in the texts of the next row.
 fn add_texts(rows: &Rows<'_>, pages: &mut ArchivePage) {
     for (place, column) in rows.columns().iter().enumerate() {
         if has_texts(column)
@@ -180,15 +168,10 @@ fn add_texts(rows: &Rows<'_>, pages: &mut ArchivePage) {
     }
 }
 
-/// Whether a column has texts.
 fn has_texts(column: &Column) -> bool {
     matches!(column.coltype(), ColumnType::Str(_))
 }
 
-/// Prints a table as an archive.
-///
-/// # Errors
-/// Fails if the table can't be read, and as writing it does.
 pub(crate) fn print_archive(
     alloc: Global,
     style: Style,

@@ -64,23 +64,16 @@ impl Claim {
         })
     }
 
-    /// The path of the file.
     pub(crate) fn target(&self) -> &str {
         self.target.as_str()
     }
 
-    /// Gives a file the owner, the group and the permissions of this one, as far as the user may.
-    ///
-    /// # Errors
-    /// Fails as the calls of the system do.
+    /// Sets the owner, the group and the permissions of a file to those of this one, as far as the user may.
     pub(crate) fn give_owner(&self, file: &SystemFile) -> Result<(), Failure> {
         Ok(file.take_after(&self.metadata)?)
     }
 
     /// Fails if the path leads to another file than it did, or if the file was written since.
-    ///
-    /// # Errors
-    /// Fails as the calls of the system do, too.
     pub(crate) fn check_unchanged(&self, rt: &System) -> Result<(), Failure> {
         let now = rt.identity(self.target.as_str())?;
         if now.is_unchanged(&Identity::of(&self.metadata)) {
@@ -117,7 +110,7 @@ fn locked(rt: &System, target: &str) -> Result<SystemFile, Failure> {
     Err(Failure::rule(LOCKED))
 }
 
-/// Whether a path leads to an open file. It doesn't where another program has replaced the file.
+/// Returns whether a path leads to an open file. It doesn't where another program has replaced the file.
 pub(crate) fn is_at(rt: &System, file: &SystemFile, path: &str) -> Result<bool, Failure> {
     let opened = Identity::of(&file.metadata()?);
     Ok(rt.identity(path)?.is_file(&opened))

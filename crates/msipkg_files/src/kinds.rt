@@ -39,7 +39,6 @@ pub fn check_kind(rt: &System, path: &str) -> Result<(), Failure> {
     check_length(metadata.len() == 0)
 }
 
-/// Fails if a package is empty.
 fn check_length(is_empty: bool) -> Result<(), Failure> {
     if is_empty {
         Err(Failure::rule(EMPTY))
@@ -73,12 +72,10 @@ pub(crate) fn is_written_to(rt: &System, path: &str) -> bool {
     }
 }
 
-/// Whether it is a device or a pipe.
 fn is_device(kind: FileType) -> bool {
     kind.is_fifo() || kind.is_char_device() || kind.is_block_device()
 }
 
-/// Fails if it is no regular file.
 fn check_regular(kind: FileType) -> Result<(), Failure> {
     if kind.is_dir() {
         Err(Failure::rule(FOLDER))
@@ -89,7 +86,6 @@ fn check_regular(kind: FileType) -> Result<(), Failure> {
     }
 }
 
-/// What a path leads to, if something is there.
 fn kind_at(rt: &System, path: &str) -> Result<Option<FileType>, Failure> {
     match fs::symlink_metadata(&rt.rt, path) {
         Ok(metadata) if metadata.is_symlink() => Ok(Some(kind_behind(rt, path)?)),
@@ -99,7 +95,6 @@ fn kind_at(rt: &System, path: &str) -> Result<Option<FileType>, Failure> {
     }
 }
 
-/// What a link leads to.
 fn kind_behind(rt: &System, path: &str) -> Result<FileType, Failure> {
     match fs::metadata(&rt.rt, path) {
         Ok(metadata) => Ok(metadata.file_type()),

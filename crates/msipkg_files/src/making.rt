@@ -61,11 +61,8 @@ pub fn write_file(rt: &System, path: &str, is_forced: bool, bytes: &[u8]) -> Res
     new.settle(rt, written)
 }
 
-/// Makes a file of these bytes. A regular file that is there already is replaced where `is_forced` says so, and a
-/// symbolic link to one itself: it isn't followed.
-///
-/// # Errors
-/// Fails as `write_file` does.
+/// Makes a file of these bytes. An existing regular file is replaced only where `is_forced`. A symbolic link to one is
+/// replaced itself: it isn't followed.
 pub(crate) fn write_new(
     rt: &System,
     path: &str,
@@ -112,13 +109,11 @@ pub fn open_output(
     Ok((new, rt.open_to_write(path)?))
 }
 
-/// Opens a file for a path that the user gave, or for the file that it leads to.
 fn open_given(rt: &System, path: &str, is_forced: bool) -> Result<(NewFile, SystemFile), Failure> {
     check_way(rt, path, is_forced)?;
     open_for(rt, followed(rt, path)?, is_forced)
 }
 
-/// Opens a file for this path, with nothing in its way.
 fn open_for(rt: &System, path: String, is_forced: bool) -> Result<(NewFile, SystemFile), Failure> {
     let (made, file) = open_beside(rt, path.as_str())?;
     let new = NewFile {
@@ -129,8 +124,8 @@ fn open_for(rt: &System, path: String, is_forced: bool) -> Result<(NewFile, Syst
     Ok((new, file))
 }
 
-/// The path of a file itself, where the given one is a link to it. So no link of the system is replaced, as
-/// `/dev/stdout` is one.
+/// Returns the path of a file itself, where the given one is a link to it, so that no link of the system is replaced,
+/// such as `/dev/stdout`.
 fn followed(rt: &System, path: &str) -> Result<String, Failure> {
     match fs::symlink_metadata(&rt.rt, path) {
         Ok(metadata) if metadata.is_symlink() => Ok(fs::canonicalize(&rt.rt, path)?.into_string()),
@@ -138,17 +133,13 @@ fn followed(rt: &System, path: &str) -> Result<String, Failure> {
     }
 }
 
-/// Writes bytes to a file, and waits until the disk has them.
 pub(crate) fn write_synced(file: &mut SystemFile, bytes: &[u8]) -> Result<(), Failure> {
     file.write_all(bytes)?;
     Ok(file.sync_all()?)
 }
 
-/// Gives a file that was made the path that it is to have, or removes it where it wasn't written.
-///
-/// # Errors
-/// Fails as writing it did, and as the calls of the system do. Then an old file of the path is as it was, and the new
-/// one isn't left.
+/// Moves the file at `made` to `path`, or removes it where it wasn't written. On failure an old file of the path is as
+/// it was, and the new one isn't left.
 pub(crate) fn settle(
     rt: &System,
     written: Result<(), Failure>,
@@ -166,7 +157,6 @@ pub(crate) fn settle(
     settled
 }
 
-/// Gives a file another path, which replaces one that is there only where it is forced.
 fn give_path(rt: &System, made: &str, path: &str, is_forced: bool) -> Result<(), Failure> {
     if is_forced {
         return Ok(fs::rename(&rt.rt, made, path)?);
@@ -180,17 +170,14 @@ fn give_path(rt: &System, made: &str, path: &str, is_forced: bool) -> Result<(),
     }
 }
 
-/// Gives a file another path, on a file system that has no hard links, or fails if something is there.
+/// Renames a file on a file system that has no hard links, or fails if something exists at the new path.
 fn rename_unforced(rt: &System, made: &str, path: &str) -> Result<(), Failure> {
     check_way(rt, path, false)?;
     Ok(fs::rename(&rt.rt, made, path)?)
 }
 
 /// Opens a new file beside another, and returns its path too. It is locked, so that no other program takes it for one
-/// that was left.
-///
-/// # Errors
-/// Fails if all names for it are taken, and as the calls of the system do.
+/// that was left. Fails if all names for it are taken.
 pub(crate) fn open_beside(rt: &System, target: &str) -> Result<(String, SystemFile), Failure> {
     for number in 0..TRIES {
         let path = beside_path(rt.alloc(), target, number)?;
@@ -202,8 +189,8 @@ pub(crate) fn open_beside(rt: &System, target: &str) -> Result<(String, SystemFi
     Err(Failure::rule("each name beside it that was tried is taken"))
 }
 
-/// Makes a file and locks it, if its file system has locks, unless something has its path, or another program takes it
-/// away.
+/// Makes a file and locks it, if its file system has locks. Returns nothing if something has its path, or another
+/// program takes it away.
 fn create_locked(rt: &System, path: &str) -> Result<Option<SystemFile>, Failure> {
     match rt.create_new(path) {
         Ok(file) if file.lock().unwrap_or(true) && has_path(rt, &file, path) => Ok(Some(file)),
@@ -213,15 +200,10 @@ fn create_locked(rt: &System, path: &str) -> Result<Option<SystemFile>, Failure>
     }
 }
 
-/// Whether a file still has its path.
 fn has_path(rt: &System, file: &SystemFile, path: &str) -> bool {
     is_at(rt, file, path).unwrap_or(false)
 }
 
-/// Removes all files beside another that programs left which were killed.
-///
-/// # Errors
-/// Fails if memory is refused.
 pub(crate) fn remove_leftovers(rt: &System, target: &str) -> Result<(), AllocError> {
     for number in 0..TRIES {
         remove_leftover(rt, beside_path(rt.alloc(), target, number)?.as_str());
@@ -229,7 +211,6 @@ pub(crate) fn remove_leftovers(rt: &System, target: &str) -> Result<(), AllocErr
     Ok(())
 }
 
-/// Removes a file that was left, if there is one and no program writes it.
 fn remove_leftover(rt: &System, path: &str) {
     match fs::symlink_metadata(&rt.rt, path) {
         Ok(metadata) if metadata.is_file() => remove_unlocked(rt, path),
@@ -247,7 +228,6 @@ fn remove_unlocked(rt: &System, path: &str) {
     }
 }
 
-/// The path of a new file beside another.
 fn beside_path(alloc: Global, target: &str, number: u32) -> Result<String, AllocError> {
     format!(in alloc; "{target}.msipkg-{number}")
 }

@@ -25,10 +25,6 @@ pub(crate) struct NamedPages {
 }
 
 impl NamedPages {
-    /// Returns the pages that the streams of a package name.
-    ///
-    /// # Errors
-    /// Fails if memory is refused.
     pub(crate) fn of(alloc: Global, streams: &StreamMap) -> Result<NamedPages, Error> {
         let pool = streamname::encode(alloc, "_StringPool", true)?;
         let pool = bytes_at(streams, pool.as_str())?;
@@ -39,13 +35,11 @@ impl NamedPages {
         })
     }
 
-    /// Returns the page of the database.
     pub(crate) fn database(self) -> Option<i32> {
         self.database
     }
 
-    /// Returns the pages that texts are recoded from: those that packages aren't read in, and for page 0 the one that
-    /// is given.
+    /// Returns the pages that texts are recoded from: those that packages aren't read in, and `given` for page 0.
     pub(crate) fn recoded_from(self, given: Option<i32>) -> Pages {
         Pages {
             database: recoded_from(self.database, given),
@@ -54,25 +48,16 @@ impl NamedPages {
     }
 }
 
-/// Returns the page that a package names for its database.
-///
-/// # Errors
-/// Fails if memory is refused.
 pub(crate) fn database_page(alloc: Global, streams: &StreamMap) -> Result<Option<i32>, Error> {
     Ok(NamedPages::of(alloc, streams)?.database)
 }
 
-/// Returns whether the texts of a package's database are UTF-8.
-///
-/// # Errors
-/// Fails if memory is refused.
 pub(crate) fn has_utf8_texts(alloc: Global, streams: &StreamMap) -> Result<bool, Error> {
     let name = streamname::encode(alloc, "_StringData", true)?;
     let texts = bytes_at(streams, name.as_str())?.unwrap_or(&[]);
     Ok(str::from_utf8(texts).is_ok())
 }
 
-/// The page that texts are recoded from, if they are.
 fn recoded_from(named: Option<i32>, given: Option<i32>) -> Option<i32> {
     match named? {
         0 => given,
@@ -81,12 +66,11 @@ fn recoded_from(named: Option<i32>, given: Option<i32>) -> Option<i32> {
     }
 }
 
-/// Whether packages aren't read in a page, but for ASCII, and it has a table to recode from.
+/// Returns whether packages aren't read in a page, except for ASCII, and it has a table to recode from.
 fn is_tabled(page: i32) -> bool {
     matches!(TextPage::of(page), Some(TextPage::Tabled(_)))
 }
 
-/// The bytes of a stream, if it is there.
 fn bytes_at<'a>(streams: &'a StreamMap, name: &str) -> Result<Option<&'a [u8]>, Error> {
     match streams.get(&Name::new(name)?) {
         Some(bytes) => Ok(Some(bytes.as_slice())),
@@ -94,20 +78,20 @@ fn bytes_at<'a>(streams: &'a StreamMap, name: &str) -> Result<Option<&'a [u8]>, 
     }
 }
 
-/// The page that the pool names in its first 31 bits.
+/// Returns the page that the pool names in its first 31 bits.
 fn pool_page(bytes: &[u8]) -> Option<i32> {
     i32::try_from(u32_at(bytes, 0)? & 0x7FFF_FFFF).ok()
 }
 
-/// The page that the summary names: the 16 bits behind the type of its property 1.
+/// Returns the page that the summary names: the 16 bits behind the type of its property 1.
 fn summary_page(bytes: &[u8]) -> Option<i32> {
     let section = rest_at(bytes, u32_at(bytes, SECTION)?)?;
     let value = rest_at(section, place_of_page(section)?)?;
     i32::try_from(u32_at(value, 4)? & 0xFFFF).ok()
 }
 
-/// Where the property that names the page stands in a section, which begins with its length and the number of its
-/// properties, and has a pair of numbers for each: its id and its place.
+/// Returns the place of the property that names the page in a section, which begins with its length and the number of
+/// its properties, and has a pair of numbers for each: its id and its place.
 fn place_of_page(section: &[u8]) -> Option<u32> {
     let count = usize::try_from(u32_at(section, 4)?).ok()?;
     for pair in section.get(LIST..)?.chunks(8).take(count) {
@@ -118,12 +102,10 @@ fn place_of_page(section: &[u8]) -> Option<u32> {
     None
 }
 
-/// The bytes from a place on.
 fn rest_at(bytes: &[u8], place: u32) -> Option<&[u8]> {
     bytes.get(usize::try_from(place).ok()?..)
 }
 
-/// The number of 32 bits at a place, the lowest byte first.
 fn u32_at(bytes: &[u8], place: usize) -> Option<u32> {
     let front = bytes.get(place..)?.first_chunk::<4>()?;
     Some(u32::from_le_bytes(*front))

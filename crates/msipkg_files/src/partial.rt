@@ -37,7 +37,6 @@ pub fn note_summary(file: &PackageFile<'_>, failure: &Failure, notes: &mut Outpu
     );
 }
 
-/// Puts an empty summary in the place of a package's own.
 fn empty_summary(alloc: Global, streams: &mut StreamMap) -> Result<(), Error> {
     let mut bytes = Vec::new(alloc);
     bytes.extend_from_slice(EMPTY.as_slice())?;

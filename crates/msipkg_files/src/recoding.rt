@@ -82,7 +82,6 @@ impl Recoded {
         }
     }
 
-    /// Writes a line that says that the package's texts are recoded, if they are.
     fn note(&self, path: &str, notes: &mut Output) {
         if self.pages.is_empty() {
             return;
@@ -130,7 +129,7 @@ pub fn has_page_zero(rt: &System, file: &PackageFile<'_>) -> Result<bool, Failur
     }
 }
 
-/// Whether these streams name page 0, and fails if they do and have texts that aren't UTF-8.
+/// Returns whether these streams name page 0, and fails if they do and have texts that aren't UTF-8.
 fn check_streams(alloc: Global, streams: &StreamMap) -> Result<bool, Failure> {
     if !matches!(database_page(alloc, streams)?, Some(0)) {
         return Ok(false);
@@ -179,11 +178,8 @@ pub fn recoded_instead(
     }
 }
 
-/// Returns a package's bytes with its texts in UTF-8, if they are to be recoded: one of its pages isn't one that
-/// packages are read in, or it is page 0 and a page is given.
-///
-/// # Errors
-/// Fails if the file can't be read, and at a text that its page doesn't read.
+/// Returns a package's bytes with its texts in UTF-8, if one of its pages isn't one that packages are read in, or it is
+/// page 0 and a page is given.
 fn recode_file(rt: &System, file: &PackageFile<'_>) -> Result<Option<Recoded>, Failure> {
     let bytes = Rc::new(rt.alloc(), rt.read(file.path)?)?;
     match compound::read_shared(rt.alloc(), bytes) {
@@ -192,7 +188,6 @@ fn recode_file(rt: &System, file: &PackageFile<'_>) -> Result<Option<Recoded>, F
     }
 }
 
-/// The bytes of a package of these contents with its texts in UTF-8, if they are to be recoded.
 fn recoded_of(
     alloc: Global,
     contents: Contents,
@@ -205,11 +200,6 @@ fn recoded_of(
     Ok(Some(recoded_from(alloc, contents, pages, file)?))
 }
 
-/// Returns the bytes of a package of these contents with its texts in UTF-8, if they are to be recoded, or else as they
-/// are.
-///
-/// # Errors
-/// Fails at a text that its page doesn't read, and with `OutOfMemory`.
 pub(crate) fn recoded_or_plain(
     alloc: Global,
     contents: Contents,
@@ -222,7 +212,6 @@ pub(crate) fn recoded_or_plain(
     recoded_from(alloc, contents, pages, file)
 }
 
-/// The bytes of a package of these contents, whose texts are recoded from these pages.
 fn recoded_from(
     alloc: Global,
     contents: Contents,
@@ -235,8 +224,8 @@ fn recoded_from(
     }
 }
 
-/// The bytes of a package of these contents. Storages below the root can't be written, so they are left out where the
-/// package is only looked at.
+/// Writes a package of these contents. Storages below the root can't be written, so they are left out where the package
+/// is only looked at.
 fn written(
     alloc: Global,
     mut contents: Contents,

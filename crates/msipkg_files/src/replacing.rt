@@ -18,7 +18,7 @@ pub fn replace_file(rt: &System, claim: &Claim, bytes: &[u8]) -> Result<(), Fail
     settle(rt, written, made.as_str(), claim.target(), true)
 }
 
-/// Gives a file its owner, its permissions and its bytes. Fails if the one that it is to replace was changed.
+/// Writes a file's owner, permissions and bytes. Fails if the one that it is to replace was changed.
 fn fill(rt: &System, claim: &Claim, file: &mut SystemFile, bytes: &[u8]) -> Result<(), Failure> {
     claim.give_owner(file)?;
     write_synced(file, bytes)?;

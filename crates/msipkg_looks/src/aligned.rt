@@ -6,10 +6,6 @@ use msipkg_packages::output::{Output, value_width, write_value};
 use msipkg_texts::{Style, Widths};
 use std::alloc::{AllocError, Global};
 
-/// Returns the widths of the columns of rows, as the style has them, and of their names.
-///
-/// # Errors
-/// Fails if memory is refused.
 pub(crate) fn widths_of(
     alloc: Global,
     style: Style,
@@ -24,14 +20,12 @@ pub(crate) fn widths_of(
     Ok(widths)
 }
 
-/// Makes columns wide enough for their names.
 fn widen_by_names(style: Style, columns: &[Column], widths: &mut Widths) {
     for (place, column) in columns.iter().enumerate() {
         widths.widen(place, style.width(column.name()));
     }
 }
 
-/// Makes columns wide enough for the values of the next row.
 fn widen_by_row(style: Style, rows: &Rows<'_>, widths: &mut Widths) {
     for place in 0..rows.columns().len() {
         match rows.peek(place) {
@@ -42,8 +36,7 @@ fn widen_by_row(style: Style, rows: &Rows<'_>, widths: &mut Widths) {
     }
 }
 
-/// Writes the names of columns, a line of dashes and rows, whose columns have these widths. Where there is no column,
-/// there is nothing to write.
+/// Writes nothing if there are no columns.
 pub(crate) fn write_aligned(
     style: Style,
     widths: &Widths,
@@ -61,7 +54,6 @@ pub(crate) fn write_aligned(
     }
 }
 
-/// Writes the names of columns.
 fn write_names(style: Style, widths: &Widths, columns: &[Column], output: &mut Output) {
     for (place, column) in columns.iter().enumerate() {
         let name = column.name();

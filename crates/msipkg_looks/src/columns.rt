@@ -65,7 +65,6 @@ fn write_flags<W: fmt::Write>(column: &Column, f: &mut fmt::Formatter<W>) -> fmt
     Ok(())
 }
 
-/// The name of a column's category, or nothing.
 fn category_name(column: &Column) -> &'static str {
     match column.category() {
         Some(category) => category.name(),

@@ -25,13 +25,8 @@ struct Extraction<'a> {
     is_trial: bool,
 }
 
-/// Writes streams of a file's package to files of a folder, or all streams where none is named. Where a stream's name
-/// isn't a safe name of a file, the file has an escaped one, and `notes` gets a line that says so. A stream that is
-/// named twice is written once.
-///
-/// # Errors
-/// Fails if a stream that is named isn't there, and if a file is there already and isn't to be replaced, and then
-/// nothing is written; and as the calls of the system do. The files of earlier streams stay.
+/// Writes the named streams, or all where none is named, each once. If a named stream doesn't exist, or a file exists
+/// and isn't to be replaced, nothing is written. If the system fails, the files of earlier streams stay.
 pub(crate) fn extract_streams(
     rt: &System,
     file: &str,
@@ -44,10 +39,7 @@ pub(crate) fn extract_streams(
     extract(rt, package, streams.as_ref(), folder, names, notes)
 }
 
-/// Prints the bytes of the one stream that is named.
-///
-/// # Errors
-/// Fails if it isn't one that is named, if the stream isn't there, and on a terminal.
+/// Prints the bytes of the one stream that is named. Fails if not exactly one is named, and on a terminal.
 pub(crate) fn print_stream(
     rt: &System,
     style: Style,
@@ -72,7 +64,6 @@ pub(crate) fn print_stream(
     }
 }
 
-/// Makes the folder, and writes streams to it, if all of them can be.
 fn extract<'a>(
     rt: &'a System,
     package: &'a Package<Opened>,
@@ -94,7 +85,6 @@ fn extract<'a>(
     extract_chosen(&extraction, names, notes)
 }
 
-/// Writes the streams of these names, or all where there is none.
 fn extract_chosen(
     extraction: &Extraction<'_>,
     names: &[&str],
@@ -108,7 +98,6 @@ fn extract_chosen(
     }
 }
 
-/// Writes all streams.
 fn extract_all(
     extraction: &Extraction<'_>,
     given: &mut SafeNames,
@@ -120,7 +109,6 @@ fn extract_all(
     Ok(())
 }
 
-/// Writes the streams of these names, each once.
 fn extract_named(
     extraction: &Extraction<'_>,
     names: &[&str],
@@ -136,7 +124,6 @@ fn extract_named(
     Ok(())
 }
 
-/// Writes a stream, or looks whether that can be done.
 fn extract_one(
     extraction: &Extraction<'_>,
     name: &str,
@@ -152,7 +139,6 @@ fn extract_one(
     extraction.folder.write(extraction.rt, &safe, bytes)
 }
 
-/// The bytes of a stream.
 fn bytes_of<'a>(extraction: &Extraction<'a>, name: &str) -> Result<&'a [u8], Failure> {
     match stream_bytes(extraction.package, extraction.stored, name) {
         Ok(bytes) => Ok(bytes),
@@ -160,7 +146,6 @@ fn bytes_of<'a>(extraction: &Extraction<'a>, name: &str) -> Result<&'a [u8], Fai
     }
 }
 
-/// Writes the name of a stream's file, if it is another one than the stream's.
 fn note_file(name: &str, safe: &str, notes: &mut Output) {
     if safe != name {
         let name = Shown::escaped(name);

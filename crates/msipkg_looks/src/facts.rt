@@ -39,7 +39,6 @@ enum FactsText {
 }
 
 impl Facts {
-    /// Returns no facts. As JSON they have the path of the file in front.
     pub(crate) fn new(alloc: Global, style: Style, file: &str, is_json: bool) -> Facts {
         let text = if is_json {
             FactsText::Json(object_of(alloc, file))
@@ -54,7 +53,6 @@ impl Facts {
         }
     }
 
-    /// Adds a text, if there is one.
     pub(crate) fn text(&mut self, name: &str, text: Option<&str>) {
         let Some(text) = text else {
             return;
@@ -73,7 +71,6 @@ impl Facts {
         }
     }
 
-    /// Adds the UUID of a package, if there is one.
     pub(crate) fn uuid(&mut self, summary: &SummaryInfo) {
         match uuid_text(self.alloc, summary) {
             Ok(Some(text)) => self.text("uuid", Some(text.as_str())),
@@ -82,7 +79,6 @@ impl Facts {
         }
     }
 
-    /// Adds a number, if there is one.
     pub(crate) fn number(&mut self, name: &str, number: Option<i64>) {
         let Some(number) = number else {
             return;
@@ -93,7 +89,6 @@ impl Facts {
         }
     }
 
-    /// Adds a number, which has a note behind it in a line.
     pub(crate) fn noted_number(&mut self, name: &str, number: i64, note: &str) {
         match &mut self.text {
             FactsText::Json(object) => object.put_number(name, Some(number)),
@@ -101,7 +96,6 @@ impl Facts {
         }
     }
 
-    /// Adds whether something holds.
     pub(crate) fn truth(&mut self, name: &str, holds: bool) {
         match &mut self.text {
             FactsText::Json(object) => object.put_truth(name, holds),
@@ -111,7 +105,6 @@ impl Facts {
         }
     }
 
-    /// Adds texts, which are parted by `; ` in a line, unless there are none.
     pub(crate) fn texts(&mut self, name: &str, texts: &[String]) {
         if texts.is_empty() {
             return;
@@ -122,8 +115,6 @@ impl Facts {
         }
     }
 
-    /// Adds the numbers of languages, which are parted by commas in a line, and their tags, parted by `; `, unless
-    /// there are no languages.
     pub(crate) fn languages(&mut self, languages: &[LanguageId]) {
         if languages.is_empty() {
             return;
@@ -134,12 +125,11 @@ impl Facts {
         }
     }
 
-    /// Notes that memory was refused for what a fact was to say.
     pub(crate) fn refuse_memory(&mut self) {
         self.is_cut = true;
     }
 
-    /// Prints the facts, or nothing of them where memory was refused, which the output is told.
+    /// Prints the facts, or none of them where memory was refused, which the output then notes.
     pub(crate) fn print(self, output: &mut Output) {
         let Facts {
             alloc: _,
@@ -157,14 +147,12 @@ impl Facts {
     }
 }
 
-/// An object with the path of a file.
 fn object_of(alloc: Global, file: &str) -> JsonObject {
     let mut object = JsonObject::new(alloc);
     object.put_text("file", Some(file));
     object
 }
 
-/// Puts texts as a list.
 fn put_texts(name: &str, texts: &[String], object: &mut JsonObject) {
     object.open_list(name);
     for text in texts {
@@ -173,7 +161,6 @@ fn put_texts(name: &str, texts: &[String], object: &mut JsonObject) {
     object.close_list();
 }
 
-/// Puts texts on a line.
 fn push_texts(style: Style, name: &str, texts: &[String], lines: &mut Output) {
     lines.push_str(name);
     let mut before = ": ";
@@ -184,7 +171,6 @@ fn push_texts(style: Style, name: &str, texts: &[String], lines: &mut Output) {
     lines.push_str("\n");
 }
 
-/// Puts the numbers of languages and their tags into an object.
 fn put_languages(languages: &[LanguageId], object: &mut JsonObject) {
     object.open_list("languages");
     for language in languages {
@@ -194,7 +180,6 @@ fn put_languages(languages: &[LanguageId], object: &mut JsonObject) {
     put_tags(languages, object);
 }
 
-/// Puts the tags of languages into an object.
 fn put_tags(languages: &[LanguageId], object: &mut JsonObject) {
     object.open_list("language_tags");
     for language in languages {
@@ -203,7 +188,6 @@ fn put_tags(languages: &[LanguageId], object: &mut JsonObject) {
     object.close_list();
 }
 
-/// Puts the numbers of languages and their tags on two lines.
 fn push_languages(languages: &[LanguageId], lines: &mut Output) {
     lines.push_str("languages");
     let mut before = ": ";
@@ -215,7 +199,6 @@ fn push_languages(languages: &[LanguageId], lines: &mut Output) {
     push_tags(languages, lines);
 }
 
-/// Puts the tags of languages on a line.
 fn push_tags(languages: &[LanguageId], lines: &mut Output) {
     lines.push_str("language_tags");
     let mut before = ": ";

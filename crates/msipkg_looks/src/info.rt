@@ -10,10 +10,8 @@ use msipkg_packages::{Looked, StoredStreams, file_page, kind_name, stored_stream
 use msipkg_texts::Style;
 use std::alloc::Global;
 
-/// Prints what a file's package is, as lines or as JSON on one line, and returns whether all tables can be read.
-///
-/// # Errors
-/// Fails if a stream can't be found in the file.
+/// Prints what a file's package is, as lines or as JSON on one line, and returns whether all tables can be read. Fails
+/// if a stream can't be found in the file.
 pub(crate) fn print_info(
     rt: &System,
     style: Style,
@@ -29,7 +27,7 @@ pub(crate) fn print_info(
     write_facts(rt.alloc(), looked, stored.as_ref(), facts, output)
 }
 
-/// The number of the page that a file names for its package's database, where another may be read as UTF-8.
+/// Returns the number of the page that a file names for its package's database, where another may be read as UTF-8.
 fn stored_page(rt: &System, file: &str, package: &Package<Opened>) -> Result<Option<i32>, Failure> {
     if matches!(package.database_codepage(), CodePage::Utf8) {
         file_page(rt, file)
@@ -38,7 +36,6 @@ fn stored_page(rt: &System, file: &str, package: &Package<Opened>) -> Result<Opt
     }
 }
 
-/// Writes what a package is.
 fn write_facts(
     alloc: Global,
     looked: &mut Looked,
@@ -53,7 +50,6 @@ fn write_facts(
     Ok(is_read)
 }
 
-/// Adds a package's product and its summary.
 fn add_names(alloc: Global, looked: &Looked, facts: &mut Facts) {
     add_product(alloc, &looked.package, facts);
     if looked.has_summary {
@@ -61,7 +57,6 @@ fn add_names(alloc: Global, looked: &Looked, facts: &mut Facts) {
     }
 }
 
-/// Adds what a package has, and returns whether all tables can be read.
 fn add_parts(
     alloc: Global,
     package: &Package<Opened>,
@@ -74,7 +69,6 @@ fn add_parts(
     Ok(is_read)
 }
 
-/// Adds the kind of a package, and the page of its database as its file has it.
 fn add_head(package: &Package<Opened>, stored_page: Option<i32>, facts: &mut Facts) {
     let page = package.database_codepage().id();
     facts.text("kind", Some(kind_name(package.package_type())));
@@ -86,7 +80,6 @@ fn add_head(package: &Package<Opened>, stored_page: Option<i32>, facts: &mut Fac
     }
 }
 
-/// Adds the numbers of tables, of those that can't be read, and of rows, and returns whether all can be read.
 fn add_tables(alloc: Global, package: &Package<Opened>, facts: &mut Facts) -> bool {
     let (mut unreadable, mut rows) = (0usize, 0usize);
     for table in package.tables() {
@@ -103,7 +96,6 @@ fn add_tables(alloc: Global, package: &Package<Opened>, facts: &mut Facts) -> bo
     unreadable == 0
 }
 
-/// Adds the numbers of streams, and of their bytes.
 fn add_streams(
     package: &Package<Opened>,
     stored: Option<&StoredStreams>,
@@ -120,13 +112,12 @@ fn add_streams(
     Ok(())
 }
 
-/// A count as a signed number.
 fn signed(count: usize) -> Option<i64> {
     i64::try_from(count).ok()
 }
 
-/// Adds whether the package's tables can be changed, and if not, why: its counts may be too low, or storages lie below
-/// its root. The page is set to itself, which is a change like any other, and nothing is written.
+/// Adds whether the package's tables can be changed, and if not, why. The page is set to itself, which is a change like
+/// any other, and nothing is written.
 fn add_changeable(package: &mut Package<Opened>, facts: &mut Facts) {
     let page = package.database_codepage();
     match package.set_database_codepage(page) {
@@ -135,7 +126,6 @@ fn add_changeable(package: &mut Package<Opened>, facts: &mut Facts) {
     }
 }
 
-/// Adds why a package's tables can't be changed.
 fn add_refusal(error: &Error, facts: &mut Facts) {
     facts.truth("changeable", false);
     facts.shown("why_not", error);

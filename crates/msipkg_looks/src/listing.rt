@@ -37,7 +37,6 @@ enum ListingText {
 }
 
 impl Listing {
-    /// Returns an empty list. As JSON it has the path of the file in front.
     pub(crate) fn new(
         alloc: Global,
         style: Style,
@@ -57,7 +56,7 @@ impl Listing {
         }
     }
 
-    /// Puts a name and its number, if that is known: else it prints as `?`, and in JSON as null.
+    /// Adds a name and its number. An unknown number prints as `?`, and in JSON as null.
     pub(crate) fn put(&mut self, name: &str, number: Option<usize>) {
         match &mut self.text {
             ListingText::Json(object) => put_object(self.subject, name, number, object),
@@ -65,7 +64,6 @@ impl Listing {
         }
     }
 
-    /// Prints the list: rows as `Grid::print` does, or JSON on one line.
     pub(crate) fn print(self, output: &mut Output) {
         let Listing {
             style,
@@ -79,7 +77,6 @@ impl Listing {
     }
 }
 
-/// An object with the path of a file, and the beginning of a list.
 fn object_of(alloc: Global, file: &str, list: &str) -> JsonObject {
     let mut object = JsonObject::new(alloc);
     object.put_text("file", Some(file));
@@ -87,7 +84,6 @@ fn object_of(alloc: Global, file: &str, list: &str) -> JsonObject {
     object
 }
 
-/// Puts an object into the list.
 fn put_object(subject: &Subject, name: &str, number: Option<usize>, object: &mut JsonObject) {
     let [name_member, number_member] = subject.members;
     object.open_item();
@@ -96,7 +92,6 @@ fn put_object(subject: &Subject, name: &str, number: Option<usize>, object: &mut
     object.close_item();
 }
 
-/// Puts a row.
 fn put_row(style: Style, name: &str, number: Option<usize>, grid: &mut Grid) {
     grid.put_text(style, name);
     match number {
@@ -105,7 +100,6 @@ fn put_row(style: Style, name: &str, number: Option<usize>, grid: &mut Grid) {
     }
 }
 
-/// Prints the object, whose list has no more items.
 fn print_object(mut object: JsonObject, style: Style, output: &mut Output) {
     object.close_list();
     object.print_line(style, output);

@@ -74,7 +74,6 @@ pub fn show(
     Ok(is_read && looked.has_summary)
 }
 
-/// Prints the properties of the summary of a file.
 fn show_summary(
     rt: &System,
     style: Style,
@@ -89,7 +88,7 @@ fn show_summary(
     Ok(true)
 }
 
-/// Fails if a query is asked for that is none.
+/// Fails if the look asks for a query that is none.
 fn check_words(alloc: Global, look: Look<'_, '_>) -> Result<(), Failure> {
     match look {
         Look::Query { text, format: _ } => check_query(alloc, text),
@@ -131,7 +130,6 @@ fn print_or_write(
     }
 }
 
-/// Prints parts of a package.
 fn print_parts(
     alloc: Global,
     style: Style,

@@ -29,7 +29,7 @@ static FACTS: [(&str, &str); 5] = [
     ),
 ];
 
-/// Adds what the package's properties say of its product. A package without such a table has none of it.
+/// Adds what the package's properties say of its product. A package without such a table adds nothing.
 pub(crate) fn add_product(alloc: Global, package: &Package<Opened>, facts: &mut Facts) {
     if package.get_table("Property").is_none() {
         return;
@@ -39,7 +39,7 @@ pub(crate) fn add_product(alloc: Global, package: &Package<Opened>, facts: &mut 
     }
 }
 
-/// Adds the text that a query selects. A table that can't be read, or has other columns, says nothing.
+/// Adds the text that a query selects. A table that can't be read, or has other columns, adds nothing.
 fn add_property(
     alloc: Global,
     package: &Package<Opened>,
@@ -54,7 +54,6 @@ fn add_property(
     }
 }
 
-/// The rows that a query selects.
 fn selected<'a>(
     alloc: Global,
     package: &'a Package<Opened>,

@@ -38,9 +38,6 @@ impl Format {
 }
 
 /// Fails if a text spells no query for rows, so that it is refused before a file is opened.
-///
-/// # Errors
-/// Fails at the query.
 pub(crate) fn check_query(alloc: Global, text: &str) -> Result<(), Failure> {
     match read_select(alloc, text) {
         Ok(query) => {
@@ -51,10 +48,6 @@ pub(crate) fn check_query(alloc: Global, text: &str) -> Result<(), Failure> {
     }
 }
 
-/// Prints the rows that a query selects.
-///
-/// # Errors
-/// Fails if the text spells no query for rows, and as selecting does.
 pub(crate) fn print_query(
     alloc: Global,
     style: Style,
@@ -69,7 +62,6 @@ pub(crate) fn print_query(
     }
 }
 
-/// Writes the rows that a query selects.
 fn write_selected(
     alloc: Global,
     style: Style,
@@ -89,7 +81,6 @@ fn write_selected(
     }
 }
 
-/// The rows that a query selects.
 fn selected<'a>(
     alloc: Global,
     package: &'a Package<Opened>,

@@ -30,12 +30,8 @@ pub enum Form {
     Sql,
 }
 
-/// Prints the columns of tables of a file's package, or of all tables where none is named: aligned on a terminal,
-/// parted by tabs elsewhere, as JSON on one line, or as statements that create the tables. The installer's own tables
-/// have a statement only where they are named.
-///
-/// # Errors
-/// Fails if a table isn't there, and if memory is refused for the list of tables.
+/// Prints the columns of the named tables, or of all where none is named. The installer's own tables have a statement
+/// only where they are named.
 pub(crate) fn print_schema(
     alloc: Global,
     style: Style,
@@ -54,7 +50,6 @@ pub(crate) fn print_schema(
     Ok(())
 }
 
-/// Writes a row for each column.
 fn write_rows(alloc: Global, style: Style, tables: &[&Table], output: &mut Output) {
     let mut grid = Grid::new(alloc, PARTS.len());
     put_heads(&mut grid);
@@ -64,21 +59,18 @@ fn write_rows(alloc: Global, style: Style, tables: &[&Table], output: &mut Outpu
     grid.print(style, output);
 }
 
-/// Puts the heads.
 fn put_heads(grid: &mut Grid) {
     for (head, _) in &PARTS {
         grid.push(head);
     }
 }
 
-/// Puts a row for each column of a table.
 fn put_columns(style: Style, table: &Table, grid: &mut Grid) {
     for column in table.columns() {
         put_column(style, table.name(), column, grid);
     }
 }
 
-/// Puts the row of a column.
 fn put_column(style: Style, table: &str, column: &Column, grid: &mut Grid) {
     for (_, part) in &PARTS {
         grid.put(&ColumnPart {
@@ -90,8 +82,8 @@ fn put_column(style: Style, table: &str, column: &Column, grid: &mut Grid) {
     }
 }
 
-/// Writes a statement for each table that creates it, as `exec` takes it, but not for those of the installer itself
-/// where these are all tables. What `_Validation` says of the columns isn't in it.
+/// Writes a statement that creates each table, as `exec` takes it, but skips the installer's own where these are all
+/// tables. What `_Validation` says of the columns isn't in it.
 fn write_definitions(style: Style, tables: &[&Table], is_all: bool, output: &mut Output) {
     for table in tables {
         if !(is_all && is_of_installer(table.name())) {
@@ -100,7 +92,6 @@ fn write_definitions(style: Style, tables: &[&Table], is_all: bool, output: &mut
     }
 }
 
-/// Whether a table of this name is the installer's own, so that it isn't created.
 fn is_of_installer(name: &str) -> bool {
     matches!(
         name,
@@ -108,7 +99,6 @@ fn is_of_installer(name: &str) -> bool {
     )
 }
 
-/// Writes the statement that creates a table.
 fn write_definition(style: Style, table: &Table, output: &mut Output) {
     write!(output, "CREATE TABLE `{}`", style.show(table.name()));
     write_columns(style, table, output);
@@ -116,7 +106,6 @@ fn write_definition(style: Style, table: &Table, output: &mut Output) {
     output.push_str(")\n");
 }
 
-/// Writes the columns of a table, parted by commas, behind a bracket.
 fn write_columns(style: Style, table: &Table, output: &mut Output) {
     let mut before = " (";
     for column in table.columns() {
@@ -131,7 +120,6 @@ fn write_columns(style: Style, table: &Table, output: &mut Output) {
     }
 }
 
-/// Writes the columns of a table's key.
 fn write_keys(style: Style, table: &Table, output: &mut Output) {
     let mut before = " PRIMARY KEY ";
     for column in table.columns() {

@@ -5,14 +5,13 @@ use msipkg_packages::output::put_columns;
 use msipkg_texts::JsonObject;
 use std::alloc::Global;
 
-/// Returns the tables of a file as JSON. What a column doesn't have isn't there.
+/// Returns the tables of a file as JSON. What a column doesn't have is left out.
 pub(crate) fn schema_json(alloc: Global, file: &str, tables: &[&Table]) -> JsonObject {
     let mut object = JsonObject::new(alloc);
     put_tables(file, tables, &mut object);
     object
 }
 
-/// Puts the tables of a file.
 fn put_tables(file: &str, tables: &[&Table], object: &mut JsonObject) {
     object.put_text("file", Some(file));
     object.open_list("tables");

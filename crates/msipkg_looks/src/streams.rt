@@ -15,11 +15,8 @@ static STREAMS: Subject = Subject {
     members: ["stream", "bytes"],
 };
 
-/// Prints the name of each stream of a file's package and how many bytes it has, and returns whether all streams can be
-/// found. One that can't be has no number, and a line in `notes`.
-///
-/// # Errors
-/// Fails as `stored_streams` does, and if memory is refused for a name.
+/// Prints the name and the length of each stream, and returns whether all streams can be found. One that can't be has
+/// no number, and a line in `notes`.
 pub(crate) fn print_streams(
     rt: &System,
     style: Style,
@@ -49,7 +46,6 @@ pub(crate) fn print_streams(
     Ok(is_read)
 }
 
-/// How many bytes a stream has, if it can be found; else a line in `notes` says why it can't be.
 fn count_or_note(
     alloc: Global,
     file: &str,

@@ -6,7 +6,6 @@ use msipkg_packages::output::{Output, TimeText};
 use msipkg_texts::Style;
 use std::alloc::Global;
 
-/// Prints a line for each property of a file's summary that is there, or all of them as JSON on one line.
 pub(crate) fn print_summary(
     alloc: Global,
     style: Style,
@@ -20,7 +19,7 @@ pub(crate) fn print_summary(
     facts.print(output);
 }
 
-/// Adds the properties that are there, under the names that `--set` takes.
+/// Adds the properties that exist, under the names that `--set` takes.
 pub(crate) fn add_summary(summary: &SummaryInfo, facts: &mut Facts) {
     add_description(summary, facts);
     add_target(summary, facts);
@@ -28,7 +27,6 @@ pub(crate) fn add_summary(summary: &SummaryInfo, facts: &mut Facts) {
     add_numbers(summary, facts);
 }
 
-/// Adds what the package is, and whose.
 fn add_description(summary: &SummaryInfo, facts: &mut Facts) {
     facts.number("codepage", Some(i64::from(summary.codepage().id())));
     facts.text("title", summary.title());
@@ -46,7 +44,6 @@ fn add_keywords(summary: &SummaryInfo, facts: &mut Facts) {
     }
 }
 
-/// Adds what the package is for, and which one it is.
 fn add_target(summary: &SummaryInfo, facts: &mut Facts) {
     facts.text("arch", summary.arch());
     add_languages(summary, facts);
@@ -63,21 +60,18 @@ fn add_languages(summary: &SummaryInfo, facts: &mut Facts) {
     }
 }
 
-/// Adds when things were done to the package.
 fn add_times(summary: &SummaryInfo, facts: &mut Facts) {
     add_time("last_printed", summary.last_printed(), facts);
     add_time("creation_time", summary.creation_time(), facts);
     add_time("last_saved_time", summary.last_saved_time(), facts);
 }
 
-/// Adds a time, if there is one.
 fn add_time(name: &str, time: Option<Timestamp>, facts: &mut Facts) {
     if let Some(time) = time {
         facts.shown(name, &TimeText(time));
     }
 }
 
-/// Adds the numbers of the package.
 fn add_numbers(summary: &SummaryInfo, facts: &mut Facts) {
     facts.number("page_count", summary.page_count().map(i64::from));
     facts.number("word_count", summary.word_count().map(i64::from));

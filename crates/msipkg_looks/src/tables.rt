@@ -35,10 +35,6 @@ pub(crate) fn print_tables(
     is_read
 }
 
-/// Returns how many rows a table has.
-///
-/// # Errors
-/// Fails with `InvalidData` if the table can't be read.
 pub(crate) fn count_rows(
     alloc: Global,
     package: &Package<Opened>,
@@ -48,7 +44,6 @@ pub(crate) fn count_rows(
     Ok(rows.len())
 }
 
-/// How many rows a table has, if it can be read; else a line in `notes` says why it can't be.
 fn count_or_note(
     alloc: Global,
     file: &str,
@@ -66,7 +61,6 @@ fn count_or_note(
     }
 }
 
-/// Writes a line that says why a part of a file can't be read.
 pub(crate) fn note_unread(file: &str, failure: &Failure, notes: &mut Output) {
     let file = Shown::escaped(file);
     writeln!(notes, "msipkg: {file}: {failure}");

@@ -21,7 +21,6 @@ impl fmt::Display for ColumnTypeText<'_> {
     }
 }
 
-/// The small letter of a column's type, and its length.
 fn letter_and_length(column: &Column) -> (char, usize) {
     match column.coltype() {
         ColumnType::Int16 => ('i', 2),
@@ -45,7 +44,6 @@ pub fn put_columns(table: &str, columns: &[Column], object: &mut JsonObject) {
     object.close_list();
 }
 
-/// Puts what is said of a column.
 fn put_column(column: &Column, object: &mut JsonObject) {
     put_kind(column, object);
     put_category(column, object);
@@ -54,7 +52,6 @@ fn put_column(column: &Column, object: &mut JsonObject) {
     put_reference(column, object);
 }
 
-/// Puts what a column is.
 fn put_kind(column: &Column, object: &mut JsonObject) {
     object.put_text("column", Some(column.name()));
     object.put_shown("type", &ColumnTypeText(column));
@@ -63,14 +60,12 @@ fn put_kind(column: &Column, object: &mut JsonObject) {
     object.put_truth("localizable", column.is_localizable());
 }
 
-/// Puts the category of a column, if it has one.
 fn put_category(column: &Column, object: &mut JsonObject) {
     if let Some(category) = column.category() {
         object.put_text("category", Some(category.name()));
     }
 }
 
-/// Puts the range of a column's numbers.
 fn put_range(column: &Column, object: &mut JsonObject) {
     if let Some((min, max)) = column.value_range() {
         object.put_number("min", Some(i64::from(min)));
@@ -78,7 +73,6 @@ fn put_range(column: &Column, object: &mut JsonObject) {
     }
 }
 
-/// Puts the texts that a column takes.
 fn put_values(column: &Column, object: &mut JsonObject) {
     let Some(texts) = column.enum_values() else {
         return;
@@ -90,7 +84,6 @@ fn put_values(column: &Column, object: &mut JsonObject) {
     object.close_list();
 }
 
-/// Puts the column that a column's values stand in.
 fn put_reference(column: &Column, object: &mut JsonObject) {
     if let Some((table, number)) = column.foreign_key() {
         object.put_text("key_table", Some(table));

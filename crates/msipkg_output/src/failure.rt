@@ -138,7 +138,6 @@ impl Failure {
     }
 }
 
-/// The text of a place.
 fn place_of(alloc: Global, kind: &str, name: &str) -> Result<String, AllocError> {
     let name = Shown::escaped(name);
     format!(in alloc; "{kind} {name}")

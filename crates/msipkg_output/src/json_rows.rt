@@ -62,7 +62,7 @@ impl JsonRow {
         }
     }
 
-    /// A writer to the same memory.
+    /// Returns a writer to the same memory.
     fn emptied(self) -> JsonWriter {
         let JsonRow { mut bytes } = self;
         bytes.clear();

@@ -5,7 +5,6 @@ use msipkg_system::Output;
 use msipkg_texts::{JsonObject, Style};
 use std::alloc::{AllocError, Global};
 
-/// Returns whether two columns have the same name.
 pub(crate) fn has_repeated(columns: &[Column]) -> bool {
     for (place, column) in columns.iter().enumerate() {
         if is_among(columns.get(..place).unwrap_or(&[]), column.name()) {
@@ -15,16 +14,12 @@ pub(crate) fn has_repeated(columns: &[Column]) -> bool {
     false
 }
 
-/// Whether one of these columns has a name.
 fn is_among(columns: &[Column], name: &str) -> bool {
     columns.iter().any(|column| column.name() == name)
 }
 
-/// Returns the names of columns as members of an object, which all differ: one that stands in front already has a
-/// number behind it, as `Name_2`.
-///
-/// # Errors
-/// Fails if memory is refused.
+/// Returns the names of columns as members of an object, which all differ: a repeated one has a number behind it, as
+/// `Name_2`.
 pub(crate) fn member_names(alloc: Global, columns: &[Column]) -> Result<Vec<String>, AllocError> {
     let mut names = Vec::new(alloc);
     for (place, column) in columns.iter().enumerate() {
@@ -38,7 +33,6 @@ pub(crate) fn member_names(alloc: Global, columns: &[Column]) -> Result<Vec<Stri
     Ok(names)
 }
 
-/// A name with the first number from 2 on behind it with which no column and no other member has it.
 fn numbered(
     alloc: Global,
     columns: &[Column],
@@ -56,12 +50,10 @@ fn numbered(
     format!(in alloc; "{name}_{number}")
 }
 
-/// Whether one of these names is this one.
 fn is_taken(taken: &[String], name: &str) -> bool {
     taken.iter().any(|other| other.as_str() == name)
 }
 
-/// Writes rows as objects, whose members have these names.
 pub(crate) fn write_named(
     alloc: Global,
     style: Style,
@@ -78,7 +70,6 @@ pub(crate) fn write_named(
     }
 }
 
-/// The next row as an object.
 fn object_of(alloc: Global, names: &[String], rows: &Rows<'_>) -> JsonObject {
     let mut object = JsonObject::new(alloc);
     for (place, name) in names.iter().enumerate() {
@@ -88,7 +79,6 @@ fn object_of(alloc: Global, names: &[String], rows: &Rows<'_>) -> JsonObject {
     object
 }
 
-/// Puts a value.
 fn put_value(name: &str, value: ValueView<'_>, object: &mut JsonObject) {
     match value {
         ValueView::Null => object.put_text(name, None),

@@ -59,14 +59,12 @@ pub fn write_rows(
     }
 }
 
-/// Writes CSV.
 fn write_csv(printer: &Printer, rows: Rows<'_>, output: &mut Output) -> Result<(), Failure> {
     let mut writer = Writer::from_writer(output);
     write_records(printer, rows, &mut writer)?;
     done(printer, writer.flush())
 }
 
-/// Writes the names of columns and rows as lines of CSV.
 fn write_records(
     printer: &Printer,
     rows: Rows<'_>,
@@ -79,7 +77,6 @@ fn write_records(
     Ok(())
 }
 
-/// Writes the names of columns as a line of CSV.
 fn write_names(
     printer: &Printer,
     columns: &[Column],
@@ -91,7 +88,6 @@ fn write_names(
     done(printer, writer.end_record())
 }
 
-/// Writes the values of a row as a line of CSV.
 fn write_record(
     printer: &Printer,
     row: &Row,
@@ -104,7 +100,6 @@ fn write_record(
     }
 }
 
-/// Writes the values of a row as a line of CSV, with escapes in their texts.
 fn write_shown(
     printer: &Printer,
     row: &Row,
@@ -116,7 +111,6 @@ fn write_shown(
     done(printer, writer.end_record())
 }
 
-/// Writes a value as a field of CSV.
 fn write_value_field(
     printer: &Printer,
     value: &Value,
@@ -133,7 +127,6 @@ fn write_value_field(
     }
 }
 
-/// Writes a text as a field of CSV, as it is printed.
 fn write_field(
     printer: &Printer,
     text: &str,
@@ -143,7 +136,6 @@ fn write_field(
     done(printer, writer.write_field(text.as_bytes()))
 }
 
-/// What a call of the writer returned.
 fn done(printer: &Printer, returned: Result<(), csv::Error>) -> Result<(), Failure> {
     match returned {
         Ok(()) => Ok(()),
@@ -151,7 +143,6 @@ fn done(printer: &Printer, returned: Result<(), csv::Error>) -> Result<(), Failu
     }
 }
 
-/// Writes rows as a list of objects, one a line.
 fn write_json(printer: &Printer, rows: Rows<'_>, output: &mut Output) -> Result<(), Failure> {
     output.push_str("[");
     if has_repeated(rows.columns()) {
@@ -163,14 +154,13 @@ fn write_json(printer: &Printer, rows: Rows<'_>, output: &mut Output) -> Result<
     Ok(())
 }
 
-/// Writes rows in which columns have the same name as objects.
+/// Writes rows as objects, where several columns have the same name.
 fn write_repeated(printer: &Printer, rows: Rows<'_>, output: &mut Output) -> Result<(), Failure> {
     let names = member_names(printer.alloc, rows.columns())?;
     write_named(printer.alloc, printer.style, names.as_slice(), rows, output);
     Ok(())
 }
 
-/// Writes rows as objects.
 fn write_objects(printer: &Printer, rows: Rows<'_>, output: &mut Output) -> Result<(), Failure> {
     let mut json = JsonRow::new(printer.alloc);
     let mut before: &[u8] = b"\n";
@@ -183,7 +173,6 @@ fn write_objects(printer: &Printer, rows: Rows<'_>, output: &mut Output) -> Resu
     Ok(())
 }
 
-/// Writes rows one by one.
 fn write_each(printer: &Printer, mut rows: Rows<'_>, output: &mut Output) {
     for number in 0..rows.len() {
         write_row(printer, number == 0, &rows, output);
@@ -191,7 +180,7 @@ fn write_each(printer: &Printer, mut rows: Rows<'_>, output: &mut Output) {
     }
 }
 
-/// Writes the next row, with its values on lines, behind an empty line unless it is the first, or parted by tabs.
+/// Writes the next row, with its values on lines, behind an empty line unless it is the first, or separated by tabs.
 fn write_row(printer: &Printer, is_first: bool, rows: &Rows<'_>, output: &mut Output) {
     let has_lines = matches!(printer.format, RowFormat::Lines);
     let between = if has_lines { "\n" } else { "\t" };

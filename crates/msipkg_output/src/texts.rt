@@ -19,7 +19,7 @@ impl fmt::Display for TimeText {
     }
 }
 
-/// The instant of a time, if it lies before the year 10000.
+/// Returns the instant of a time, if it lies before the year 10000.
 fn instant_of(time: Timestamp) -> Option<jiff::Timestamp> {
     let (seconds, nanoseconds) = time.to_unix();
     let nanoseconds = i32::try_from(nanoseconds).ok()?;
@@ -66,7 +66,7 @@ pub fn stream_name(
     Ok(if has_room { Some(name) } else { None })
 }
 
-/// Whether a value has more bytes than any text of so many characters.
+/// Returns whether a value has more bytes than any text of so many characters.
 fn is_too_long(value: ValueView<'_>) -> bool {
     match value {
         ValueView::Str(text) => text.len() > 4 * MOST_CHARACTERS,

@@ -18,7 +18,6 @@ pub fn write_value(style: Style, value: ValueView<'_>, output: &mut Output) {
     }
 }
 
-/// Writes a number.
 fn write_number(number: i32, output: &mut Output) {
     let mut buffer = Buffer::new();
     output.push_str(buffer.format(number));
@@ -34,7 +33,6 @@ pub fn value_width(style: Style, value: ValueView<'_>) -> usize {
     }
 }
 
-/// The number of a number's digits in decimal, and of its sign.
 fn number_width(number: i32) -> usize {
     let sign = usize::from(number < 0);
     match number.unsigned_abs().checked_ilog10() {

@@ -89,7 +89,6 @@ pub fn verified(alloc: Global, bytes: FileBytes) -> Result<FileBytes, Failure> {
     }
 }
 
-/// Why bytes weren't opened again.
 fn unopened(error: Error) -> Failure {
     match error.kind() {
         ErrorKind::Io | ErrorKind::OutOfMemory => Failure::from(error),

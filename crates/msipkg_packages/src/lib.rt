@@ -9,6 +9,7 @@ mod reasons;
 pub mod stored;
 pub mod summary_texts;
 pub mod tables;
+pub mod unlisted;
 
 // For the crates above, which so have one way to it: the rt of some kits goes down every path between two crates.
 pub use file_bytes::{
@@ -24,3 +25,4 @@ pub use partial::{Looked, open_to_look};
 pub use stored::{StoredStreams, stored_streams, stream_bytes};
 pub use summary_texts::{property_text, uuid_text};
 pub use tables::{chosen_tables, is_list, rows_of, table_named};
+pub use unlisted::unlisted_table;

@@ -55,13 +55,11 @@ pub fn open_to_change(
     }
 }
 
-/// The package of a file, as it is.
 fn open_as_it_is(rt: &System, path: &str) -> Result<Package<Opened>, Failure> {
     let file = rt.open(path)?;
     open_from(rt.alloc(), Origin::File(file))
 }
 
-/// A package that was recoded, if it may be.
 fn open_recoded(
     alloc: Global,
     file: &PackageFile<'_>,
@@ -77,12 +75,10 @@ fn open_recoded(
     Ok((package, state))
 }
 
-/// The package of bytes.
 pub(crate) fn open_bytes(alloc: Global, bytes: Vec<u8>) -> Result<Package<Opened>, Failure> {
     open_from(alloc, Origin::Memory(Cursor::new(bytes)))
 }
 
-/// The package that is read from somewhere.
 fn open_from(alloc: Global, origin: Origin) -> Result<Package<Opened>, Failure> {
     Ok(Package::open(alloc, Carrier::new(origin))?)
 }
@@ -104,7 +100,6 @@ pub fn new_package(alloc: Global, kind: PackageType) -> Result<Package<Opened>, 
     open_bytes(alloc, new_bytes(alloc, kind)?)
 }
 
-/// The bytes of a new package.
 fn new_bytes(alloc: Global, kind: PackageType) -> Result<Vec<u8>, Error> {
     let made = Package::create(alloc, kind, Memory::from_vec(Vec::new(alloc)))?;
     Ok(made.into_reader().into_vec())

@@ -41,7 +41,7 @@ pub fn open_to_look(
     }
 }
 
-/// The package of a file that isn't opened, for this failure, without its summary.
+/// Returns the package, without its summary, of a file that isn't opened because of `failure`.
 fn open_rest(
     rt: &System,
     file: &PackageFile<'_>,
@@ -63,7 +63,6 @@ fn open_rest(
     }
 }
 
-/// The package of a file with an empty summary.
 fn open_without_summary(
     rt: &System,
     file: &PackageFile<'_>,

@@ -63,7 +63,7 @@ pub fn stream_bytes<'a>(
     }
 }
 
-/// The bytes of a stream that isn't found under its name.
+/// Returns the bytes of a stream that isn't found under its name.
 fn stored_bytes<'a>(
     package: &Package<Opened>,
     stored: Option<&'a StoredStreams>,
@@ -75,7 +75,7 @@ fn stored_bytes<'a>(
     stored?.get(name)
 }
 
-/// Whether a stream isn't found under its name.
+/// Returns whether a stream isn't found under its name.
 fn has_hidden(package: &Package<Opened>) -> Result<bool, Error> {
     for name in package.streams() {
         if !package.has_stream(name?.as_str()) {
@@ -85,14 +85,13 @@ fn has_hidden(package: &Package<Opened>) -> Result<bool, Error> {
     Ok(false)
 }
 
-/// The streams of a compound file.
 fn streams_of(alloc: Global, bytes: &[u8]) -> Result<StoredStreams, Error> {
     let contents = compound::read(alloc, bytes)?;
     let names = names_of(alloc, &contents.streams)?;
     Ok(StoredStreams { names, contents })
 }
 
-/// The stored names by their texts, but for those of tables.
+/// Returns the stored names by their texts, except those of tables.
 fn names_of(alloc: Global, streams: &StreamMap) -> Result<BTreeMap<String, Name>, Error> {
     let mut names = BTreeMap::new(alloc);
     for (name, _) in streams.iter() {
@@ -101,7 +100,6 @@ fn names_of(alloc: Global, streams: &StreamMap) -> Result<BTreeMap<String, Name>
     Ok(names)
 }
 
-/// Adds a stored name, unless it is that of a table.
 fn add_name(alloc: Global, name: &Name, names: &mut BTreeMap<String, Name>) -> Result<(), Error> {
     let (text, is_table) = streamname::decode(alloc, name.to_text(alloc)?.as_str())?;
     if !is_table {

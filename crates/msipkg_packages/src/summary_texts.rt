@@ -23,7 +23,6 @@ pub fn property_text(
     }
 }
 
-/// The text of a property that has one value.
 fn plain_text(alloc: Global, summary: &SummaryInfo, id: i32) -> Result<Option<String>, AllocError> {
     if let Some(text) = text_of(summary, id) {
         return Ok(Some(String::from_str(alloc, text)?));
@@ -50,7 +49,6 @@ pub fn uuid_text(alloc: Global, summary: &SummaryInfo) -> Result<Option<String>,
     Ok(Some(text))
 }
 
-/// The property of a number, if it is a text that is there.
 fn text_of(summary: &SummaryInfo, id: i32) -> Option<&str> {
     match id {
         2 => summary.title(),
@@ -63,7 +61,6 @@ fn text_of(summary: &SummaryInfo, id: i32) -> Option<&str> {
     }
 }
 
-/// The property of a number, if it is a number that is there.
 fn number_of(summary: &SummaryInfo, id: i32) -> Option<i32> {
     match id {
         1 => Some(summary.codepage().id()),
@@ -75,7 +72,6 @@ fn number_of(summary: &SummaryInfo, id: i32) -> Option<i32> {
     }
 }
 
-/// The property of a number, if it is a time that is there.
 fn time_of(summary: &SummaryInfo, id: i32) -> Option<Timestamp> {
     match id {
         11 => summary.last_printed(),
@@ -85,7 +81,7 @@ fn time_of(summary: &SummaryInfo, id: i32) -> Option<Timestamp> {
     }
 }
 
-/// A time as the installer's tables have it. Parts of a second stand behind a dot.
+/// Returns a time as the installer's tables have it. Parts of a second are behind a dot.
 fn installer_time(alloc: Global, time: Timestamp) -> Result<String, AllocError> {
     let iso = TimeText(time).to_string(alloc)?;
     let mut text = String::new(alloc);
@@ -100,7 +96,6 @@ fn installer_time(alloc: Global, time: Timestamp) -> Result<String, AllocError> 
     Ok(text)
 }
 
-/// The keywords, if there is one.
 fn keywords_text(alloc: Global, summary: &SummaryInfo) -> Result<Option<String>, Error> {
     let keywords = summary.keywords()?;
     if keywords.is_empty() {
@@ -116,7 +111,6 @@ fn keywords_text(alloc: Global, summary: &SummaryInfo) -> Result<Option<String>,
     Ok(Some(text))
 }
 
-/// The architecture and the languages, if either is there.
 fn template_text(alloc: Global, summary: &SummaryInfo) -> Result<Option<String>, Error> {
     let languages = summary.languages()?;
     let arch = summary.arch();

@@ -45,7 +45,7 @@ pub fn chosen_tables<'a>(
     Ok(tables)
 }
 
-/// Adds all tables, with those that only list what the others are, or without.
+/// Adds all tables. With `has_lists`, these include those that only list what the others are.
 fn add_tables<'a>(
     package: &'a Package<Opened>,
     has_lists: bool,
@@ -74,7 +74,6 @@ pub fn rows_of<'a>(
     }
 }
 
-/// The rows that the query for a table selects.
 fn selected<'a>(
     alloc: Global,
     package: &'a Package<Opened>,

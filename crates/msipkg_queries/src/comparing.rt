@@ -3,7 +3,7 @@
 use crate::pieces::{Piece, is_at};
 use msi_query_tokens::token::Kind;
 
-/// Returns the place behind the operand that begins at a place: operators in front of it, and then brackets, a name or
+/// Returns the place behind the operand that begins at `start`: operators in front of it, and then brackets, a name or
 /// a literal.
 pub(crate) fn operand_end(pieces: &[Piece<'_>], start: usize) -> usize {
     let mut depth = 0usize;
@@ -20,12 +20,10 @@ pub(crate) fn operand_end(pieces: &[Piece<'_>], start: usize) -> usize {
     pieces.len()
 }
 
-/// Whether an operator stands in front of its operand.
 fn is_in_front(kind: Kind) -> bool {
     matches!(kind, Kind::Not | Kind::Sub | Kind::BitNot)
 }
 
-/// The place behind a name of which the first half ends at a place.
 fn end_of_name(pieces: &[Piece<'_>], place: usize) -> usize {
     if is_at(pieces, place, Kind::Dot) {
         place.saturating_add(2)
@@ -34,13 +32,12 @@ fn end_of_name(pieces: &[Piece<'_>], place: usize) -> usize {
     }
 }
 
-/// Returns whether a piece stands between two operands, and binds them closer than `NOT` does in other programs: all
-/// but `AND` and `OR`.
+/// Returns whether a piece is between two operands, and binds them closer than `NOT` does in other programs: all except
+/// `AND` and `OR`.
 pub(crate) fn is_operator(piece: Piece<'_>) -> bool {
     is_comparison(piece.kind) || is_calculation(piece.kind)
 }
 
-/// Whether an operator compares.
 fn is_comparison(kind: Kind) -> bool {
     matches!(
         kind,
@@ -48,7 +45,6 @@ fn is_comparison(kind: Kind) -> bool {
     )
 }
 
-/// Whether an operator makes a number or a text of two.
 fn is_calculation(kind: Kind) -> bool {
     matches!(
         kind,

@@ -8,10 +8,6 @@ use msipkg_packages::output::Opened;
 use msipkg_texts::Shown;
 use std::alloc::{AllocError, Global};
 
-/// Returns what is wrong with the first table of a text that isn't there.
-///
-/// # Errors
-/// Fails if memory is refused, and so do the other calls.
 pub(crate) fn table_fault(
     alloc: Global,
     package: &Package<Opened>,
@@ -27,7 +23,6 @@ pub(crate) fn table_fault(
     Ok(None)
 }
 
-/// The message for a table that isn't there.
 fn missing_table(
     alloc: Global,
     package: &Package<Opened>,
@@ -42,7 +37,6 @@ fn missing_table(
     format!(in alloc; "table {name} isn't there{near}")
 }
 
-/// Returns the tables of a package that a text names.
 pub(crate) fn tables_in<'a>(
     alloc: Global,
     package: &'a Package<Opened>,
@@ -59,8 +53,8 @@ pub(crate) fn tables_in<'a>(
     Ok(tables)
 }
 
-/// Returns what is wrong with the first column of a text that isn't there. Which columns there are in a query within
-/// brackets isn't known.
+/// Returns what is wrong with the first missing column of a text. Which columns exist in a query within brackets isn't
+/// known.
 pub(crate) fn column_fault(
     alloc: Global,
     tables: &[&Table],
@@ -81,7 +75,6 @@ pub(crate) fn column_fault(
     Ok(None)
 }
 
-/// Whether there is a query within brackets.
 fn has_inner_query(pieces: &[Piece<'_>]) -> bool {
     pieces
         .iter()
@@ -90,7 +83,7 @@ fn has_inner_query(pieces: &[Piece<'_>]) -> bool {
         > 1
 }
 
-/// The names of the columns of tables, with those of the tables in front where there are several.
+/// Returns the names of the columns of tables, with those of the tables in front where there are several.
 fn known_columns(alloc: Global, tables: &[&Table]) -> Result<Vec<String>, AllocError> {
     let mut names = Vec::new(alloc);
     for table in tables {
@@ -100,7 +93,6 @@ fn known_columns(alloc: Global, tables: &[&Table]) -> Result<Vec<String>, AllocE
     Ok(names)
 }
 
-/// Adds the names of a table's columns, with this name in front unless it is empty.
 fn add_columns(
     alloc: Global,
     table: &Table,
@@ -115,7 +107,6 @@ fn add_columns(
     Ok(())
 }
 
-/// The name of a column that begins at a place.
 fn column_at(
     alloc: Global,
     pieces: &[Piece<'_>],
@@ -130,7 +121,7 @@ fn column_at(
     }
 }
 
-/// The name at a place that is neither that of a table nor the second half of one.
+/// Returns the name at a place that is neither that of a table nor the second half of one.
 fn first_name<'a>(pieces: &[Piece<'a>], place: usize) -> Option<&'a str> {
     let is_half = place > 0 && is_at(pieces, place.saturating_sub(1), Kind::Dot);
     if is_half || table_at(pieces, place).is_some() {
@@ -139,7 +130,6 @@ fn first_name<'a>(pieces: &[Piece<'a>], place: usize) -> Option<&'a str> {
     pieces.get(place)?.name()
 }
 
-/// The second half of the name that begins at a place.
 fn second_name<'a>(pieces: &[Piece<'a>], place: usize) -> Option<&'a str> {
     if is_at(pieces, place.saturating_add(1), Kind::Dot) {
         pieces.get(place.saturating_add(2))?.name()
@@ -148,7 +138,6 @@ fn second_name<'a>(pieces: &[Piece<'a>], place: usize) -> Option<&'a str> {
     }
 }
 
-/// The message for a column that isn't there.
 fn missing_column(
     alloc: Global,
     tables: &[&Table],

@@ -11,7 +11,7 @@ struct Candidate<'a> {
     edits: usize,
 }
 
-/// The name that few edits lead to from another one, if there is one among these. Case is no edit.
+/// Returns the one of these names that few edits lead to from another one. Case is no edit.
 fn nearest<'a>(
     alloc: Global,
     name: &str,
@@ -27,7 +27,6 @@ fn nearest<'a>(
     }
 }
 
-/// The nearer one of two names.
 fn nearer<'a>(found: Option<Candidate<'a>>, name: &'a str, edits: usize) -> Option<Candidate<'a>> {
     match found {
         Some(found) if found.edits <= edits => Some(found),
@@ -35,7 +34,7 @@ fn nearer<'a>(found: Option<Candidate<'a>>, name: &'a str, edits: usize) -> Opti
     }
 }
 
-/// How many edits lead from a name to another, or none where one only lacks the table in front.
+/// Returns how many edits lead from a name to another, or 0 where one only lacks the table in front.
 fn edits(alloc: Global, name: &str, other: &str) -> Result<usize, AllocError> {
     let name = name.to_ascii_lowercase(alloc)?;
     let other = other.to_ascii_lowercase(alloc)?;
@@ -45,7 +44,7 @@ fn edits(alloc: Global, name: &str, other: &str) -> Result<usize, AllocError> {
     osa_distance(alloc, name.as_str(), other.as_str())
 }
 
-/// Whether a name is what another has behind a dot.
+/// Returns whether a name is what another has behind a dot.
 fn is_end_of(name: &str, other: &str) -> bool {
     match other.split_once('.') {
         Some((_, end)) => end == name,

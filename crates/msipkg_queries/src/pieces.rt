@@ -24,16 +24,11 @@ impl<'a> Piece<'a> {
         }
     }
 
-    /// Returns whether it is the empty text.
     pub(crate) fn is_empty_text(self) -> bool {
         matches!(self.text, "''" | "\"\"")
     }
 }
 
-/// Returns the pieces of a text.
-///
-/// # Errors
-/// Fails if memory is refused.
 pub(crate) fn pieces_of<'a>(alloc: Global, text: &'a str) -> Result<Vec<Piece<'a>>, AllocError> {
     let mut tokens = Tokens::new(text.as_bytes());
     let mut pieces = Vec::new(alloc);
@@ -47,7 +42,6 @@ pub(crate) fn pieces_of<'a>(alloc: Global, text: &'a str) -> Result<Vec<Piece<'a
     Ok(pieces)
 }
 
-/// The piece of a text that comes next.
 fn piece_of<'a>(text: &'a str, tokens: &Tokens<'_>) -> Piece<'a> {
     let place = text.len().saturating_sub(tokens.left());
     let end = place.saturating_add(tokens.spelling().len());
@@ -58,7 +52,6 @@ fn piece_of<'a>(text: &'a str, tokens: &Tokens<'_>) -> Piece<'a> {
     }
 }
 
-/// Returns whether a piece of a kind stands at a place.
 pub(crate) fn is_at(pieces: &[Piece<'_>], place: usize, kind: Kind) -> bool {
     match pieces.get(place) {
         Some(piece) => piece.kind == kind,
@@ -66,12 +59,11 @@ pub(crate) fn is_at(pieces: &[Piece<'_>], place: usize, kind: Kind) -> bool {
     }
 }
 
-/// Returns whether there is a piece of a kind.
 pub(crate) fn has_kind(pieces: &[Piece<'_>], kind: Kind) -> bool {
     pieces.iter().any(|piece| piece.kind == kind)
 }
 
-/// Returns the name of a table that stands at a place, behind `FROM`, `JOIN`, `INTO` or `UPDATE`.
+/// Returns the name of a table at a place behind `FROM`, `JOIN`, `INTO` or `UPDATE`.
 pub(crate) fn table_at<'a>(pieces: &[Piece<'a>], place: usize) -> Option<&'a str> {
     let before = pieces.get(place.checked_sub(1)?)?;
     match before.kind {

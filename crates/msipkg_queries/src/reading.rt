@@ -41,13 +41,11 @@ pub fn check_statement(alloc: Global, text: &str) -> Result<(), Failure> {
     Ok(())
 }
 
-/// The text of pieces that aren't refused, with nulls for empty texts.
 fn checked_text(alloc: Global, text: &str, pieces: &[Piece<'_>]) -> Result<String, Failure> {
     check_pieces(alloc, text, pieces)?;
     Ok(text_with_nulls(alloc, pieces)?)
 }
 
-/// The text of pieces, with nulls for empty texts.
 fn text_with_nulls(alloc: Global, pieces: &[Piece<'_>]) -> Result<String, AllocError> {
     let mut text = String::new(alloc);
     for i in 0..pieces.len() {
@@ -62,7 +60,7 @@ fn text_with_nulls(alloc: Global, pieces: &[Piece<'_>]) -> Result<String, AllocE
     Ok(text)
 }
 
-/// Whether a piece is an empty text that stands for null: one that is joined with another text doesn't.
+/// Returns whether a piece is an empty text that means null: one that is joined with another text doesn't.
 fn is_null(pieces: &[Piece<'_>], place: usize) -> bool {
     let is_empty_text = match pieces.get(place) {
         Some(piece) => piece.is_empty_text(),

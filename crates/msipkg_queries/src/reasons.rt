@@ -27,7 +27,6 @@ pub fn explained(
     }
 }
 
-/// What is wrong with a text for a package.
 fn fault_in(
     alloc: Global,
     package: &Package<Opened>,
@@ -46,7 +45,6 @@ fn fault_in(
     value_fault_in(alloc, tables.as_slice(), pieces.as_slice())
 }
 
-/// What is wrong with the values of a text.
 fn value_fault_in(
     alloc: Global,
     tables: &[&Table],

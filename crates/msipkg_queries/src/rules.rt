@@ -9,9 +9,6 @@ use msipkg_texts::Shown;
 use std::alloc::Global;
 
 /// Refuses a text in double quotes that has a backslash, as a path does.
-///
-/// # Errors
-/// Fails at its byte.
 pub(crate) fn check_quotes(alloc: Global, pieces: &[Piece<'_>]) -> Result<(), Failure> {
     for piece in pieces {
         if piece.text.starts_with('"') && piece.text.contains('\\') {
@@ -26,16 +23,12 @@ pub(crate) fn check_quotes(alloc: Global, pieces: &[Piece<'_>]) -> Result<(), Fa
 
 /// Refuses a statement that would change nothing, a `NOT` that doesn't reach over the comparison behind it, and a join
 /// of a table with itself.
-///
-/// # Errors
-/// Fails with what is to be written instead.
 pub(crate) fn check_pieces(alloc: Global, text: &str, pieces: &[Piece<'_>]) -> Result<(), Failure> {
     check_parts(pieces)?;
     check_not(alloc, text, pieces)?;
     check_joins(alloc, pieces)
 }
 
-/// Refuses an `INSERT` without rows, and an `UPDATE` that sets nothing.
 fn check_parts(pieces: &[Piece<'_>]) -> Result<(), Failure> {
     let Some(first) = pieces.first() else {
         return Ok(());
@@ -51,7 +44,6 @@ fn check_parts(pieces: &[Piece<'_>]) -> Result<(), Failure> {
     }
 }
 
-/// Refuses a `NOT` in front of an operand with an operator behind it.
 fn check_not(alloc: Global, text: &str, pieces: &[Piece<'_>]) -> Result<(), Failure> {
     for i in 0..pieces.len() {
         if pieces[i].kind != Kind::Not {
@@ -67,7 +59,6 @@ fn check_not(alloc: Global, text: &str, pieces: &[Piece<'_>]) -> Result<(), Fail
     Ok(())
 }
 
-/// The failure of a `NOT`, with both ways to write it.
 fn not_failure(alloc: Global, text: &str, not: Piece<'_>, operator: Piece<'_>) -> Failure {
     let start = not.place.saturating_add(not.text.len());
     let operand = text.get(start..operator.place).unwrap_or("").trim();
@@ -77,7 +68,7 @@ fn not_failure(alloc: Global, text: &str, not: Piece<'_>, operator: Piece<'_>) -
     ))
 }
 
-/// Refuses a join of a table with itself, whose columns couldn't be told apart.
+/// Refuses a join of a table with itself, whose columns couldn't be distinguished.
 fn check_joins(alloc: Global, pieces: &[Piece<'_>]) -> Result<(), Failure> {
     for i in 0..pieces.len() {
         if let Some(name) = table_at(pieces, i)
@@ -92,7 +83,6 @@ fn check_joins(alloc: Global, pieces: &[Piece<'_>]) -> Result<(), Failure> {
     Ok(())
 }
 
-/// Whether a table is named in front of a place.
 fn is_named_before(pieces: &[Piece<'_>], place: usize, name: &str) -> bool {
     (0..place).any(|i| table_at(pieces, i) == Some(name))
 }

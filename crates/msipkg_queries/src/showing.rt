@@ -29,7 +29,6 @@ pub fn shown_value(alloc: Global, value: &Value) -> Result<String, AllocError> {
     }
 }
 
-/// A text in quotes.
 fn shown_text(alloc: Global, text: &str) -> Result<String, AllocError> {
     let (shown, more) = match text.char_indices().nth(MOST_SHOWN) {
         Some((end, _)) => (text.get(..end).unwrap_or(""), ".."),

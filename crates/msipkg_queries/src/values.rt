@@ -9,10 +9,6 @@ use msipkg_packages::msi::{Column, ParseError, Table, Value};
 use msipkg_texts::Shown;
 use std::alloc::{AllocError, Global};
 
-/// Returns what is wrong with the first row or value that an insert gives.
-///
-/// # Errors
-/// Fails if memory is refused, and so do the other calls.
 pub(crate) fn insert_fault(
     alloc: Global,
     table: &Table,
@@ -39,7 +35,6 @@ struct Spot {
 }
 
 impl Spot {
-    /// Returns where a piece behind this one stands.
     fn behind(self, kind: Kind) -> Spot {
         match kind {
             Kind::Open => Spot {
@@ -55,7 +50,6 @@ impl Spot {
     }
 }
 
-/// What is wrong with the value at a place of an insert, or with the row that ends there.
 fn inserted_fault(
     alloc: Global,
     table: &Table,
@@ -75,7 +69,6 @@ fn inserted_fault(
     count_fault(alloc, table, spot.row, has)
 }
 
-/// Returns what is wrong with the first value that an update sets.
 pub(crate) fn update_fault(
     alloc: Global,
     table: &Table,
@@ -93,7 +86,6 @@ pub(crate) fn update_fault(
     Ok(None)
 }
 
-/// What is wrong with how many values a row has.
 fn count_fault(
     alloc: Global,
     table: &Table,
@@ -110,7 +102,6 @@ fn count_fault(
     )?))
 }
 
-/// The column that is set to the value at a place of an update.
 fn set_column<'a>(table: &'a Table, pieces: &[Piece<'_>], place: usize) -> Option<&'a Column> {
     let before = place.checked_sub(1)?;
     let equals = if is_at(pieces, before, Kind::Sub) {
@@ -125,7 +116,6 @@ fn set_column<'a>(table: &'a Table, pieces: &[Piece<'_>], place: usize) -> Optio
     table.columns().iter().find(|column| column.name() == name)
 }
 
-/// What is wrong with the value at a place, if there is one, for a column.
 fn value_fault(
     alloc: Global,
     table: &Table,
@@ -145,7 +135,7 @@ fn value_fault(
     }
 }
 
-/// The message for a value that a column doesn't take. Null may not be spelled so, but as the empty text.
+/// Returns the message for a value that a column doesn't take. Null may only be spelled as the empty text.
 fn refused_value(
     alloc: Global,
     table: &Table,
@@ -163,12 +153,10 @@ fn refused_value(
     format!(in alloc; "{table}: column {column} doesn't take {shown}{null}")
 }
 
-/// Whether a minus stands in front of a place.
 fn is_negative(pieces: &[Piece<'_>], place: usize) -> bool {
     place > 0 && is_at(pieces, place.saturating_sub(1), Kind::Sub)
 }
 
-/// The value at a place, if there is one.
 fn value_at(
     alloc: Global,
     pieces: &[Piece<'_>],
@@ -186,7 +174,6 @@ fn value_at(
     }
 }
 
-/// The number of digits, or of digits behind a minus.
 fn number_in(digits: &str, is_negative: bool) -> Option<Value> {
     let number = digits.parse::<i64>().ok()?;
     let number = if is_negative {
@@ -197,7 +184,6 @@ fn number_in(digits: &str, is_negative: bool) -> Option<Value> {
     Some(Value::Int(i32::try_from(number).ok()?))
 }
 
-/// The value of a text in quotes.
 fn text_in(alloc: Global, quoted: &str) -> Result<Option<Value>, AllocError> {
     match texts::text(alloc, &mut Tokens::new(quoted.as_bytes())) {
         Ok(text) if text.as_str().is_empty() => Ok(Some(Value::Null)),

@@ -15,10 +15,8 @@ pub(crate) const STREAMS: &str = "_Streams";
 /// The ending of an archive's path, in whatever case.
 const ENDING: &str = ".idt";
 
-/// Returns a row of an archive, with marks in place of the files of its streams, which are read.
-///
-/// # Errors
-/// Fails if a file can't be read or doesn't lie in the archive's folder, and if memory is refused.
+/// Returns a row of an archive, with marks in place of the files of its streams, which are read. Fails if a file
+/// doesn't lie in the archive's folder.
 pub(crate) fn row_with_streams(
     rt: &System,
     archive: &str,
@@ -34,7 +32,6 @@ pub(crate) fn row_with_streams(
     Ok(values)
 }
 
-/// A copy of a value, or the mark for a stream.
 fn value_or_mark(alloc: Global, value: &Value, is_stream: bool) -> Result<Value, Error> {
     if is_stream {
         Ok(Value::Binary)
@@ -43,7 +40,6 @@ fn value_or_mark(alloc: Global, value: &Value, is_stream: bool) -> Result<Value,
     }
 }
 
-/// Adds the stream of a row whose file stands at a place, and returns whether one stands there.
 fn take_stream(
     rt: &System,
     archive: &str,
@@ -64,7 +60,6 @@ fn take_stream(
     Ok(true)
 }
 
-/// The name of the file that stands at a place of a row, if the column there is one of streams.
 fn file_at<'a>(table: &GivenTable, row: &'a [Value], place: usize) -> Option<&'a str> {
     match table.columns.get(place)?.coltype {
         ColumnType::Binary => row.get(place)?.as_str(),
@@ -72,8 +67,8 @@ fn file_at<'a>(table: &GivenTable, row: &'a [Value], place: usize) -> Option<&'a
     }
 }
 
-/// The name of a row's stream: its table and the values of its key, parted by dots. A stream that no row of a table has
-/// is named by the key alone.
+/// Returns the name of a row's stream: its table and the values of its key, separated by dots. A stream that no row of
+/// a table has is named by the key alone.
 fn stream_name(alloc: Global, table: &GivenTable, row: &[Value]) -> Result<String, AllocError> {
     let mut name = String::new(alloc);
     if table.name.as_str() != STREAMS {
@@ -90,7 +85,6 @@ fn stream_name(alloc: Global, table: &GivenTable, row: &[Value]) -> Result<Strin
     Ok(name)
 }
 
-/// The bytes of a file in the folder of an archive.
 fn read_file(rt: &System, archive: &str, file: &str) -> Result<Vec<u8>, Failure> {
     if !is_file_name(file) {
         return Err(Failure::rule("the archive's folder can't have this file"));
@@ -101,13 +95,12 @@ fn read_file(rt: &System, archive: &str, file: &str) -> Result<Vec<u8>, Failure>
     read_plain(rt, folder, path.as_str())
 }
 
-/// Whether a name is that of a file in a folder itself, and leads out of none.
+/// Returns whether a name is that of a file in a folder itself, and leads out of none.
 fn is_file_name(name: &str) -> bool {
     Path::new(name).file_name() == Some(name) && !name.contains('\\')
 }
 
-/// The bytes of a file that is no link, in a folder that is none, so that an archive gives no other files of the
-/// machine.
+/// Reads a file that is no link, in a folder that is none, so that an archive yields no other files of the machine.
 fn read_plain(rt: &System, folder: &str, path: &str) -> Result<Vec<u8>, Failure> {
     let is_folder = fs::symlink_metadata(&rt.rt, folder)?.is_dir();
     if !is_folder || !fs::symlink_metadata(&rt.rt, path)?.is_file() {

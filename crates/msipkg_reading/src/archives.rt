@@ -10,11 +10,6 @@ use msipkg_output::{Failure, PROPERTIES, System};
 use std::alloc::{AllocError, Global};
 use std::str;
 
-/// Adds what the text archive of a file gives, with the files of its streams.
-///
-/// # Errors
-/// Fails if the bytes are none, at their line and field, if the file of a stream can't be read or doesn't lie in the
-/// folder of the archive's streams, and if memory is refused.
 pub(crate) fn read_archive(
     rt: &System,
     path: &str,
@@ -25,7 +20,7 @@ pub(crate) fn read_archive(
     take_archive(rt, path, &archive, given)
 }
 
-/// Adds what an archive gives, which is lent, since its drop is a long one.
+/// Adds the contents of an archive, which is borrowed, since its drop is a long one.
 fn take_archive(
     rt: &System,
     path: &str,
@@ -39,7 +34,7 @@ fn take_archive(
     }
 }
 
-/// The archive that a file's bytes mean. `msiinfo` of msitools writes a null behind `_ForceCodepage`.
+/// Reads the archive of a file's bytes. `msiinfo` of msitools writes a null behind `_ForceCodepage`.
 fn archive_in(alloc: Global, path: &str, bytes: &[u8]) -> Result<Archive, Failure> {
     let text = text_in(alloc, bytes.strip_suffix(b"\0").unwrap_or(bytes))?;
     match read(alloc, text.as_str()) {
@@ -48,7 +43,6 @@ fn archive_in(alloc: Global, path: &str, bytes: &[u8]) -> Result<Archive, Failur
     }
 }
 
-/// The failure of an archive's error, at its line and field.
 fn failure_of(alloc: Global, path: &str, error: &ArchiveError) -> Failure {
     let failure = Failure::rule(error.reason().0);
     let Some(place) = error.place() else {
@@ -61,7 +55,7 @@ fn failure_of(alloc: Global, path: &str, error: &ArchiveError) -> Failure {
     }
 }
 
-/// The text of a file's bytes, in the code page that its third line names, or else in UTF-8, of which ASCII is a part.
+/// Reads a file's bytes in the code page that its third line names, or else in UTF-8, of which ASCII is a part.
 fn text_in(alloc: Global, bytes: &[u8]) -> Result<String, Failure> {
     let page = match page_number(bytes) {
         Some(number) => page_of(i32::from(number))?,
@@ -70,14 +64,13 @@ fn text_in(alloc: Global, bytes: &[u8]) -> Result<String, Failure> {
     Ok(page.decode(alloc, bytes)?)
 }
 
-/// The number in front of the third line.
+/// Returns the number at the beginning of the third line.
 fn page_number(bytes: &[u8]) -> Option<u16> {
     let line = bytes.split(|byte| *byte == b'\n').nth(2)?;
     let field = line.split(|byte| *byte == b'\t').next()?;
     str::from_utf8(field).ok()?.parse::<u16>().ok()
 }
 
-/// Adds the code page.
 fn take_page(archive: &Archive, given: &mut Given) -> Result<(), Failure> {
     if let Some(number) = archive.page() {
         given.page = Some(page_of(i32::from(number))?);
@@ -85,7 +78,7 @@ fn take_page(archive: &Archive, given: &mut Given) -> Result<(), Failure> {
     Ok(())
 }
 
-/// Adds the summary. A property that no call of the library sets, as a thumbnail, is passed over.
+/// Adds the summary. A property that no call of the library sets, such as a thumbnail, is passed over.
 fn take_summary(alloc: Global, archive: &Archive, given: &mut Given) -> Result<(), Failure> {
     given.has_summary = true;
     for row in archive.rows() {
@@ -99,7 +92,7 @@ fn take_summary(alloc: Global, archive: &Archive, given: &mut Given) -> Result<(
     Ok(())
 }
 
-/// The number and the text of a property. Null is the empty text.
+/// Returns the number and the text of a property. Null is the empty text.
 fn property_in(row: &[Value]) -> Option<(i32, &str)> {
     match row {
         [Value::Int(id), Value::Str(text)] => Some((*id, text.as_str())),
@@ -108,7 +101,6 @@ fn property_in(row: &[Value]) -> Option<(i32, &str)> {
     }
 }
 
-/// The name of the property of a number, if it can be set.
 fn name_of(id: i32) -> Option<&'static str> {
     for (known, name) in &PROPERTIES {
         if *known == id {
@@ -118,7 +110,7 @@ fn name_of(id: i32) -> Option<&'static str> {
     None
 }
 
-/// Adds a table and the streams of its rows. That of the streams that no row has is none itself.
+/// Adds a table and the streams of its rows. The table of the streams that no row has isn't added itself.
 fn take_table(
     rt: &System,
     path: &str,
@@ -134,7 +126,6 @@ fn take_table(
     Ok(())
 }
 
-/// Adds the rows of an archive to its table, and their streams.
 fn take_rows(
     rt: &System,
     path: &str,
@@ -149,7 +140,6 @@ fn take_rows(
     Ok(())
 }
 
-/// Adds the columns of an archive to its table.
 fn take_columns(alloc: Global, archive: &Archive, table: &mut GivenTable) -> Result<(), Failure> {
     if !are_keys(archive) {
         return Err(Failure::rule("its third line names a key that is no column"));
@@ -160,13 +150,11 @@ fn take_columns(alloc: Global, archive: &Archive, table: &mut GivenTable) -> Res
     Ok(())
 }
 
-/// Whether each name of a key is that of a column.
 fn are_keys(archive: &Archive) -> bool {
     let columns = archive.columns();
     archive.keys().iter().all(|key| columns.iter().any(|column| column.name() == key.as_str()))
 }
 
-/// A column that an archive describes.
 fn column_of(
     alloc: Global,
     archive: &Archive,

@@ -11,11 +11,8 @@ use std::alloc::{AllocError, Global};
 /// How long the texts of a key are at most, where the table is created.
 const KEY_LENGTH: usize = 255;
 
-/// Adds the table of a text. What is said of its columns is for a table that is created: the first is the key, those
-/// with numbers alone hold numbers and the others texts, and one with an empty field takes null.
-///
-/// # Errors
-/// Fails if a line can't be read or hasn't as many fields as the first, and if memory is refused.
+/// Adds the table of a text. If it is created, the first column is the key, columns with numbers alone hold numbers and
+/// the others texts, and one with an empty field takes null. Fails if a line hasn't as many fields as the first.
 pub(crate) fn read_csv(
     alloc: Global,
     path: &str,
@@ -32,7 +29,6 @@ pub(crate) fn read_csv(
     Ok(given.tables.push(table)?)
 }
 
-/// Adds the records of a text to its table.
 fn read_records(alloc: Global, bytes: &[u8], table: &mut GivenTable) -> Result<(), Failure> {
     let mut reader = ReaderBuilder::new()
         .has_headers(false)
@@ -49,7 +45,6 @@ fn read_records(alloc: Global, bytes: &[u8], table: &mut GivenTable) -> Result<(
     Ok(())
 }
 
-/// Adds the columns that the first record names, or the row of another one.
 fn add_record(alloc: Global, record: &StringRecord, table: &mut GivenTable) -> Result<(), Failure> {
     if table.columns.is_empty() {
         return Ok(add_columns(alloc, record, &mut table.columns)?);
@@ -58,7 +53,6 @@ fn add_record(alloc: Global, record: &StringRecord, table: &mut GivenTable) -> R
     table.add_row(alloc, row)
 }
 
-/// Adds columns of names.
 fn add_columns(
     alloc: Global,
     names: &StringRecord,
@@ -70,7 +64,7 @@ fn add_columns(
     Ok(())
 }
 
-/// The values of a record: texts and nulls, since which type a column has is known later.
+/// Returns the values of a record: texts and nulls, since the type of a column is known later.
 fn row_of(alloc: Global, record: &StringRecord) -> Result<Vec<Value>, Error> {
     let mut row = Vec::with_capacity(alloc, record.len())?;
     for field in record.iter() {
@@ -79,7 +73,6 @@ fn row_of(alloc: Global, record: &StringRecord) -> Result<Vec<Value>, Error> {
     Ok(row)
 }
 
-/// Says of columns what their values show.
 fn describe_columns(table: &mut GivenTable) {
     for i in 0..table.columns.len() {
         let rows = table.rows.as_slice();
@@ -93,7 +86,6 @@ fn describe_columns(table: &mut GivenTable) {
     }
 }
 
-/// The type of a column whose values are texts and nulls.
 fn type_of(rows: &[Vec<Value>], place: usize) -> ColumnType {
     let mut texts = rows
         .iter()
@@ -105,7 +97,6 @@ fn type_of(rows: &[Vec<Value>], place: usize) -> ColumnType {
     }
 }
 
-/// The text at a place of a row, or the empty text.
 fn text_at(row: &[Value], place: usize) -> &str {
     match row.get(place) {
         Some(Value::Str(text)) => text.as_str(),
@@ -113,7 +104,7 @@ fn text_at(row: &[Value], place: usize) -> &str {
     }
 }
 
-/// Whether a text is a number of 32 bits as it prints. One with zeros in front, say, is no number.
+/// Returns whether a text is a number of 32 bits as it prints. One with zeros in front, say, is no number.
 fn is_number(text: &str) -> bool {
     let digits = text.strip_prefix('-').unwrap_or(text);
     let is_plain = text == "0" || digits.starts_with(|c: char| matches!(c, '1'..='9'));

@@ -34,10 +34,6 @@ impl Drop for GivenColumn {
 }
 
 impl GivenColumn {
-    /// Returns a column of a name and a type, of which nothing else is said.
-    ///
-    /// # Errors
-    /// Fails if memory is refused.
     pub(crate) fn new(
         alloc: Global,
         name: &str,
@@ -78,10 +74,6 @@ impl Drop for GivenTable {
 }
 
 impl GivenTable {
-    /// Returns a table of a name, which a file gives. It has no columns and no rows yet.
-    ///
-    /// # Errors
-    /// Fails if memory is refused.
     pub(crate) fn new(alloc: Global, file: &str, name: &str) -> Result<GivenTable, AllocError> {
         let place = part_of(alloc, file, "table", name)?;
         Ok(GivenTable {
@@ -92,10 +84,6 @@ impl GivenTable {
         })
     }
 
-    /// Adds a row.
-    ///
-    /// # Errors
-    /// Fails at the row if it hasn't a value for each column, and if memory is refused.
     pub(crate) fn add_row(&mut self, alloc: Global, row: Vec<Value>) -> Result<(), Failure> {
         if row.len() != self.columns.len() {
             let failure = Failure::rule("it has another number of values than there are columns");
@@ -104,7 +92,6 @@ impl GivenTable {
         Ok(self.rows.push(row)?)
     }
 
-    /// Returns the name of the column at a place, or the empty text.
     pub(crate) fn column_at(&self, place: usize) -> &str {
         match self.columns.get(place) {
             Some(column) => column.name.as_str(),
@@ -199,7 +186,6 @@ impl Drop for Given {
 }
 
 impl Given {
-    /// Returns what no file gives.
     pub(crate) fn new(alloc: Global) -> Given {
         Given {
             page: None,
@@ -210,10 +196,6 @@ impl Given {
         }
     }
 
-    /// Adds a property to the summary.
-    ///
-    /// # Errors
-    /// Fails if memory is refused.
     pub(crate) fn add_property(
         &mut self,
         alloc: Global,
@@ -225,10 +207,6 @@ impl Given {
     }
 }
 
-/// Returns the code page of a number.
-///
-/// # Errors
-/// Fails if there is none.
 pub(crate) fn page_of(number: i32) -> Result<CodePage, Failure> {
     match CodePage::from_id(number) {
         Some(page) => Ok(page),

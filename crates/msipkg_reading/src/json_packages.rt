@@ -10,10 +10,6 @@ use msipkg_output::{Failure, PROPERTIES};
 use serde_json::Value;
 use std::alloc::{AllocError, Global};
 
-/// Adds what a text gives that is a package, or some of its tables, as JSON.
-///
-/// # Errors
-/// Fails if the text is none, at the table or the stream, and if memory is refused.
 pub(crate) fn read_json(
     alloc: Global,
     path: &str,
@@ -26,7 +22,6 @@ pub(crate) fn read_json(
     }
 }
 
-/// Adds what a package gives.
 fn read_package(
     alloc: Global,
     path: &str,
@@ -49,7 +44,6 @@ fn read_package(
     }
 }
 
-/// The code page of a whole package.
 fn page_in(package: &Value) -> Result<Option<CodePage>, Failure> {
     match package.get("codepage") {
         Some(number) => Ok(Some(page_of(number_of(number).unwrap_or(-1))?)),
@@ -57,7 +51,6 @@ fn page_in(package: &Value) -> Result<Option<CodePage>, Failure> {
     }
 }
 
-/// Adds the summary.
 fn read_summary(
     alloc: Global,
     path: &str,
@@ -78,7 +71,6 @@ fn read_summary(
     Ok(())
 }
 
-/// Adds streams.
 fn read_streams(
     alloc: Global,
     path: &str,
@@ -94,7 +86,6 @@ fn read_streams(
     Ok(())
 }
 
-/// A stream.
 fn stream_of(alloc: Global, path: &str, stream: &Value) -> Result<GivenStream, Failure> {
     let name = text_in(stream, "stream").unwrap_or("");
     let Some(text) = text_in(stream, "base64") else {
@@ -114,17 +105,14 @@ fn stream_of(alloc: Global, path: &str, stream: &Value) -> Result<GivenStream, F
     }
 }
 
-/// Returns the text of a member, if it is there and is one.
 pub(crate) fn text_in<'a>(object: &'a Value, name: &str) -> Option<&'a str> {
     object.get(name)?.as_str()
 }
 
-/// Returns the items of a member, if it is there and is a list.
 pub(crate) fn items_in<'a>(object: &'a Value, name: &str) -> Option<&'a [Value]> {
     Some(object.get(name)?.as_array()?.as_slice())
 }
 
-/// Returns a number of 32 bits, if it is one.
 pub(crate) fn number_of(value: &Value) -> Option<i32> {
     i32::try_from(value.as_i64()?).ok()
 }

@@ -8,10 +8,6 @@ use msipkg_output::Failure;
 use serde_json::Value as Json;
 use std::alloc::Global;
 
-/// Returns a table.
-///
-/// # Errors
-/// Fails if it isn't one as `export` writes it, at the row and the column, and if memory is refused.
 pub(crate) fn table_of(alloc: Global, path: &str, item: &Json) -> Result<GivenTable, Failure> {
     let mut table = GivenTable::new(alloc, path, text_in(item, "table").unwrap_or(""))?;
     read_columns(alloc, item, &mut table)?;
@@ -19,7 +15,7 @@ pub(crate) fn table_of(alloc: Global, path: &str, item: &Json) -> Result<GivenTa
     Ok(table)
 }
 
-/// Adds the columns. What their values are limited to stands in rows of `_Validation`, too, and is taken from there.
+/// Adds the columns. What their values are limited to is in rows of `_Validation`, too, and is taken from there.
 fn read_columns(alloc: Global, item: &Json, table: &mut GivenTable) -> Result<(), Failure> {
     let Some(columns) = items_in(item, "columns") else {
         return Err(table.at_table(alloc, Failure::rule("it has no list of columns")));
@@ -31,7 +27,6 @@ fn read_columns(alloc: Global, item: &Json, table: &mut GivenTable) -> Result<()
     Ok(())
 }
 
-/// A column.
 fn column_of(alloc: Global, item: &Json, table: &GivenTable) -> Result<GivenColumn, Failure> {
     let name = text_in(item, "column").unwrap_or("");
     let Some((letter, coltype)) = type_in(text_in(item, "type").unwrap_or("")) else {
@@ -45,7 +40,7 @@ fn column_of(alloc: Global, item: &Json, table: &GivenTable) -> Result<GivenColu
     Ok(column)
 }
 
-/// The letter of a type that the installer writes as a letter and a length, as `s72`, and the type.
+/// Reads a type that the installer writes as a letter and a length, as `s72`, and returns its letter too.
 fn type_in(text: &str) -> Option<(u8, ColumnType)> {
     let letter = text.as_bytes().first().copied()?;
     let length = text.get(1..)?.parse::<u16>().ok()?;
@@ -59,7 +54,6 @@ fn type_in(text: &str) -> Option<(u8, ColumnType)> {
     Some((letter, coltype))
 }
 
-/// Whether a member is there and true.
 fn is_true(object: &Json, name: &str) -> bool {
     match object.get(name) {
         Some(value) => value.as_bool() == Some(true),
@@ -67,7 +61,6 @@ fn is_true(object: &Json, name: &str) -> bool {
     }
 }
 
-/// Adds the rows.
 fn read_rows(alloc: Global, item: &Json, table: &mut GivenTable) -> Result<(), Failure> {
     let Some(rows) = items_in(item, "rows") else {
         return Err(table.at_table(alloc, Failure::rule("it has no list of rows")));
@@ -79,7 +72,6 @@ fn read_rows(alloc: Global, item: &Json, table: &mut GivenTable) -> Result<(), F
     Ok(())
 }
 
-/// The row that is next in a table.
 fn row_of(alloc: Global, item: &Json, table: &GivenTable) -> Result<Vec<Value>, Failure> {
     let Some(items) = item.as_array() else {
         let failure = Failure::rule("it has to be a list of values");

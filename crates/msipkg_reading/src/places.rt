@@ -3,10 +3,6 @@
 use msipkg_output::Failure;
 use std::alloc::{AllocError, Global};
 
-/// Returns the text of a part of a place: the place, of what kind the part is, and its name.
-///
-/// # Errors
-/// Fails if memory is refused.
 pub(crate) fn part_of(
     alloc: Global,
     place: &str,

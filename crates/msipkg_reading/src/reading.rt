@@ -21,7 +21,6 @@ pub fn read_files(rt: &System, paths: &[&str]) -> Result<Given, Failure> {
     Ok(given)
 }
 
-/// Adds what a file gives.
 fn read_file(rt: &System, path: &str, given: &mut Given) -> Result<(), Failure> {
     let bytes = rt.read(path)?;
     let name = Path::new(path);

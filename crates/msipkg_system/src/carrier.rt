@@ -36,7 +36,6 @@ impl Carrier {
         }
     }
 
-    /// Reads from wherever the package lies.
     fn read_on(&mut self, buf: &mut [u8]) -> io::Result<usize>
         ensures count { IfOk result (λ n. n ≤ length buf.old) }
         ensures failed { self.new.has_failed ≡ self.old.has_failed }
@@ -66,7 +65,7 @@ impl Source for Carrier {
         self.has_failed = false;
     }
 
-    /// A package is read once, so it stands at its beginning.
+    /// A package is read once, so it is at its beginning.
     fn rewind(&mut self) -> io::Result<()> {
         Ok(())
     }

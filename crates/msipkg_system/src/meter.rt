@@ -34,9 +34,6 @@ pub(crate) struct Meter {
 
 impl Meter {
     /// Returns the meter of a file that was opened just now.
-    ///
-    /// # Errors
-    /// Fails as the calls of the system do.
     pub(crate) fn of(rt: HostRuntime, file: &File) -> io::Result<Meter> {
         Ok(Meter {
             rt,
@@ -47,13 +44,12 @@ impl Meter {
         })
     }
 
-    /// Notes that so many bytes are to be written.
     pub(crate) fn expect(&mut self, bytes: usize) {
         self.total = self.done.saturating_add(as_count(bytes));
     }
 
-    /// Counts bytes that were read or written, and writes the line where it is time. Where there are no more, the line
-    /// is cleared.
+    /// Counts bytes that were read or written, and writes the line where it is time. Where no more follow, the line is
+    /// cleared.
     pub(crate) fn count(&mut self, bytes: usize, word: &'static str) {
         if bytes == 0 {
             return self.end();
@@ -67,7 +63,6 @@ impl Meter {
         }
     }
 
-    /// Writes the line.
     fn write_line(&mut self, word: &'static str) {
         self.has_line = true;
         let (done, total) = (self.done / MEGABYTE, self.total / MEGABYTE);
@@ -78,7 +73,6 @@ impl Meter {
         };
     }
 
-    /// Clears the line, if there is one.
     pub(crate) fn end(&mut self) {
         if self.has_line {
             self.has_line = false;
@@ -87,7 +81,6 @@ impl Meter {
     }
 }
 
-/// A number of bytes.
 fn as_count(bytes: usize) -> u64 {
     u64::try_from(bytes).unwrap_or(u64::MAX)
 }

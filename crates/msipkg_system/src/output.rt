@@ -151,7 +151,6 @@ impl Output {
         }
     }
 
-    /// Takes what failed.
     fn taken(&mut self) -> io::Result<()> {
         match mem::replace(&mut self.failure, None) {
             Some(error) => Err(error),
@@ -159,7 +158,6 @@ impl Output {
         }
     }
 
-    /// Keeps what failed, unless something did before.
     fn keep(&mut self, done: io::Result<()>) {
         if let Err(error) = done
             && self.failure.is_none()
@@ -168,7 +166,7 @@ impl Output {
         }
     }
 
-    /// Writes what is collected, if it is enough, or if nothing comes behind it since something failed.
+    /// Writes what is collected, if it is enough, or if nothing follows since something failed.
     fn pass_on(&mut self, done: io::Result<()>) {
         if done.is_err() {
             self.write_out();
@@ -178,7 +176,6 @@ impl Output {
         }
     }
 
-    /// Writes what is collected, if it is enough.
     fn pass_full(&mut self) {
         if self.bytes.len() >= CAPACITY || matches!(self.sink, Sink::Messages(_)) {
             self.write_out();
@@ -198,7 +195,6 @@ impl Output {
         self.bytes.clear();
     }
 
-    /// Writes what is collected.
     fn written(&mut self) -> io::Result<()> {
         let bytes = self.bytes.as_slice();
         match &mut self.sink {
@@ -210,7 +206,7 @@ impl Output {
     }
 }
 
-/// Whether writing failed since the reader of standard output has gone away.
+/// Returns whether writing failed since the reader of standard output has gone away.
 fn is_broken(sink: &Sink, done: &io::Result<()>) -> bool {
     match done {
         Ok(()) => false,

@@ -64,8 +64,8 @@ impl System {
         Ok(self.watched(file))
     }
 
-    /// The bytes of standard input as a file. It has a copy, since a type with a borrow of them can't be written to by
-    /// `write!` in a proved function.
+    /// Returns the bytes of standard input as a file. It has a copy, since a type with a borrow of them can't be
+    /// written to by `write!` in a proved function.
     fn opened_input(&self, bytes: &[u8]) -> io::Result<SystemFile> {
         let mut copy = Vec::new(self.alloc());
         copy.extend_from_slice(bytes)?;
@@ -118,7 +118,7 @@ impl System {
         thread::sleep(&self.rt, Duration::from_millis(milliseconds));
     }
 
-    /// A file that was opened just now, watched where that is asked for and the system tells the time.
+    /// Returns a file that was opened just now, watched where that is asked for and the system reports the time.
     fn watched(&self, file: File) -> SystemFile {
         let meter = if self.is_shown {
             Meter::of(self.rt, &file).ok()
@@ -141,7 +141,7 @@ pub fn path_in(alloc: Global, folder: &str, name: &str) -> Result<String, AllocE
     format!(in alloc; "{folder}/{name}")
 }
 
-/// Gives a file the owner and the group of another one, or the group alone, where the user may.
+/// Sets the owner and the group of a file to those of another one, or the group alone, where the user may.
 fn take_owner(file: &File, other: &Metadata) -> io::Result<()> {
     let own = file.metadata()?;
     if own.uid() == other.uid() && own.gid() == other.gid() {
@@ -153,7 +153,6 @@ fn take_owner(file: &File, other: &Metadata) -> io::Result<()> {
     Ok(())
 }
 
-/// The bits of permissions that a file may take over from another one.
 fn kept_bits(own: &Metadata, other: &Metadata) -> u32 {
     let mut bits = 0o7777;
     if own.uid() != other.uid() {
@@ -191,14 +190,12 @@ impl Drop for SystemFile {
 }
 
 impl SystemFile {
-    /// Counts bytes that were read or written, as the word says.
     fn count(&mut self, bytes: usize, word: &'static str) {
         if let Some(meter) = &mut self.meter {
             meter.count(bytes, word);
         }
     }
 
-    /// The file, if it isn't standard input.
     fn file(&self) -> io::Result<&File> {
         match &self.source {
             Source::File(file) => Ok(file),
@@ -206,7 +203,6 @@ impl SystemFile {
         }
     }
 
-    /// The file, to write to it, if it isn't standard input.
     fn file_mut(&mut self) -> io::Result<&mut File> {
         match &mut self.source {
             Source::File(file) => Ok(file),

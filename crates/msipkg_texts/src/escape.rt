@@ -67,7 +67,6 @@ impl fmt::Display for Shown<'_> {
     }
 }
 
-/// Writes a character, or its escape.
 fn write_escaped<W: fmt::Write>(
     escapes: Escapes,
     c: char,
@@ -102,7 +101,7 @@ impl Write for Counter {
     }
 }
 
-/// How many columns of a terminal a text takes: a wide character takes two, and a combining mark none.
+/// Returns how many columns of a terminal a text takes: a wide character takes two, and a combining mark none.
 pub(crate) fn columns_of(text: &str) -> usize {
     if text.is_ascii() {
         text.len()
@@ -121,8 +120,8 @@ pub(crate) fn is_plain(escapes: Escapes, text: &str) -> bool {
     }
 }
 
-/// Whether a text has a byte below the blank. All bytes are looked at, which takes less time than stopping at the first
-/// one, since most texts have none.
+/// Returns whether a text has a byte below the blank. All bytes are looked at, which takes less time than stopping at
+/// the first one, since most texts have none.
 fn has_control(text: &str) -> bool {
     let mut is_found = false;
     for byte in text.bytes() {
@@ -131,14 +130,13 @@ fn has_control(text: &str) -> bool {
     is_found
 }
 
-/// Whether a text has a character that ends a line, or a field of one.
 fn has_break(text: &str) -> bool {
     text.bytes()
         .any(|byte| matches!(byte, b'\n' | b'\r' | b'\t'))
 }
 
 /// Returns whether a text is ASCII without control characters: then it is as wide as it has bytes. All bytes are looked
-/// at here, too.
+/// at.
 pub(crate) fn is_printable(text: &str) -> bool {
     let mut is_so = true;
     for byte in text.bytes() {

@@ -85,7 +85,7 @@ impl Grid {
         self.end_text(done);
     }
 
-    /// Notes that the next text of a row ends where the texts end now.
+    /// Notes that the next text of a row ends at the current end of the texts.
     fn end_text(&mut self, done: Result<(), AllocError>) {
         let start = end_of(self.cells.as_slice());
         let end = self.texts.len();
@@ -107,8 +107,8 @@ impl Grid {
         }
     }
 
-    /// Writes the head, a line of dashes and the rows. Each column is as wide as its widest text, and the last isn't
-    /// filled up. Where memory was refused, the output gets that in their place.
+    /// Writes the head, a line of dashes and the rows. The last column isn't filled up. Where memory was refused, the
+    /// output gets that in their place.
     fn write(&self, output: &mut Output) {
         match self.widths() {
             Ok(widths) => self.write_aligned(&widths, output),
@@ -116,7 +116,6 @@ impl Grid {
         }
     }
 
-    /// The widths of the columns, if all texts are there.
     fn widths(&self) -> Result<Widths, AllocError> {
         if self.is_cut {
             return Err(AllocError);
@@ -128,12 +127,10 @@ impl Grid {
         Ok(widths)
     }
 
-    /// The text between two places.
     fn text_of(&self, start: usize, end: usize) -> &str {
         self.texts.as_str().get(start..end).unwrap_or("")
     }
 
-    /// Writes the head, a line of dashes and the rows, the columns as wide as given.
     fn write_aligned(&self, widths: &Widths, output: &mut Output) {
         let mut start = 0;
         for (number, row) in self.cells.as_slice().chunks(self.width.max(1)).enumerate() {
@@ -145,7 +142,6 @@ impl Grid {
         }
     }
 
-    /// Writes a row whose first text begins at a place, its texts filled up but for the last.
     fn write_row(&self, start: usize, row: &[Cell], widths: &Widths, output: &mut Output) {
         let mut start = start;
         for (column, cell) in row.iter().enumerate() {
@@ -156,7 +152,7 @@ impl Grid {
         output.push_str("\n");
     }
 
-    /// Writes the rows without the head, their texts parted by tabs.
+    /// Writes the rows without the head, their texts separated by tabs.
     fn write_parted(&self, output: &mut Output) {
         let mut start = 0;
         for (number, row) in self.cells.as_slice().chunks(self.width.max(1)).enumerate() {
@@ -167,7 +163,6 @@ impl Grid {
         }
     }
 
-    /// Writes a row whose first text begins at a place, its texts parted by tabs.
     fn write_parted_row(&self, start: usize, row: &[Cell], output: &mut Output) {
         let (mut start, mut before) = (start, "");
         for cell in row {
@@ -180,7 +175,6 @@ impl Grid {
     }
 }
 
-/// Where the last of some texts ends.
 fn end_of(cells: &[Cell]) -> usize {
     match cells.last() {
         Some(cell) => cell.end,
@@ -188,7 +182,6 @@ fn end_of(cells: &[Cell]) -> usize {
     }
 }
 
-/// Makes columns wide enough for a row.
 fn widen(widths: &mut Widths, row: &[Cell]) {
     for (column, cell) in row.iter().enumerate() {
         widths.widen(column, cell.width);

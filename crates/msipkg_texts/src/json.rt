@@ -148,14 +148,12 @@ impl JsonObject {
         output.push_str("\n");
     }
 
-    /// Puts the name of a member.
     fn put_name(&mut self, name: &str) {
         self.separate();
         self.push_quoted(name);
         self.push(":");
     }
 
-    /// Puts a comma behind what stands in front.
     fn separate(&mut self) {
         if !self.is_first {
             self.push(",");
@@ -213,7 +211,6 @@ pub fn write_quoted(alloc: Global, style: Style, text: &str, output: &mut Output
     }
 }
 
-/// Whether a byte stands for itself in a JSON string, wherever it is printed.
 fn is_plain(style: Style, byte: u8) -> bool {
     byte >= 0x20 && byte != b'"' && byte != b'\\' && (byte < 0x7F || !style.escapes_hidden())
 }
@@ -228,7 +225,6 @@ pub fn write_text(style: Style, json: &str, output: &mut Output) {
     }
 }
 
-/// Writes JSON with escapes in place of hidden characters.
 fn write_escaped(json: &str, output: &mut Output) {
     for c in json.chars() {
         if is_hidden(c) {

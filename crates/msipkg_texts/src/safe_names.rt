@@ -48,7 +48,6 @@ pub enum Ending {
     Idt,
 }
 
-/// The characters of an ending.
 fn ending_text(ending: Ending) -> &'static str
     ensures text { result.now ≡ ending_of ending }
     ensures safe { list_all is_safe result.now ≡ true }
@@ -133,7 +132,6 @@ impl SafeNames {
         Ok(spelled)
     }
 
-    /// Notes a name, and returns whether it wasn't given out before.
     fn take(&mut self, name: &str) -> Result<bool, AllocError>
         ensures fresh { IfOk result (λ fresh. fresh ≡ not (is_taken self.old name.now)) }
         ensures taken { OnOk result (Takes self.old self.new name.now) }
@@ -196,22 +194,21 @@ fn finished(alloc: Global, text: String) -> Result<SafeName, AllocError>
     Ok(SafeName { text })
 }
 
-/// Whether a character may stand for itself at its place. A blank or a dot at the ends may not, nor the first character
-/// of a device's name.
+/// Returns whether a character needs no escape at its place. A blank or a dot at the ends needs one, and so does the
+/// first character of a device's name.
 fn may_stand(c: char, is_first: bool, is_last: bool, is_device: bool) -> bool
     ensures { result ≡ stands c is_first is_last is_device }
 {
     !(is_blank(c) && (is_first || is_last)) && !(is_device && is_first)
 }
 
-/// Whether a character may stand for itself at each place of a name in which letters are escaped, too.
+/// Returns whether a character needs no escape at any place of a name in which letters are escaped, too.
 fn may_stand_anywhere(c: char) -> bool
     ensures { result ≡ stands_anywhere c }
 {
     !c.is_ascii_alphabetic() && !is_blank(c)
 }
 
-/// Whether a character may stand for itself.
 fn is_plain(c: char) -> bool
     ensures { result ≡ is_plain_char c }
 {
@@ -222,14 +219,13 @@ fn is_plain(c: char) -> bool
         )
 }
 
-/// Whether a character may not stand for itself at the ends of a name.
+/// Returns whether a character needs an escape at the ends of a name.
 fn is_blank(c: char) -> bool
     ensures { result ≡ is_blank_char c }
 {
     matches!(c, '.' | ' ')
 }
 
-/// Puts a character, or its escape if it may not stand for itself.
 fn push_spelled(safe: &mut String, c: char, may_stand: bool) -> Result<(), AllocError>
     ensures { OnOk result (string_bytes safe.new ≡ string_bytes safe.old ++ spelled may_stand c) }
 {
@@ -240,7 +236,6 @@ fn push_spelled(safe: &mut String, c: char, may_stand: bool) -> Result<(), Alloc
     }
 }
 
-/// Puts the escape of a character.
 fn push_escape(safe: &mut String, c: char) -> Result<(), AllocError>
     ensures { OnOk result (string_bytes safe.new ≡ string_bytes safe.old ++ escape c) }
 {
@@ -255,7 +250,7 @@ fn push_escape(safe: &mut String, c: char) -> Result<(), AllocError>
     safe.push('}')
 }
 
-/// Puts a number to the base 16, without zeros in front.
+/// Adds a number to the base 16, without zeros in front.
 fn push_number(safe: &mut String, number: u32) -> Result<(), AllocError>
     ensures { 0 < number → OnOk result (string_bytes safe.new ≡ string_bytes safe.old ++ hexadecimal number) }
 {
@@ -268,14 +263,12 @@ fn push_number(safe: &mut String, number: u32) -> Result<(), AllocError>
     push_digit(safe, number)
 }
 
-/// Puts the last digit of a number to the base 16.
 fn push_digit(safe: &mut String, number: u32) -> Result<(), AllocError>
     ensures { OnOk result (string_bytes safe.new ≡ string_bytes safe.old ++ digit_char (number % 16) ∷ []) }
 {
     safe.push(digit((number % 16) as u8))
 }
 
-/// A digit.
 fn digit(number: u8) -> char
     requires { number < 16 }
     ensures { result ≡ digit_char number }
@@ -287,7 +280,6 @@ fn digit(number: u8) -> char
     }
 }
 
-/// Whether the name up to its first dot is that of a device.
 fn names_device(name: &str) -> bool
     ensures { result ≡ is_name_of_device name.now }
 {
@@ -297,21 +289,18 @@ fn names_device(name: &str) -> bool
     }
 }
 
-/// Whether a name is that of a device.
 fn is_device(name: &str) -> bool
     ensures { result ≡ list_any (λ device. str_eq_ignore_ascii_case device name.now) devices }
 {
     is_one_of(&DEVICES, name)
 }
 
-/// Whether a name is one of these words, where case doesn't matter.
 fn is_one_of(words: &[&str], name: &str) -> bool
     ensures { result ≡ list_any (λ word. str_eq_ignore_ascii_case word.now name.now) words.now }
 {
     words.iter().any(|word| is_same(word, name))
 }
 
-/// Whether two words differ at most in the case of their letters.
 fn is_same(word: &str, other: &str) -> bool
     ensures { result ≡ str_eq_ignore_ascii_case word.now other.now }
 {

@@ -78,7 +78,6 @@ impl Widths {
     }
 }
 
-/// Writes so many of the same characters, by pieces.
 fn write_filled(piece: &[u8; PIECE], count: usize, output: &mut Output) {
     for _ in 0..count / PIECE {
         output.push_bytes(piece.as_slice());

@@ -47,7 +47,6 @@ impl Drop for Splitter {
 }
 
 impl Splitter {
-    /// Returns the words.
     fn into_words(self) -> Vec<String> {
         let Splitter {
             alloc: _,
@@ -59,7 +58,6 @@ impl Splitter {
         words
     }
 
-    /// Takes a line.
     fn take_all(&mut self, line: &str) -> Result<(), AllocError> {
         for c in line.chars() {
             self.take(c)?;
@@ -67,7 +65,6 @@ impl Splitter {
         self.end()
     }
 
-    /// Takes a character.
     fn take(&mut self, c: char) -> Result<(), AllocError> {
         match self.quote {
             Some(quote) if c == quote => self.quote = None,
@@ -88,7 +85,6 @@ impl Splitter {
         self.word.push(c)
     }
 
-    /// Ends the word, if one has begun.
     fn end(&mut self) -> Result<(), AllocError> {
         if self.is_begun {
             let next = String::new(self.alloc);

@@ -448,8 +448,8 @@ static EXCHANGE_COMMANDS: [Row; 4] = [
     },
 ];
 
-/// The commands. Proofs go through all rows in each function that names a table, with a cost by their square. So there
-/// are four tables, and a function for each.
+/// Returns the commands. Proofs go through all rows in each function that names a table, with a cost by their square.
+/// So there are four tables, and a function for each.
 fn commands() -> [&'static [Row]; 4] {
     [
         table_commands(),
@@ -459,22 +459,18 @@ fn commands() -> [&'static [Row]; 4] {
     ]
 }
 
-/// The commands of tables.
 fn table_commands() -> &'static [Row] {
     TABLE_COMMANDS.as_slice()
 }
 
-/// The commands of other parts.
 fn part_commands() -> &'static [Row] {
     PART_COMMANDS.as_slice()
 }
 
-/// The commands that change packages.
 fn change_commands() -> &'static [Row] {
     CHANGE_COMMANDS.as_slice()
 }
 
-/// The commands of several files.
 fn exchange_commands() -> &'static [Row] {
     EXCHANGE_COMMANDS.as_slice()
 }
@@ -497,7 +493,6 @@ pub fn verb_named(name: &str) -> Option<Verb> {
     None
 }
 
-/// The program with its commands.
 fn program<'a>(alloc: Global) -> Result<Command<'a>, AllocError> {
     let mut program = Command::new(alloc, "msipkg")
         .bin_name("msipkg")?
@@ -512,7 +507,6 @@ fn program<'a>(alloc: Global) -> Result<Command<'a>, AllocError> {
     Ok(program)
 }
 
-/// The command of a row.
 fn command_of<'a>(alloc: Global, row: &Row) -> Result<Command<'a>, AllocError> {
     let mut command = Command::new(alloc, row.name).about(row.about);
     for argument in row.arguments {
@@ -521,7 +515,6 @@ fn command_of<'a>(alloc: Global, row: &Row) -> Result<Command<'a>, AllocError> {
     Ok(command)
 }
 
-/// The argument of a row.
 fn arg_of<'a>(alloc: Global, argument: &Argument) -> Result<Arg<'a>, AllocError> {
     let id = argument.id;
     let arg = Arg::new(alloc, id).help(argument.help);
@@ -550,7 +543,6 @@ fn arg_of<'a>(alloc: Global, argument: &Argument) -> Result<Arg<'a>, AllocError>
     })
 }
 
-/// An argument that takes several words.
 fn several<'a>(arg: Arg<'a>) -> Arg<'a> {
     arg.num_args(1usize..).action(ArgAction::Append)
 }

@@ -9,8 +9,6 @@ use transcripts_words::files;
 use transcripts_words::tokens::tokens;
 use transcripts_words::words::Words;
 
-/// Makes a call, and prints its answer as lines. Fails if the line can't be read, if the call is refused, and if memory
-/// runs out.
 pub(crate) fn make(
     rt: &HostRuntime,
     session: &mut Session,
@@ -31,7 +29,6 @@ pub(crate) fn make(
     answer.check()
 }
 
-/// Makes a call without a statement.
 fn make_call(
     rt: &HostRuntime,
     session: &mut Session,
@@ -58,7 +55,6 @@ fn make_call(
     }
 }
 
-/// Makes a call that prints nothing of its own.
 fn make_silent(session: &mut Session, verb: &str, words: &mut Words) -> Result<(), Failure> {
     if packages::VERBS.contains(&verb) {
         return packages::make(session, verb, words);
@@ -66,8 +62,8 @@ fn make_silent(session: &mut Session, verb: &str, words: &mut Words) -> Result<(
     Ok(changes::make(session.package_mut()?, verb, words)?)
 }
 
-/// Counts the cells of a package anew, and prints how many counts changed; or how many calls or writes the device got
-/// that was closed last.
+/// Counts the cells of a package anew, and prints how many counts changed; or prints how many calls or writes the
+/// device got that was closed last.
 fn print_count(session: &mut Session, verb: &str, answer: &mut Answer) -> Result<(), Failure> {
     match verb {
         "recount" => write!(answer, "{}", session.package_mut()?.recount()?),

@@ -23,7 +23,6 @@ pub(crate) static VERBS: [&str; 11] = [
     "flush",
 ];
 
-/// Makes a change. Fails if the call is refused, and if memory runs out.
 pub(crate) fn make(
     package: &mut Package<Counting>,
     verb: &str,
@@ -43,13 +42,11 @@ pub(crate) fn make(
     }
 }
 
-/// Creates a table.
 fn create_table(package: &mut Package<Counting>, words: &mut Words) -> Result<(), Error> {
     let name = words.name();
     package.create_table(name, columns(words)?)
 }
 
-/// Inserts a row for each number of a range.
 fn fill(package: &mut Package<Counting>, words: &mut Words) -> Result<(), Error> {
     let query = Insert::into(words.alloc, words.name())?;
     package.insert_rows(query.rows(rows(words)?)?)

@@ -59,8 +59,8 @@ impl Write for Output<'_> {
     }
 }
 
-/// Runs a command, whose standard input stands behind `<`, and prints what it prints, its line of errors, and the
-/// status if that isn't 0.
+/// Runs a command, whose standard input is behind `<`, and prints what it prints, its line of errors, and the status if
+/// that isn't 0.
 pub(crate) fn make(
     rt: &HostRuntime,
     kept: &Kept,
@@ -81,7 +81,6 @@ pub(crate) fn make(
     Ok(())
 }
 
-/// What standard input moves.
 fn moved_by<'a>(verb: &str, words: &mut Words<'a>) -> Option<(&'a str, &'a str)> {
     match verb {
         "msidb_broken" => Some(("", "")),
@@ -90,7 +89,6 @@ fn moved_by<'a>(verb: &str, words: &mut Words<'a>) -> Option<(&'a str, &'a str)>
     }
 }
 
-/// The words of a command, as the program is handed them.
 fn command(words: &mut Words) -> Result<Vec<String>, AllocError> {
     let mut command = Vec::new(words.alloc);
     for _ in 0..words.len() {
@@ -104,7 +102,7 @@ fn command(words: &mut Words) -> Result<Vec<String>, AllocError> {
     Ok(command)
 }
 
-/// Runs a command, and prints what comes of it. Where it fails, its file has to be as it was.
+/// Runs a command, and prints its outcome. Where it fails, its file has to be as it was.
 fn run_on(
     rt: &HostRuntime,
     command: &[String],
@@ -131,7 +129,6 @@ fn run_on(
     }
 }
 
-/// The bytes of a command's file, or none where it can't be read.
 fn file_of(rt: &HostRuntime, command: &[String]) -> Vec<u8> {
     let path = command.get(1).map_or("", |path| path.as_str());
     fs::read(rt, path).unwrap_or(Vec::new(rt.alloc()))

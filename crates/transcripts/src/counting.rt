@@ -29,7 +29,7 @@ pub(crate) struct Counting {
 }
 
 impl Counting {
-    /// A device over these bytes, whose reads give all that there is room for. Its fault is a broken pipe.
+    /// Returns a device over these bytes, whose reads return all that there is room for. Its fault is a broken pipe.
     pub(crate) fn new(bytes: Vec<u8>, most: usize, failing: usize) -> Counting {
         Counting {
             memory: Memory::from_vec(bytes),

@@ -12,8 +12,6 @@ use transcripts_words::reports::Report;
 use transcripts_words::tokens::tokens;
 use transcripts_words::words::Words;
 
-/// Opens a stream, and makes the calls below. Fails if the line opens none, if there is no package, if memory runs out,
-/// and if nothing can be printed.
 pub(crate) fn run(
     rt: &HostRuntime,
     report: &mut Report,
@@ -32,7 +30,6 @@ pub(crate) fn run(
     }
 }
 
-/// Checks how a stream was opened.
 fn check(
     rt: &HostRuntime,
     report: &mut Report,
@@ -45,7 +42,6 @@ fn check(
     report.check(rt, line, rest, outcome, &mut answer)
 }
 
-/// Opens a stream for writing, and makes the calls below.
 fn write(
     rt: &HostRuntime,
     report: &mut Report,
@@ -82,7 +78,6 @@ fn write(
     Ok(())
 }
 
-/// Makes a call on a writer.
 fn write_line(
     rt: &HostRuntime,
     report: &Report,
@@ -123,7 +118,6 @@ fn try_call(
     make_write(rt.alloc(), kept, stream, text, answer)
 }
 
-/// Returns the bytes and the position of a writer.
 fn picture(alloc: Global, stream: StreamWriter) -> Result<Vec<u8>, Failure> {
     let mut bytes = Vec::from_slice(alloc, stream.as_slice())?;
     let place = stream.seek(SeekFrom::Current(0))?;
@@ -157,7 +151,6 @@ fn make_write(
     answer.check()
 }
 
-/// Opens a stream for reading, and makes the calls below.
 fn read(
     rt: &HostRuntime,
     report: &mut Report,
@@ -204,7 +197,6 @@ fn make_read(
     answer.check()
 }
 
-/// Reads once, into so many bytes.
 fn read_piece(alloc: Global, stream: &mut StreamReader, len: usize) -> Result<Vec<u8>, Failure> {
     let mut piece = vec![in alloc; 0; len]?;
     let count = stream.read(piece.as_mut_slice())?;
@@ -212,7 +204,6 @@ fn read_piece(alloc: Global, stream: &mut StreamReader, len: usize) -> Result<Ve
     Ok(piece)
 }
 
-/// Reads to the end, in pieces of at most so many bytes.
 fn read_all(alloc: Global, stream: &mut StreamReader, len: usize) -> Result<Vec<u8>, Failure> {
     let mut all = Vec::new(alloc);
     for _ in 0..u64::MAX {

@@ -19,10 +19,6 @@ fn run_file(rt: &HostRuntime, file: &str, is_trial: bool) -> Result<bool, Failur
     Ok(differing == 0 && answers > 0)
 }
 
-/// Runs the transcripts in files, and returns whether each answer is as expected.
-///
-/// # Errors
-/// Fails if a file can't be read or isn't a transcript, if printing fails, and if memory is refused.
 pub(crate) fn run_files(
     rt: &HostRuntime,
     files: &[String],

@@ -27,7 +27,6 @@ pub(crate) static VERBS: [&str; 13] = [
     "summary",
 ];
 
-/// Prints the answer of a call that looks at a package. Fails if the call is refused, and if memory runs out.
 pub(crate) fn print(
     package: &Package<Counting>,
     verb: &str,
@@ -52,14 +51,12 @@ pub(crate) fn print(
     Ok(())
 }
 
-/// Prints the names of tables, each as a line.
 fn print_tables(answer: &mut Answer, package: &Package<Counting>) {
     for table in package.tables() {
         writeln!(answer, "{}", table.name());
     }
 }
 
-/// Prints the columns of a table.
 fn print_table(answer: &mut Answer, package: &Package<Counting>, name: &str) {
     match package.get_table(name) {
         Some(table) => print_columns(answer, table.columns()),
@@ -67,7 +64,7 @@ fn print_table(answer: &mut Answer, package: &Package<Counting>, name: &str) {
     }
 }
 
-/// Prints where the key columns of a table stand, from 0 on.
+/// Prints the places of the key columns of a table, from 0 on.
 fn print_keys(
     answer: &mut Answer,
     package: &Package<Counting>,
@@ -85,7 +82,6 @@ fn print_keys(
     Ok(())
 }
 
-/// Prints the names of streams, each as a line.
 fn print_streams(answer: &mut Answer, streams: Streams) -> Result<(), Error> {
     for name in streams {
         writeln!(answer, "{:?}", name?.as_str());
@@ -96,7 +92,6 @@ fn print_streams(answer: &mut Answer, streams: Streams) -> Result<(), Error> {
     Ok(())
 }
 
-/// Prints the bytes of a stream.
 fn print_stream(
     answer: &mut Answer,
     package: &Package<Counting>,

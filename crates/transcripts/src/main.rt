@@ -25,7 +25,6 @@ use std::env;
 use std::process::ExitCode;
 use transcripts_words::failure::Failure;
 
-/// Does what the arguments ask for, and returns the exit status.
 fn run(rt: &HostRuntime) -> Result<u8, Failure> {
     let words: Vec<String> = env::args(rt)?.skip(1).collect(rt.alloc())?;
     let Some((verb, files)) = words.as_slice().split_first() else {

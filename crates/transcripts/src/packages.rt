@@ -17,8 +17,6 @@ pub(crate) static VERBS: [&str; 6] = [
     "into_inner",
 ];
 
-/// Makes a call that makes a package or ends one, or says what the next device does. Fails if the call is refused, and
-/// if memory runs out.
 pub(crate) fn make(session: &mut Session, verb: &str, words: &mut Words) -> Result<(), Failure> {
     match verb {
         "device" => {
@@ -35,7 +33,6 @@ pub(crate) fn make(session: &mut Session, verb: &str, words: &mut Words) -> Resu
     }
 }
 
-/// Reads what a package is for.
 fn package_type(words: &mut Words) -> PackageType {
     match words.word() {
         "Installer" => PackageType::Installer,
@@ -48,7 +45,6 @@ fn package_type(words: &mut Words) -> PackageType {
     }
 }
 
-/// Creates a package, over bytes that the device has already.
 fn create(session: &mut Session, words: &mut Words) -> Result<(), Failure> {
     let kind = package_type(words);
     let _ = words.takes("over");
@@ -58,7 +54,6 @@ fn create(session: &mut Session, words: &mut Words) -> Result<(), Failure> {
     Ok(())
 }
 
-/// Opens the package in bytes that are kept.
 fn open(session: &mut Session, words: &mut Words) -> Result<(), Failure> {
     let bytes = Vec::from_slice(words.alloc, session.kept.bytes(words.name())?)?;
     let device = session.device(words.alloc, bytes);

@@ -9,8 +9,8 @@ use transcripts_values::rows::print_rows;
 use transcripts_words::answers::Answer;
 use transcripts_words::failure::Failure;
 
-/// Returns all that the package of a session answers, and the bytes that a flush would write; none if there is none.
-/// Fails if memory runs out, and if something can't be read.
+/// Returns all that the package of a session answers, and the bytes that a flush would write; none if there is no
+/// package.
 pub(crate) fn picture(alloc: Global, session: &Session) -> Result<Vec<u8>, Failure> {
     match &session.package {
         Some(package) => picture_of(alloc, package),
@@ -18,7 +18,6 @@ pub(crate) fn picture(alloc: Global, session: &Session) -> Result<Vec<u8>, Failu
     }
 }
 
-/// Returns all that a package answers, and the bytes that a flush would write.
 fn picture_of(alloc: Global, package: &Package<Counting>) -> Result<Vec<u8>, Failure> {
     let mut picture = package.image(0)?;
     add_answers(alloc, &mut picture, package)?;
@@ -26,7 +25,6 @@ fn picture_of(alloc: Global, package: &Package<Counting>) -> Result<Vec<u8>, Fai
     Ok(picture)
 }
 
-/// Adds what a package answers without memory, and its tables.
 fn add_answers(
     alloc: Global,
     picture: &mut Vec<u8>,
@@ -42,7 +40,6 @@ fn add_answers(
     Ok(())
 }
 
-/// Prints what a package answers without memory.
 fn print_facts(answer: &mut Answer, package: &Package<Counting>) {
     let page = package.database_codepage().id();
     let is_writable = package.is_writable();
@@ -51,7 +48,6 @@ fn print_facts(answer: &mut Answer, package: &Package<Counting>) {
     write!(answer, "{page} {is_writable} {has_failed} {title:?}");
 }
 
-/// Prints a table: its name, and its rows.
 fn print_table(
     alloc: Global,
     answer: &mut Answer,
@@ -63,7 +59,6 @@ fn print_table(
     print_rows(answer, package.select_rows(query)?)
 }
 
-/// Adds each stream: its name and its bytes.
 fn add_streams(
     picture: &mut Vec<u8>,
     package: &Package<Counting>,

@@ -38,13 +38,11 @@ impl Drop for Session {
 /// The failure of a call that needs a package.
 pub(crate) const NO_PACKAGE: Failure = Failure::Unreadable("there is no package");
 
-/// Returns a device over no bytes, which takes and gives all, and never fails.
 fn plain(alloc: Global) -> Counting {
     Counting::new(Vec::new(alloc), usize::MAX, 0)
 }
 
 impl Session {
-    /// Returns a session without a package or bytes.
     pub(crate) fn new(alloc: Global) -> Session {
         Session {
             package: None,
@@ -55,22 +53,19 @@ impl Session {
         }
     }
 
-    /// Returns the package. Fails if there is none.
     pub(crate) fn package(&self) -> Result<&Package<Counting>, Failure> {
         self.package.as_ref().ok_or(NO_PACKAGE)
     }
 
-    /// Returns the package, to be changed. Fails if there is none.
     pub(crate) fn package_mut(&mut self) -> Result<&mut Package<Counting>, Failure> {
         self.package.as_mut().ok_or(NO_PACKAGE)
     }
 
-    /// Takes the package out.
     pub(crate) fn take(&mut self) -> Result<Package<Counting>, Failure> {
         self.package.take().ok_or(NO_PACKAGE)
     }
 
-    /// Returns a device over these bytes. The one behind it is plain again.
+    /// Returns a device over these bytes. The next one is plain again.
     pub(crate) fn device(&mut self, alloc: Global, bytes: Vec<u8>) -> Counting {
         let mut device = mem::replace(&mut self.next, plain(alloc));
         device.memory = Memory::from_vec(bytes);

@@ -14,9 +14,8 @@ pub(crate) static VERBS: [&str; 8] = [
     "SELECT", "INSERT", "UPDATE", "DELETE", "names", "count", "values", "evaluate",
 ];
 
-/// Runs a statement, `SELECT * FROM Numbers`, or one behind what to print of its rows, as in
-/// `values Number SELECT * FROM Numbers`. Prints its answer, or where its text is refused. Fails if there is no
-/// package, if the statement is refused, and if memory runs out.
+/// Runs a statement, `SELECT * FROM Numbers`, or one behind what to print of its rows, as in `values Number SELECT *
+/// FROM Numbers`. Prints its answer, or where its text is refused.
 pub(crate) fn make(
     alloc: Global,
     session: &mut Session,
@@ -44,7 +43,6 @@ pub(crate) fn make(
     }
 }
 
-/// Changes rows.
 fn make_change(package: &mut Package<Counting>, change: Statement) -> Result<(), Error> {
     match change {
         Statement::Insert(query) => package.insert_rows(query),

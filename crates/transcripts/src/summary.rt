@@ -9,7 +9,6 @@ use transcripts_words::failure::Failure;
 use transcripts_words::words::Words;
 use uuid::Uuid;
 
-/// Prints the property that comes next. Fails if memory runs out.
 pub(crate) fn print(
     answer: &mut Answer,
     summary: &SummaryInfo,
@@ -32,7 +31,6 @@ pub(crate) fn print(
     Ok(())
 }
 
-/// Prints a text.
 fn print_text(answer: &mut Answer, text: Option<&str>) {
     match text {
         Some(text) => write!(answer, "{text:?}"),
@@ -40,7 +38,6 @@ fn print_text(answer: &mut Answer, text: Option<&str>) {
     }
 }
 
-/// Prints a property that is a number or a time.
 fn print_number(answer: &mut Answer, summary: &SummaryInfo, property: &str, words: &mut Words) {
     match property {
         "page_count" => answer.push_option(summary.page_count()),
@@ -57,7 +54,6 @@ fn print_number(answer: &mut Answer, summary: &SummaryInfo, property: &str, word
 /// The reason why a call on another property can't be read.
 const NO_PROPERTY: &str = "a summary has no such property";
 
-/// Prints the keywords.
 fn print_keywords(answer: &mut Answer, summary: &SummaryInfo) -> Result<(), Error> {
     let keywords = summary.keywords()?;
     let mut before = "";
@@ -71,7 +67,6 @@ fn print_keywords(answer: &mut Answer, summary: &SummaryInfo) -> Result<(), Erro
     Ok(())
 }
 
-/// Prints the numbers of the languages.
 fn print_languages(answer: &mut Answer, summary: &SummaryInfo) -> Result<(), Error> {
     let languages = summary.languages()?;
     let mut before = "";
@@ -85,7 +80,6 @@ fn print_languages(answer: &mut Answer, summary: &SummaryInfo) -> Result<(), Err
     Ok(())
 }
 
-/// Sets the property that comes next to what is behind. Fails if the value is refused, and if memory runs out.
 pub(crate) fn set(summary: &mut SummaryInfo, words: &mut Words) -> Result<(), Error> {
     match words.word() {
         "title" => summary.set_title(words.name()),
@@ -103,7 +97,6 @@ pub(crate) fn set(summary: &mut SummaryInfo, words: &mut Words) -> Result<(), Er
     }
 }
 
-/// Sets a property that is a number or a time, or a time as the present.
 fn set_number(summary: &mut SummaryInfo, property: &str, words: &mut Words) -> Result<(), Error> {
     match property {
         "page_count" => summary.set_page_count(words.number()),
@@ -123,19 +116,16 @@ fn set_number(summary: &mut SummaryInfo, property: &str, words: &mut Words) -> R
     }
 }
 
-/// Reads a UUID.
 fn uuid(words: &mut Words) -> Uuid {
     let uuid = Uuid::parse_str(words.name()).ok();
     words.spelled(uuid, Uuid::nil(), "a UUID is missing")
 }
 
-/// Prints the value that is made of a UUID.
 pub(crate) fn print_uuid_value(words: &mut Words, answer: &mut Answer) -> Result<(), Failure> {
     write!(answer, "{}", Value::from_uuid(words.alloc, uuid(words))?);
     Ok(())
 }
 
-/// Returns the names that are left.
 fn names(words: &mut Words) -> Result<Vec<String>, AllocError> {
     let mut names = Vec::new(words.alloc);
     for _ in 0..words.len() {
@@ -144,7 +134,6 @@ fn names(words: &mut Words) -> Result<Vec<String>, AllocError> {
     Ok(names)
 }
 
-/// Clears the property that comes next. Fails if memory runs out.
 pub(crate) fn clear(summary: &mut SummaryInfo, words: &mut Words) -> Result<(), Error> {
     match words.word() {
         "title" => summary.clear_title(),

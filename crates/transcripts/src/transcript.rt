@@ -7,7 +7,6 @@ use transcripts_words::failure::Failure;
 use transcripts_words::lines::Line;
 use transcripts_words::reports::Report;
 
-/// Makes the calls of a transcript, in order.
 pub(crate) fn run(rt: &HostRuntime, report: &mut Report, lines: &[Line]) -> Result<(), Failure> {
     let mut session = Session::new(rt.alloc());
     for i in 0..lines.len() {
@@ -18,7 +17,6 @@ pub(crate) fn run(rt: &HostRuntime, report: &mut Report, lines: &[Line]) -> Resu
     Ok(())
 }
 
-/// Makes the call of a line, and those on the stream that it opens.
 fn run_line(
     rt: &HostRuntime,
     report: &mut Report,
@@ -38,7 +36,6 @@ fn run_line(
     report.check(rt, line, rest, outcome, &mut answer)
 }
 
-/// Returns whether calls on a stream come next.
 fn is_stream(rest: &[Line]) -> bool {
     for line in rest {
         if line.is_call() || line.is_cursor_call() {

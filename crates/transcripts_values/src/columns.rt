@@ -45,7 +45,6 @@ pub(crate) fn column(words: &mut Words) -> Result<Column, Error> {
     Ok(builder.int16())
 }
 
-/// Returns the column of a type.
 fn of_kind(builder: ColumnBuilder, words: &mut Words, kind: &str) -> Column {
     match kind {
         "int16" => builder.int16(),
@@ -58,7 +57,6 @@ fn of_kind(builder: ColumnBuilder, words: &mut Words, kind: &str) -> Column {
     }
 }
 
-/// Makes a call of a builder.
 fn with_option(
     builder: ColumnBuilder,
     words: &mut Words,
@@ -105,7 +103,6 @@ pub fn print_columns(answer: &mut Answer, columns: &[Column]) {
     }
 }
 
-/// Prints what a column was built with beside its type and its values.
 fn print_options(answer: &mut Answer, column: &Column) {
     print_flag(answer, column.is_primary_key(), " key");
     print_flag(answer, column.is_nullable(), " nullable");
@@ -121,7 +118,6 @@ fn print_options(answer: &mut Answer, column: &Column) {
     }
 }
 
-/// Prints the word of a flag that is set.
 fn print_flag(answer: &mut Answer, is_set: bool, word: &str) {
     if is_set {
         answer.push_str(word);

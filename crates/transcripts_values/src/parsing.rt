@@ -17,7 +17,6 @@ pub fn print_refusal(refusal: ParseError, answer: &mut Answer) -> Result<(), Fai
     Ok(())
 }
 
-/// Reads a query, and prints it.
 pub(crate) fn print_query(words: &mut Words, answer: &mut Answer) -> Result<(), Failure> {
     match Statement::parse(words.alloc, words.name()) {
         Ok(query) => write!(answer, "{query}"),
@@ -26,7 +25,6 @@ pub(crate) fn print_query(words: &mut Words, answer: &mut Answer) -> Result<(), 
     Ok(())
 }
 
-/// Reads an expression, and prints it.
 pub(crate) fn print_expression(words: &mut Words, answer: &mut Answer) -> Result<(), Failure> {
     match Expr::parse(words.alloc, words.name()) {
         Ok(expression) => write!(answer, "{expression}"),
@@ -35,7 +33,6 @@ pub(crate) fn print_expression(words: &mut Words, answer: &mut Answer) -> Result
     Ok(())
 }
 
-/// Reads an expression, and prints how many columns it names, and whether the names behind it are among them.
 pub(crate) fn print_names(words: &mut Words, answer: &mut Answer) -> Result<(), Failure> {
     match Expr::parse(words.alloc, words.name()) {
         Ok(expression) => Ok(print_named(&expression, words, answer)?),
@@ -43,7 +40,6 @@ pub(crate) fn print_names(words: &mut Words, answer: &mut Answer) -> Result<(), 
     }
 }
 
-/// Prints how many columns an expression names, and whether these names are among them.
 fn print_named(expression: &Expr, words: &mut Words, answer: &mut Answer) -> Result<(), Error> {
     let names = expression.column_names(words.alloc)?;
     write!(answer, "{}", names.len());
@@ -54,7 +50,6 @@ fn print_named(expression: &Expr, words: &mut Words, answer: &mut Answer) -> Res
     Ok(())
 }
 
-/// Adds a text so many times.
 fn add_times(all: &mut String, text: &str, times: usize) -> Result<(), AllocError> {
     for _ in 0..times {
         all.push_str(text)?;

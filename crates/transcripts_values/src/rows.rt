@@ -28,7 +28,6 @@ pub fn print_rows(answer: &mut Answer, mut rows: Rows) -> Result<(), Failure> {
     Ok(())
 }
 
-/// Prints the values of a row.
 fn print_row(answer: &mut Answer, row: &Row) {
     for i in 0..row.len() {
         let before = if i == 0 { "" } else { " " };
@@ -88,7 +87,6 @@ pub fn print_values(
     }
 }
 
-/// Prints the value of a column.
 fn print_value(answer: &mut Answer, row: &Row, name: &str) {
     if row.has_column(name) {
         writeln!(answer, "{}", row[name]);

@@ -15,7 +15,6 @@ pub fn codepage(words: &mut Words) -> CodePage {
     words.spelled(page, CodePage::default(), "there is no such code page")
 }
 
-/// Prints the text of bytes in a code page.
 pub(crate) fn decode(kept: &Kept, words: &mut Words, answer: &mut Answer) -> Result<(), Failure> {
     let page = codepage(words);
     let bytes = pieces(kept, words)?;
@@ -24,7 +23,6 @@ pub(crate) fn decode(kept: &Kept, words: &mut Words, answer: &mut Answer) -> Res
     Ok(())
 }
 
-/// Prints the bytes of a text in a code page.
 pub(crate) fn encode(words: &mut Words, answer: &mut Answer) -> Result<(), Failure> {
     let page = codepage(words);
     let bytes = page.encode(words.alloc, words.name())?;
@@ -32,13 +30,13 @@ pub(crate) fn encode(words: &mut Words, answer: &mut Answer) -> Result<(), Failu
     Ok(())
 }
 
-/// Reads the number of a page that has a table of its own.
 fn tabled_page(words: &mut Words) -> Page {
     let page = Page::of(words.number());
     words.spelled(page, Page::Windows932, "the page has no table of its own")
 }
 
-/// Prints the text of bytes in such a page, or how many of them stand before a sequence that stands for no character.
+/// Prints the text of bytes in a page with a table of its own, or how many of them come before a sequence that means no
+/// character.
 pub(crate) fn read_page(
     kept: &Kept,
     words: &mut Words,
@@ -53,7 +51,8 @@ pub(crate) fn read_page(
     Ok(())
 }
 
-/// Prints the bytes of a text in such a page, or how many characters stand before one that the page lacks.
+/// Prints the bytes of a text in a page with a table of its own, or how many characters come before one that the page
+/// lacks.
 pub(crate) fn write_page(words: &mut Words, answer: &mut Answer) -> Result<(), Failure> {
     let encoder = tabled_page(words).encoder(words.alloc)?;
     let text = words.name();
@@ -66,13 +65,11 @@ pub(crate) fn write_page(words: &mut Words, answer: &mut Answer) -> Result<(), F
     Ok(())
 }
 
-/// Prints the kind of an error, and the place where it is.
 fn print_refusal(answer: &mut Answer, error: &Error, place: Option<usize>) {
     write!(answer, "{} at ", error.kind());
     answer.push_option(place);
 }
 
-/// Reads the name of a category.
 pub(crate) fn category(words: &mut Words) -> Category {
     let name = words.word();
     for category in &Category::all() {
@@ -84,7 +81,6 @@ pub(crate) fn category(words: &mut Words) -> Category {
     Category::Text
 }
 
-/// Prints whether a page can carry a text, the id and the name of a page, or whether a category takes a text.
 pub(crate) fn print_fact(
     verb: &str,
     words: &mut Words,
@@ -109,19 +105,17 @@ fn page(words: &mut Words) -> Option<CodePage> {
     CodePage::from_id(words.number())
 }
 
-/// Reads a number of 16 bits without a sign.
 pub(crate) fn short(words: &mut Words) -> u16 {
     let number = words.word().parse::<u16>().ok();
     words.spelled(number, 0, "a number is missing")
 }
 
-/// Reads a number of 32 bits without a sign.
 fn long(words: &mut Words) -> u32 {
     let number = words.word().parse::<u32>().ok();
     words.spelled(number, 0, "a number is missing")
 }
 
-/// Reads a language, which is given as its parts, an id of 32 bits, a tag, an id or a number.
+/// Reads a language, which is written as its parts, an id of 32 bits, a tag, an id or a number.
 fn language(words: &mut Words) -> LanguageId {
     match words.word() {
         "parts" => {
@@ -140,7 +134,6 @@ fn language(words: &mut Words) -> LanguageId {
     }
 }
 
-/// Prints the id, the tag, the primary language and the sub-language of a language.
 pub(crate) fn print_language(words: &mut Words, answer: &mut Answer) -> Result<(), Failure> {
     let language = language(words);
     let id = u16::from(language);
@@ -169,7 +162,6 @@ pub fn ticks(words: &mut Words) -> Timestamp {
     Timestamp::from_ticks(words.count() as u64)
 }
 
-/// Prints the ticks that bytes hold.
 pub(crate) fn read_moment(
     kept: &Kept,
     words: &mut Words,
@@ -181,7 +173,6 @@ pub(crate) fn read_moment(
     Ok(())
 }
 
-/// Prints the bytes of ticks.
 pub(crate) fn write_moment(words: &mut Words, answer: &mut Answer) -> Result<(), Failure> {
     let mut bytes = Vec::new(words.alloc);
     ticks(words).write_to(&mut bytes)?;

@@ -30,7 +30,6 @@ fn value(words: &mut Words, number: i32) -> Result<Value, Error> {
     }
 }
 
-/// Returns a text of one letter.
 fn letter(alloc: Global, number: i32) -> Result<String, AllocError> {
     let letter = char::from_u32(0x4E00 + (number % 21_000).unsigned_abs());
     format!(in alloc; "{}", letter.unwrap_or('?'))
@@ -79,7 +78,6 @@ pub(crate) fn print(verb: &str, words: &mut Words, answer: &mut Answer) -> Resul
     Ok(())
 }
 
-/// Reads what a value is made of: the type, and what is given of it.
 fn made(words: &mut Words) -> Result<Value, Error> {
     match words.word() {
         "bool" => Ok(Value::from(words.word() == "true")),
@@ -100,13 +98,11 @@ fn made(words: &mut Words) -> Result<Value, Error> {
     }
 }
 
-/// Prints the value that is made of something else.
 pub(crate) fn print_made(words: &mut Words, answer: &mut Answer) -> Result<(), Failure> {
     write!(answer, "{}", made(words)?);
     Ok(())
 }
 
-/// Prints what a value says that it is, and what it holds.
 pub(crate) fn print_held(words: &mut Words, answer: &mut Answer) -> Result<(), Failure> {
     let value = value(words, 0)?;
     let (is_null, is_int, is_str) = (value.is_null(), value.is_int(), value.is_str());
@@ -120,7 +116,6 @@ pub(crate) fn print_held(words: &mut Words, answer: &mut Answer) -> Result<(), F
     Ok(())
 }
 
-/// Prints how a copy of a value stands to another value.
 pub(crate) fn compare(words: &mut Words, answer: &mut Answer) -> Result<(), Failure> {
     let copy = value(words, 0)?.clone(words.alloc)?;
     let other = value(words, 0)?;
@@ -134,7 +129,6 @@ pub(crate) fn compare(words: &mut Words, answer: &mut Answer) -> Result<(), Fail
     Ok(())
 }
 
-/// Prints whether a column takes a value.
 pub(crate) fn print_takes(words: &mut Words, answer: &mut Answer) -> Result<(), Failure> {
     let column = column(words)?;
     let value = value(words, 0)?;

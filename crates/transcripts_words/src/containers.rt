@@ -34,7 +34,6 @@ pub fn make(
     }
 }
 
-/// Returns the bytes that a call keeps under a name.
 fn bytes_of(kept: &Kept, verb: &str, name: &str, words: &mut Words) -> Result<Vec<u8>, Failure> {
     match verb {
         "bytes" => pieces(kept, words),
@@ -43,7 +42,6 @@ fn bytes_of(kept: &Kept, verb: &str, name: &str, words: &mut Words) -> Result<Ve
     }
 }
 
-/// Prints the answer of a call that looks at bytes.
 fn look(kept: &Kept, verb: &str, words: &mut Words, answer: &mut Answer) -> Result<(), Failure> {
     let bytes = kept.bytes(words.name())?;
     match verb {
@@ -58,7 +56,6 @@ fn look(kept: &Kept, verb: &str, words: &mut Words, answer: &mut Answer) -> Resu
     Ok(())
 }
 
-/// Prints the number of 32 bits at a position.
 fn print_number(answer: &mut Answer, bytes: &[u8], at: usize) -> Result<(), Failure> {
     match bytes.get(at..) {
         Some([a, b, c, d, ..]) => {
@@ -69,7 +66,6 @@ fn print_number(answer: &mut Answer, bytes: &[u8], at: usize) -> Result<(), Fail
     }
 }
 
-/// Prints the bytes in the range that comes next, or all if there is none.
 fn print_range(answer: &mut Answer, bytes: &[u8], words: &mut Words) -> Result<(), Failure> {
     let range = words.peek_word().unwrap_or("0..");
     let _ = words.next();

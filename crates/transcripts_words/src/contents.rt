@@ -15,8 +15,7 @@ const INSTALLER: [u8; 16] = [
 ];
 
 /// Returns the file of an installer package with streams of some names and lengths: `(a 64) (b 0)`, and in front of
-/// them `over 10000` for a longer file that they stand over, and `storages` if it has some. Fails if they can't be
-/// written, and if memory runs out.
+/// them `over 10000` for a longer file that they are written over, and `storages` if it has some.
 pub(crate) fn written(words: &mut Words) -> Result<Vec<u8>, Error> {
     let over = words.count_behind("over", 0) as u64;
     let has_storages = words.takes("storages");
@@ -29,7 +28,6 @@ pub(crate) fn written(words: &mut Words) -> Result<Vec<u8>, Error> {
     compound::write(words.alloc, &contents, over)
 }
 
-/// Reads streams.
 fn streams(words: &mut Words) -> Result<StreamMap, Error> {
     let mut streams = StreamMap::new(words.alloc);
     for _ in 0..words.len() {
@@ -61,7 +59,6 @@ fn table_key(alloc: Global, table: &str) -> Result<Name, Error> {
     Name::new(name.as_str())
 }
 
-/// Returns the bytes of the stream of a table in a container.
 pub(crate) fn stream_of_table(
     alloc: Global,
     bytes: &[u8],
@@ -86,7 +83,6 @@ fn key(words: &mut Words) -> Result<Name, Error> {
     }
 }
 
-/// Returns a container with a stream that is set or removed, or another CLSID.
 pub(crate) fn changed(
     kept: &Kept,
     verb: &str,
@@ -98,7 +94,6 @@ pub(crate) fn changed(
     Ok(compound::write(words.alloc, &contents, 0)?)
 }
 
-/// Changes contents.
 fn change(
     kept: &Kept,
     verb: &str,
@@ -119,15 +114,14 @@ fn change(
     Ok(())
 }
 
-/// Sets the root's CLSID.
 fn set_clsid(contents: &mut Contents, clsid: &[u8]) {
     for (old, new) in contents.clsid.iter_mut().zip(clsid) {
         *old = *new;
     }
 }
 
-/// Prints what a file holds, and how many steps it takes to read. Fails if they are more than stand behind `within`, if
-/// the bytes are no compound file, and if memory runs out.
+/// Prints what a file holds, and how many steps it takes to read. Fails if they are more than the number behind
+/// `within`.
 pub(crate) fn print_read(
     answer: &mut Answer,
     bytes: &[u8],
@@ -161,7 +155,6 @@ fn print_streams(alloc: Global, answer: &mut Answer, streams: &StreamMap) -> Res
     Ok(())
 }
 
-/// Prints the names of a container's streams, each as a line.
 pub(crate) fn print_names(alloc: Global, answer: &mut Answer, bytes: &[u8]) -> Result<(), Failure> {
     let contents = compound::read(alloc, bytes)?;
     for (name, _) in contents.streams.iter() {
@@ -180,7 +173,6 @@ pub(crate) fn refused_beginnings(alloc: Global, bytes: &[u8]) -> usize {
     bytes.len()
 }
 
-/// Returns whether bytes are refused as invalid.
 fn is_invalid(alloc: Global, bytes: &[u8]) -> bool {
     match compound::read(alloc, bytes) {
         Ok(_contents) => false,

@@ -67,7 +67,6 @@ pub fn pieces(kept: &Kept, words: &mut Words) -> Result<Vec<u8>, Failure> {
     Ok(all)
 }
 
-/// Reads how many times a piece stands there.
 fn times(words: &mut Words) -> usize {
     match words.peek_word().and_then(|word| word.strip_prefix('*')) {
         Some(count) => {
@@ -78,7 +77,6 @@ fn times(words: &mut Words) -> usize {
     }
 }
 
-/// Adds a piece so many times.
 fn add_times(
     alloc: Global,
     all: &mut Vec<u8>,
@@ -92,7 +90,6 @@ fn add_times(
     Ok(())
 }
 
-/// Adds the bytes of a piece.
 fn add_piece(alloc: Global, all: &mut Vec<u8>, kept: &Kept, piece: &Token) -> Result<(), Failure> {
     match piece {
         Token::Text(text) => Ok(all.extend_from_slice(text.as_bytes())?),
@@ -104,7 +101,6 @@ fn add_piece(alloc: Global, all: &mut Vec<u8>, kept: &Kept, piece: &Token) -> Re
     }
 }
 
-/// Adds bytes that are kept, the stream of a table in them, or a part of either.
 fn add_kept(alloc: Global, all: &mut Vec<u8>, kept: &Kept, name: &str) -> Result<(), Failure> {
     let (name, range) = name.split_once(':').unwrap_or((name, "0.."));
     let Some((name, table)) = name.split_once('/') else {
@@ -114,7 +110,6 @@ fn add_kept(alloc: Global, all: &mut Vec<u8>, kept: &Kept, name: &str) -> Result
     add_range(all, stream.as_slice(), range)
 }
 
-/// Adds the bytes in a range.
 fn add_range(all: &mut Vec<u8>, bytes: &[u8], range: &str) -> Result<(), Failure> {
     Ok(all.extend_from_slice(ranged(bytes, range)?)?)
 }
@@ -140,7 +135,6 @@ fn place(word: &str) -> usize {
 /// The failure of a word that spells no bytes.
 const NO_BYTES: Failure = Failure::Unreadable("bytes are missing");
 
-/// Adds the bytes that hexadecimal digits spell.
 fn add_digits(all: &mut Vec<u8>, word: &str) -> Result<(), Failure> {
     let mut first = None;
     for c in word.chars() {
@@ -161,7 +155,6 @@ pub fn print_bytes(answer: &mut Answer, bytes: &[u8]) {
     print_few(answer, bytes, 256);
 }
 
-/// Prints bytes, or their number and their checksum if they are more than so many.
 pub(crate) fn print_few(answer: &mut Answer, bytes: &[u8], most: usize) {
     let count = bytes.len();
     if count == 0 {
@@ -173,7 +166,6 @@ pub(crate) fn print_few(answer: &mut Answer, bytes: &[u8], most: usize) {
     }
 }
 
-/// Prints bytes as hexadecimal digits.
 fn spell(answer: &mut Answer, bytes: &[u8]) {
     let mut before = "";
     for byte in bytes {

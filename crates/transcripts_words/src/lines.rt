@@ -35,7 +35,6 @@ impl Line {
         !text.is_empty() && !text.starts_with(' ') && !self.is_answer() && !self.is_comment()
     }
 
-    /// Returns whether the line has an answer.
     pub(crate) fn is_answer(&self) -> bool {
         self.text().trim_start().starts_with('>')
     }
@@ -44,7 +43,6 @@ impl Line {
         self.text().trim_start().starts_with('#')
     }
 
-    /// Returns the answer that is expected.
     pub(crate) fn expected(&self) -> &str {
         let text = self.text().trim_start();
         text.strip_prefix("> ").unwrap_or("")
@@ -72,7 +70,6 @@ impl Drop for Reader {
 }
 
 impl Reader {
-    /// Reads a line.
     fn read(&mut self, alloc: Global, number: usize, text: &str) -> Result<(), Failure> {
         if let Some(rows) = text.strip_prefix("foreach ") {
             return push_rows(alloc, &mut self.rows, rows);
@@ -90,7 +87,6 @@ impl Reader {
         Ok(())
     }
 
-    /// Returns the lines. Fails if a block has no end.
     fn into_lines(self) -> Result<Vec<Line>, Failure> {
         let Reader {
             lines,
@@ -115,7 +111,6 @@ impl Reader {
     }
 }
 
-/// Adds the rows of a line, which stand between bars.
 fn push_rows(alloc: Global, rows: &mut Vec<String>, text: &str) -> Result<(), Failure> {
     for row in text.split('|') {
         rows.push(String::from_str(alloc, row.trim())?)?;
@@ -123,7 +118,6 @@ fn push_rows(alloc: Global, rows: &mut Vec<String>, text: &str) -> Result<(), Fa
     Ok(())
 }
 
-/// Adds the lines of a block for a row.
 fn push_filled(
     alloc: Global,
     lines: &mut Vec<Line>,
@@ -154,7 +148,7 @@ fn filled(alloc: Global, text: &str, row: &str) -> Result<String, Failure> {
     Ok(filled)
 }
 
-/// Returns the field of a number, which stands between commas.
+/// Returns the field of a number, which is between commas.
 fn field(row: &str, number: u32) -> &str {
     match number.checked_sub(1) {
         Some(place) => row.split(',').nth(place as usize).unwrap_or("").trim(),

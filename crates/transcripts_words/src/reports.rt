@@ -55,7 +55,6 @@ impl<'a> Report<'a> {
         self.print(rt, line, expected, answer.as_str())
     }
 
-    /// Prints a call whose answer isn't as expected.
     fn print(
         &mut self,
         rt: &HostRuntime,
@@ -74,7 +73,6 @@ impl<'a> Report<'a> {
     }
 }
 
-/// Adds the lines that were expected, and those of an answer.
 fn add_lines(expected: &[Line], answer: &str, text: &mut Answer) {
     for line in expected {
         add_line("- ", line.expected(), text);
@@ -84,14 +82,12 @@ fn add_lines(expected: &[Line], answer: &str, text: &mut Answer) {
     }
 }
 
-/// Adds a line behind a mark.
 fn add_line(mark: &str, line: &str, text: &mut Answer) {
     text.push_str(mark);
     text.push_str(line);
     text.push_str("\n");
 }
 
-/// Returns the lines with answers that come first.
 fn expected(rest: &[Line]) -> &[Line] {
     for i in 0..rest.len() {
         if !rest[i].is_answer() {
@@ -101,7 +97,6 @@ fn expected(rest: &[Line]) -> &[Line] {
     rest
 }
 
-/// Returns whether these lines expect an answer.
 fn are_lines(expected: &[Line], answer: &str) -> bool {
     let mut found = answer.lines();
     for line in expected {

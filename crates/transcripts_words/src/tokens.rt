@@ -36,7 +36,6 @@ struct Lexer {
 }
 
 impl Lexer {
-    /// Reads a character.
     fn read(&mut self, alloc: Global, c: char) -> Result<(), AllocError> {
         match self.place {
             Place::Blank | Place::Word => self.read_plain(alloc, c),
@@ -46,13 +45,11 @@ impl Lexer {
         }
     }
 
-    /// Adds a character to the word or the text that is being read.
     fn push(&mut self, c: char, place: Place) -> Result<(), AllocError> {
         self.place = place;
         self.pending.push(c)
     }
 
-    /// Ends the word or the text that is being read, if there is one.
     fn end(&mut self, alloc: Global, next: Place) -> Result<(), AllocError> {
         let text = mem::replace(&mut self.pending, String::new(alloc));
         match mem::replace(&mut self.place, next) {
@@ -63,7 +60,6 @@ impl Lexer {
         Ok(())
     }
 
-    /// Reads a character outside of quotes.
     fn read_plain(&mut self, alloc: Global, c: char) -> Result<(), AllocError> {
         match c {
             ' ' => self.end(alloc, Place::Blank),
@@ -77,7 +73,6 @@ impl Lexer {
         }
     }
 
-    /// Reads a character inside of quotes.
     fn read_quoted(&mut self, alloc: Global, c: char) -> Result<(), AllocError> {
         match c {
             '\\' => self.place = Place::Escape,
@@ -87,7 +82,6 @@ impl Lexer {
         Ok(())
     }
 
-    /// Reads the character behind a backslash.
     fn read_escaped(&mut self, c: char) -> Result<(), AllocError> {
         match c {
             'u' => self.place = Place::Code(0),
@@ -100,7 +94,7 @@ impl Lexer {
         Ok(())
     }
 
-    /// Reads a character of `{4E00}`, which stands behind `\u`. A number of no character means U+FFFD.
+    /// Reads a character of `{4E00}`, which is behind `\u`. A number of no character means U+FFFD.
     fn read_code(&mut self, code: u32, c: char) -> Result<(), AllocError> {
         match c.to_digit(16) {
             Some(digit) => self.place = Place::Code(code.saturating_mul(16).saturating_add(digit)),

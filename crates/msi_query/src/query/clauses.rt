@@ -41,7 +41,7 @@ impl Model for Clauses {
 }
 
 impl Clauses {
-    /// All columns of all rows.
+    /// Selects all columns of all rows.
     pub(crate) fn new(alloc: Global) -> Clauses
         ensures { result ≡ no_clauses }
     {
@@ -65,14 +65,12 @@ impl Clauses {
         self.condition.as_ref()
     }
 
-    /// Whether all columns of all rows are selected.
     pub(crate) fn keep_all(&self) -> bool
         ensures { result ≡ ((length self.now.columns == 0) && is_none self.now.condition) }
     {
         self.columns.is_empty() && self.condition.is_none()
     }
 
-    /// The same condition with these columns.
     pub(crate) fn projected(self, columns: Items<Text>) -> Clauses
         ensures { result ≡ record self { columns = columns } }
     {
@@ -83,10 +81,6 @@ impl Clauses {
         Clauses { columns, condition }
     }
 
-    /// The same columns under one more condition.
-    ///
-    /// # Errors
-    /// `OutOfMemory`.
     pub(crate) fn narrowed(self, alloc: Global, condition: Expr) -> Result<Clauses, Error>
         ensures ok { IfOk result (λ clauses. clauses
             ≡ record self { condition = narrowed_by self.condition condition }) }

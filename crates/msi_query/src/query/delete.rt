@@ -92,7 +92,6 @@ impl Delete {
         })
     }
 
-    /// Looks at each text, which is UTF-8.
     pub(crate) fn look_at_texts(&self)
         ensures { IsUtf8Delete self.now }
     {
@@ -100,7 +99,6 @@ impl Delete {
         look_at_condition(self.condition.as_ref());
     }
 
-    /// What it is made of, moved out.
     pub(crate) fn into_parts(self) -> DeleteParts
         ensures table { result.table ≡ self.table }
         ensures condition { result.condition ≡ self.condition }

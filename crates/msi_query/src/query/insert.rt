@@ -142,7 +142,6 @@ impl Insert {
         })
     }
 
-    /// Looks at each text, which is UTF-8.
     pub(crate) fn look_at_texts(&self)
         ensures { IsUtf8Insert self.now }
     {
@@ -150,7 +149,6 @@ impl Insert {
         look_at_rows(self.rows.as_slice());
     }
 
-    /// What it is made of, moved out.
     pub(crate) fn into_parts(self) -> InsertParts
         ensures table { result.table ≡ self.table }
         ensures rows { result.rows ≡ self.rows }
@@ -160,7 +158,6 @@ impl Insert {
     }
 }
 
-/// Writes rows behind their word, where there are some.
 fn write_rows<W: fmt::Write>(f: &mut fmt::Formatter<W>, rows: &[NewRow]) -> fmt::Result
     ensures { DisplaysOnOk W.write_str_gives f.old result (rows_text rows.now) f.new }
 {

@@ -10,7 +10,6 @@ use msi_query_tokens::names::write_name;
 use msi_text_base::text::Text;
 use std::fmt;
 
-/// Writes items with `, ` between them.
 pub(crate) fn write_list<T: fmt::Display, W: fmt::Write>(
     f: &mut fmt::Formatter<W>,
     items: &[T],
@@ -27,7 +26,6 @@ pub(crate) fn write_list<T: fmt::Display, W: fmt::Write>(
     Ok(())
 }
 
-/// Writes the name of a table or a column behind what stands in front of it.
 pub(crate) fn write_named<W: fmt::Write>(
     f: &mut fmt::Formatter<W>,
     front: &str,
@@ -39,7 +37,6 @@ pub(crate) fn write_named<W: fmt::Write>(
     write_name(f, name.as_str())
 }
 
-/// Writes names with `, ` between them.
 pub(crate) fn write_name_list<W: fmt::Write>(
     f: &mut fmt::Formatter<W>,
     names: &[Text],
@@ -57,7 +54,6 @@ pub(crate) fn write_name_list<W: fmt::Write>(
     Ok(())
 }
 
-/// Writes a condition behind its word, where there is one.
 pub(crate) fn write_condition<W: fmt::Write>(
     f: &mut fmt::Formatter<W>,
     condition: Option<&Expr>,

@@ -110,10 +110,6 @@ impl Select {
         self.joined(JoinKind::Left, rhs, on)
     }
 
-    /// A join of either kind.
-    ///
-    /// # Errors
-    /// `OutOfMemory`.
     fn joined(self, kind: JoinKind, rhs: Select, on: Expr) -> Result<Select, Error>
         ensures ok { IfOk result (λ query. query ≡ join kind self rhs on no_clauses) }
         ensures kind { IfErr result (λ kind. kind ≡ OutOfMemory) }
@@ -202,14 +198,12 @@ impl Select {
         Ok(Select { alloc, tree })
     }
 
-    /// Looks at each text, which is UTF-8.
     pub(crate) fn look_at_texts(&self)
         ensures { IsUtf8Query self.now }
     {
         look_at_tree(&self.tree);
     }
 
-    /// Its tree.
     pub(crate) fn tree(&self) -> &SelectTree
         ensures { query_of result.now ≡ self.now }
     {
@@ -218,7 +212,6 @@ impl Select {
 }
 
 impl SelectTree {
-    /// The name of a table of which all is wanted.
     fn bare_name(&self) -> Option<&str>
         ensures { option_copied result ≡ bare_name (query_of self.now) }
     {
@@ -229,7 +222,6 @@ impl SelectTree {
     }
 }
 
-/// The words that stand between the sides.
 fn join_words(kind: JoinKind) -> &'static str
     ensures { result.now ≡ join_word kind }
 {
@@ -239,7 +231,6 @@ fn join_words(kind: JoinKind) -> &'static str
     }
 }
 
-/// Writes the columns that are selected, or a star for all.
 fn write_names<W: fmt::Write>(f: &mut fmt::Formatter<W>, columns: &[Text]) -> fmt::Result
     ensures { DisplaysOnOk W.write_str_gives f.old result (Some (columns_text columns.now)) f.new }
 {
@@ -250,7 +241,6 @@ fn write_names<W: fmt::Write>(f: &mut fmt::Formatter<W>, columns: &[Text]) -> fm
     }
 }
 
-/// Writes what stands before the place that rows come from.
 fn write_columns<W: fmt::Write>(f: &mut fmt::Formatter<W>, columns: &[Text]) -> fmt::Result
     ensures { DisplaysOnOk W.write_str_gives f.old result
         (Some (codes "SELECT " ++ columns_text columns.now ++ codes " FROM ")) f.new }
@@ -260,7 +250,6 @@ fn write_columns<W: fmt::Write>(f: &mut fmt::Formatter<W>, columns: &[Text]) -> 
     f.write_str(" FROM ")
 }
 
-/// Writes the text of a query.
 #[cycle(writing)]
 fn write_query<W: fmt::Write>(f: &mut fmt::Formatter<W>, tree: &SelectTree) -> fmt::Result
     ensures { DisplaysOnOk W.write_str_gives f.old result (query_text (query_of tree.now)) f.new }

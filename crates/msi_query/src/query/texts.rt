@@ -16,7 +16,6 @@ use msi_query_expressions::parts::Assignment;
 use msi_table_values::laws::{listed_texts_are_utf8, listed_values_are_utf8, value_texts_are_utf8};
 use msi_text_base::laws::texts_are_utf8;
 
-/// Looks at each text of a condition, which is UTF-8.
 pub(crate) fn look_at_condition(condition: Option<&Expr>)
     ensures { IsUtf8Condition (option_copied condition.entry) }
 {
@@ -25,7 +24,6 @@ pub(crate) fn look_at_condition(condition: Option<&Expr>)
     }
 }
 
-/// Looks at each text of clauses.
 fn look_at_clauses(clauses: &Clauses)
     ensures { IsUtf8Clauses clauses.now }
 {
@@ -33,7 +31,6 @@ fn look_at_clauses(clauses: &Clauses)
     look_at_condition(clauses.condition());
 }
 
-/// Looks at each text of the tree of a query for rows.
 pub(crate) fn look_at_tree(tree: &SelectTree)
     ensures { IsUtf8Query (query_of tree.now) }
 {
@@ -57,7 +54,6 @@ pub(crate) fn look_at_tree(tree: &SelectTree)
     }
 }
 
-/// Looks at each text of rows to be added.
 pub(crate) fn look_at_rows(rows: &[NewRow])
     ensures { AllByRecursion AreUtf8Values rows.now }
 {
@@ -66,7 +62,6 @@ pub(crate) fn look_at_rows(rows: &[NewRow])
     }
 }
 
-/// Looks at each column and each new value.
 pub(crate) fn look_at_sets(sets: &[Assignment])
     ensures { AllByRecursion (λ set. IsUtf8 set.0 × IsUtf8Value set.1) sets.now }
 {
@@ -75,7 +70,6 @@ pub(crate) fn look_at_sets(sets: &[Assignment])
     }
 }
 
-/// Looks at a column and its new value.
 fn look_at_set(set: &Assignment)
     ensures { IsUtf8 set.now.0 × IsUtf8Value set.now.1 }
 {

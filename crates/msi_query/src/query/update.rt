@@ -128,7 +128,6 @@ impl Update {
         })
     }
 
-    /// Looks at each text, which is UTF-8.
     pub(crate) fn look_at_texts(&self)
         ensures { IsUtf8Update self.now }
     {
@@ -137,7 +136,6 @@ impl Update {
         look_at_condition(self.condition.as_ref());
     }
 
-    /// What it is made of, moved out.
     pub(crate) fn into_parts(self) -> UpdateParts
         ensures table { result.table ≡ self.table }
         ensures sets { result.sets ≡ self.sets }
@@ -157,7 +155,6 @@ impl Update {
     }
 }
 
-/// Writes the new values behind their word, where there are some.
 fn write_sets<W: fmt::Write>(f: &mut fmt::Formatter<W>, sets: &[Assignment]) -> fmt::Result
     ensures { DisplaysOnOk W.write_str_gives f.old result (sets_text sets.now) f.new }
 {

@@ -9,7 +9,6 @@ use msi_table_values::column::Column;
 use msi_table_values::parts::column_index;
 use msi_text_base::text::Text;
 
-/// Where the column stands that a tree is, if it is one.
 fn column_place(tree: &Tree<Text>, columns: &[Column]) -> Option<usize>
     ensures { result ≡ place_of columns.now (expression_of tree.now) }
 {
@@ -19,7 +18,7 @@ fn column_place(tree: &Tree<Text>, columns: &[Column]) -> Option<usize>
     }
 }
 
-/// The one of two places that is below the width, and the other, counted from there, where it isn't.
+/// Returns the one of two places that is below the width, and the other, counted from there, where it isn't.
 fn one_of_each(width: usize, place: usize, other: usize) -> Option<(usize, usize)>
     ensures { result ≡ one_each width place other }
 {
@@ -36,7 +35,7 @@ fn one_of_each(width: usize, place: usize, other: usize) -> Option<(usize, usize
     }
 }
 
-/// The places of the first equality of one column of each side, alone or under `and`.
+/// Returns the places of the first equality of one column of each side, alone or under `and`.
 pub(crate) fn equated_places(
     tree: &Tree<Text>,
     columns: &[Column],

@@ -15,10 +15,7 @@ use msi_table_values::value::Value;
 use msi_text_base::errors::Error;
 use std::alloc::Global;
 
-/// The value where a row gives the values of columns. No text of the row is copied, but where texts are joined.
-///
-/// # Errors
-/// `OutOfMemory`, where something is added in the tree.
+/// No text of the row is copied, except where texts are joined.
 #[cycle(evaluation)]
 pub(crate) fn operand_of<'a, C, R: ColumnValues<C>>(
     alloc: Global,
@@ -51,10 +48,6 @@ pub(crate) fn operand_of<'a, C, R: ColumnValues<C>>(
     }
 }
 
-/// The value of an operator between an operand and a tree.
-///
-/// # Errors
-/// `OutOfMemory`, where the operator adds or something is added in the tree.
 #[cycle(evaluation)]
 fn value_with<C, R: ColumnValues<C>>(
     alloc: Global,
@@ -72,10 +65,6 @@ fn value_with<C, R: ColumnValues<C>>(
     binary_value(alloc, op, left, right.as_view())
 }
 
-/// Whether that value is true.
-///
-/// # Errors
-/// `OutOfMemory`, where something is added in the tree.
 #[cycle(evaluation)]
 pub(crate) fn holds<C, R: ColumnValues<C>>(
     alloc: Global,

@@ -34,7 +34,7 @@ struct CellRow<'a> {
     back: &'a [ValueRef],
 }
 
-/// The cell at a place of two pieces, or null past their end.
+/// Returns the cell at a place of two pieces, or null past their end.
 fn cell_in_pieces(front: &[ValueRef], back: &[ValueRef], place: usize) -> ValueRef
     ensures { result ≡ unwrap_or (slice_get (front.now ++ back.now) place) cell.Null }
 {
@@ -58,10 +58,7 @@ impl ColumnValues<usize> for CellRow<'_> {
     }
 }
 
-/// The tree with the columns' places for their names; Null for a name that is none of a column.
-///
-/// # Errors
-/// `OutOfMemory`.
+/// Replaces the columns' names by their places, and a name of no column by Null.
 #[cycle(placing)]
 fn placed(alloc: Global, columns: &[Column], tree: &Tree<Text>) -> Result<Tree<usize>, Error>
     ensures values { IfOk result (λ placed. (row : List ValueOf)
@@ -91,10 +88,6 @@ fn placed(alloc: Global, columns: &[Column], tree: &Tree<Text>) -> Result<Tree<u
     })
 }
 
-/// That tree in a box, as an operand stands in its tree.
-///
-/// # Errors
-/// `OutOfMemory`.
 #[cycle(placing)]
 fn placed_in_box(
     alloc: Global,
@@ -109,10 +102,7 @@ fn placed_in_box(
     Ok(Box::new(alloc, placed(alloc, columns, tree)?)?)
 }
 
-/// The tree of a condition with the columns' places; where there is no condition, one that is always true.
-///
-/// # Errors
-/// `OutOfMemory`.
+/// Without a condition the tree is one that is always true.
 fn placed_condition(
     alloc: Global,
     columns: &[Column],

@@ -12,10 +12,6 @@ use msi_text_base::errors::Error;
 use msi_text_base::text::Text;
 use std::alloc::Global;
 
-/// An operator over one tree; a literal folds.
-///
-/// # Errors
-/// `OutOfMemory`.
 pub(crate) fn fold_unary(alloc: Global, op: UnaryOp, tree: Tree<Text>) -> Result<Tree<Text>, Error>
     ensures ok { IfOk result (λ folded. expression_of folded ≡ folded_unary op (expression_of tree)) }
     ensures kind { IfErr result (λ kind. kind ≡ OutOfMemory) }
@@ -26,10 +22,6 @@ pub(crate) fn fold_unary(alloc: Global, op: UnaryOp, tree: Tree<Text>) -> Result
     }
 }
 
-/// An operator between two trees; two literals fold.
-///
-/// # Errors
-/// `OutOfMemory`.
 pub(crate) fn fold_binary(
     alloc: Global,
     op: BinaryOp,

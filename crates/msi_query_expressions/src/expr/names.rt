@@ -15,10 +15,6 @@ use msi_text_base::errors::Error;
 use msi_text_base::text::Text;
 use std::collections::HashSet;
 
-/// Adds the names in a tree to a set.
-///
-/// # Errors
-/// `OutOfMemory`.
 pub(crate) fn collect_names<'a>(
     tree: &'a Tree<Text>,
     names: &mut HashSet<&'a str>,
@@ -42,7 +38,6 @@ pub(crate) fn collect_names<'a>(
     }
 }
 
-/// Whether each name in a tree is that of a column.
 pub(crate) fn knows_names(tree: &Tree<Text>, columns: &[Column]) -> bool
     ensures { result ≡ knows_each columns.now (expression_of tree.now) }
 {

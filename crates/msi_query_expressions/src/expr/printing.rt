@@ -16,7 +16,7 @@ use std::fmt;
 const TIGHTEST: u8 = 10;
 
 impl Tree<Text> {
-    /// How tightly the top of the tree binds.
+    /// Returns how tightly the top of the tree binds.
     fn level(&self) -> u8
         ensures { result ≡ level (expression_of self.now) }
     {
@@ -29,8 +29,7 @@ impl Tree<Text> {
     }
 }
 
-/// Writes the text of a tree. Equal levels group to the left, so what stands to the right of an operator needs a
-/// level more.
+/// Equal levels group to the left, so the right operand of an operator needs a level more.
 #[cycle(writing)]
 fn write_tree<W: fmt::Write>(f: &mut fmt::Formatter<W>, tree: &Tree<Text>) -> fmt::Result
     ensures { DisplaysOnOk W.write_str_gives f.old result (expression_text (expression_of tree.now)) f.new }
@@ -60,7 +59,7 @@ fn write_tree<W: fmt::Write>(f: &mut fmt::Formatter<W>, tree: &Tree<Text>) -> fm
     }
 }
 
-/// Writes an operand, in brackets where its level is below what is needed.
+/// Writes an operand, in brackets where its level is below `needed`.
 #[cycle(writing)]
 fn write_operand<W: fmt::Write>(
     f: &mut fmt::Formatter<W>,

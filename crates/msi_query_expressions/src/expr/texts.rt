@@ -24,7 +24,6 @@ fn look_at(tree: &Tree<Text>)
 }
 
 impl Expr {
-    /// Looks at each text, which is UTF-8.
     pub(crate) fn look_at_texts(&self)
         ensures { IsUtf8Expression self.now }
     {

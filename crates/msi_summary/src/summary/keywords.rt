@@ -13,7 +13,7 @@ use std::alloc::Global;
 
 const KEYWORDS: u32 = 5;
 
-/// The pieces of a text that is cut at each `; `, without white space at their right ends.
+/// Cuts a text at each `; ` and trims white space at the right ends of the pieces.
 fn trimmed_pieces(alloc: Global, text: &str) -> Result<Vec<String>, Error>
     ensures ok { IfOk result (λ words. map string_bytes words.items ≡ map trim_end (keyword_pieces text.now)) }
     ensures kind { OnlyMemory result }
@@ -25,7 +25,6 @@ fn trimmed_pieces(alloc: Global, text: &str) -> Result<Vec<String>, Error>
     Ok(words)
 }
 
-/// The keywords of a text: none in the empty one.
 fn keywords_in(alloc: Global, text: &str) -> Result<Vec<String>, Error>
     ensures ok { IfOk result (λ words. map string_bytes words.items ≡ keywords_in text.now) }
     ensures kind { OnlyMemory result }
@@ -36,7 +35,6 @@ fn keywords_in(alloc: Global, text: &str) -> Result<Vec<String>, Error>
     trimmed_pieces(alloc, text)
 }
 
-/// The words, with `; ` between each two.
 fn joined(alloc: Global, words: &[String]) -> Result<String, Error>
     ensures ok { IfOk result (λ text. string_bytes text ≡ join_by string_bytes (codes "; ") words.now) }
     ensures kind { OnlyMemory result }

@@ -18,7 +18,7 @@ use std::alloc::Global;
 
 const TEMPLATE: u32 = 7;
 
-/// What stands before the first `;` of a template, or all of it.
+/// Returns the part before the first `;` of a template, or all of it.
 fn arch_part(template: &str) -> &str
     ensures { result.now ≡ before_first is_semicolon template.now }
 {
@@ -28,7 +28,6 @@ fn arch_part(template: &str) -> &str
     }
 }
 
-/// What stands behind the first `;` of a template.
 fn languages_part(template: &str) -> &str
     ensures { result.now ≡ after_first is_semicolon template.now }
 {
@@ -38,14 +37,12 @@ fn languages_part(template: &str) -> &str
     }
 }
 
-/// A text that isn't empty.
 fn filled(text: &str) -> Option<&str>
     ensures { option_copied result ≡ nonempty text.now }
 {
     if text.is_empty() { None } else { Some(text) }
 }
 
-/// The language whose id a text is in decimal.
 fn language_in(text: &str) -> Option<LanguageId>
     ensures { result ≡ u16_in text.now }
 {
@@ -55,7 +52,7 @@ fn language_in(text: &str) -> Option<LanguageId>
     }
 }
 
-/// The languages whose ids stand in a text between commas; what is no such number is left out.
+/// Returns the languages whose ids are in a text between commas, and leaves out what is no such number.
 fn languages_in(alloc: Global, text: &str) -> Result<Vec<LanguageId>, Error>
     ensures ok { IfOk result (λ languages. languages.items ≡ filter_map u16_in (slice_split is_comma text.now)) }
     ensures kind { OnlyMemory result }
@@ -68,14 +65,12 @@ fn languages_in(alloc: Global, text: &str) -> Result<Vec<LanguageId>, Error>
 }
 
 impl SummaryInfo {
-    /// The template, empty where there is none.
     fn template(&self) -> &str
         ensures { result.now ≡ template_of self.now }
     {
         self.text(TEMPLATE).unwrap_or("")
     }
 
-    /// Sets the template to its two parts.
     fn set_template(&mut self, arch: String, languages: &str) -> Result<(), Error>
         ensures ok { OnOk result (self.new ≡ with_template (string_bytes arch) languages.now self.old) }
         ensures kind { OnlyMemory result }

@@ -65,7 +65,6 @@ pub fn upper_characters(page: CodePage) -> Option<&'static [char]>
     }
 }
 
-/// What is read for a byte: U+FFFD where it stands for no character.
 fn character_read(upper: &[char], byte: u8) -> char
     ensures { result ≡ character_read upper.now byte }
 {
@@ -78,14 +77,12 @@ fn character_read(upper: &[char], byte: u8) -> char
     }
 }
 
-/// Where a character stands in a table.
 fn place_of(upper: &[char], character: char) -> Option<usize>
     ensures { result ≡ position (λ other. other == character) upper.now }
 {
     upper.iter().position(|other| *other == character)
 }
 
-/// What is written for a character: `?` where no byte stands for it.
 fn byte_written(upper: &[char], character: char) -> u8
     requires { length upper.now ≤ 128 }
     ensures { result ≡ byte_written upper.now character }
@@ -99,21 +96,18 @@ fn byte_written(upper: &[char], character: char) -> u8
     }
 }
 
-/// Whether a byte stands for a character.
 fn has_byte(upper: &[char], character: char) -> bool
     ensures { result ≡ is_some (byte_of upper.now character) }
 {
     character < '\u{80}' || place_of(upper, character).is_some()
 }
 
-/// Whether each character of a text has a byte.
 pub(crate) fn has_bytes(upper: &[char], text: &str) -> bool
     ensures { result ≡ list_all (λ c. is_some (byte_of upper.now c)) (chars text.now) }
 {
     text.chars().all(|character| has_byte(upper, character))
 }
 
-/// The text of the characters that are read for the bytes.
 pub(crate) fn text_read(alloc: Global, upper: &[char], bytes: &[u8]) -> Result<String, AllocError>
     ensures { IfOk result (λ text. string_bytes text ≡ encode_utf8_all (map (character_read upper.now) bytes.now)) }
 {
@@ -131,7 +125,6 @@ pub fn character_count(text: &str) -> usize
     text.chars().count()
 }
 
-/// The bytes that are written for the characters of a text.
 pub(crate) fn bytes_written(
     alloc: Global,
     upper: &[char],

@@ -69,7 +69,6 @@ impl StringPool {
         }
     }
 
-    /// A pool of its parts.
     pub(crate) fn from_parts(codepage: CodePage, long: bool, texts: JoinedTexts) -> StringPool
         requires joined { IsJoined texts }
         requires most { length (places_joined texts) ≤ 16777215 }
@@ -120,7 +119,7 @@ impl StringPool {
         self.kept.len() as u32
     }
 
-    /// A place, counted from 0.
+    /// Returns the place at an index, counted from 0.
     pub(crate) fn place(&self, at: u32) -> PlaceRef<'_>
         requires { at < length self.now.places }
         ensures { slice_get self.now.places at ≡ Some result }
@@ -128,7 +127,6 @@ impl StringPool {
         self.kept.place(at as usize)
     }
 
-    /// The place of a reference, unless that leads past the end.
     fn place_of(&self, reference: StringRef) -> Option<PlaceRef<'_>>
         ensures { result ≡ place_at self.now.places reference }
     {
@@ -175,7 +173,6 @@ impl StringPool {
         })
     }
 
-    /// Whether the text of each free place is empty.
     pub(crate) fn free_places_are_empty(&self) -> bool
         ensures exact { IsTrue result ↔ PlacesWritten self.now.places }
         ensures many { length self.now.places ≤ 16777215 }
@@ -184,7 +181,6 @@ impl StringPool {
         self.kept.are_written()
     }
 
-    /// The allocator that the pool keeps.
     pub(crate) fn allocator(&self) -> Global {
         self.kept.allocator()
     }
@@ -220,11 +216,9 @@ impl StringPool {
         Ok(StringRef::from_number(at + 1))
     }
 
-    /// Stores a text as `incref` does, and widens the references if it needs a place past 65535.
-    ///
-    /// # Errors
-    /// Fails with `InvalidInput` if the pool has 16777215 places and none is free or has the text, and otherwise with
-    /// `OutOfMemory`. Then the pool is as it was, but for `operations`, and the text is dropped.
+    /// Stores a text as `incref` does, and widens the references if it needs a place past 65535. Fails with
+    /// `InvalidInput` if the pool has 16777215 places and none is free or has the text. After a failure only
+    /// `operations` of the pool has changed, and the text is dropped.
     pub(crate) fn incref_widening(&mut self, text: String) -> Result<StringRef, Error>
         ensures ok { IfOk result (λ number.
             taken true self.old.places (string_bytes text) ≡ Some (number, self.new.places)) }
@@ -272,8 +266,8 @@ impl StringPool {
         self.kept.set_counts(counts)
     }
 
-    /// Empties the text of each place that is free and isn't named: `is_named` says which are, from number 1 on. All
-    /// else stays. It takes no memory.
+    /// Empties the text of each place that is free and isn't named; `is_named` begins with place number 1. It takes no
+    /// memory.
     pub(crate) fn forget_texts(&mut self, is_named: &[bool])
         requires { length is_named.now ≡ length self.old.places }
         ensures { self.new ≡ record self.old { places = without_unnamed_texts is_named.now self.old.places } }

@@ -95,7 +95,7 @@ pub fn pool_of(
     Ok(StringPool::from_parts(codepage, long, texts))
 }
 
-/// The page of a header, and whether references are long.
+/// Returns the page of a header, and whether references are long.
 fn page_of(header: u32) -> Result<(CodePage, bool), Error>
     ensures { Gives (λ x. x) result (header_in header) }
 {
@@ -105,7 +105,6 @@ fn page_of(header: u32) -> Result<(CodePage, bool), Error>
     Ok((known_page(header - LONG)?, true))
 }
 
-/// The page of an id.
 fn known_page(id: u32) -> Result<CodePage, Error>
     requires { id < 2 ^ 31 }
     ensures { Gives (λ page. page) result (page_with_id id) }
@@ -116,7 +115,6 @@ fn known_page(id: u32) -> Result<CodePage, Error>
     }
 }
 
-/// The texts that the bytes encode. For those that aren't shared as many bytes are asked as are there.
 fn texts_of(
     alloc: Global,
     codepage: CodePage,
@@ -138,7 +136,7 @@ fn texts_of(
     Ok(joiner.finish())
 }
 
-/// Puts the text that stands in front behind the others, and returns the bytes after it.
+/// Appends the text at the front of the bytes, and returns the bytes after it.
 fn push_text<'a>(
     alloc: Global,
     joiner: &mut TextJoiner,
@@ -163,7 +161,6 @@ fn push_text<'a>(
     Ok(rest)
 }
 
-/// Puts the text that the bytes encode behind the others.
 fn push_piece(
     alloc: Global,
     joiner: &mut TextJoiner,
@@ -186,7 +183,7 @@ fn push_piece(
     joiner.push(text.as_str())
 }
 
-/// Whether the page is known to read the bytes as UTF-8 does, so that no string has to be made to look at them.
+/// Returns whether the page is known to read the bytes as UTF-8 does, so that no string has to be made to look at them.
 fn reads_as_utf8(codepage: CodePage, piece: &[u8]) -> bool
     ensures { result ≡ true → text_in codepage piece.now ≡ text_in Utf8 piece.now }
 {

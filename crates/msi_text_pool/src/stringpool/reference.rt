@@ -23,7 +23,6 @@ impl Model for StringRef {
 }
 
 impl StringRef {
-    /// The place of a number.
     pub(crate) fn from_number(number: u32) -> StringRef
         requires least { 1 ≤ number }
         requires most { number ≤ 16777215 }
@@ -32,7 +31,6 @@ impl StringRef {
         StringRef { number }
     }
 
-    /// The number without sign.
     pub(crate) fn to_number(self) -> u32
         ensures { result ≡ self }
     {

@@ -24,7 +24,7 @@ impl StringPool {
     }
 }
 
-/// Whether a place is free or its text reads back.
+/// Returns whether a place is free or its text reads back.
 fn reads_back(page: CodePage, place: &PlaceRef) -> bool
     ensures exact { IsTrue result ↔ ((0 < place.now.count) → IsWritable page place.now.text) }
     ensures utf8 { IsUtf8 place.now.text }

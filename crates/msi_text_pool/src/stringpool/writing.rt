@@ -81,7 +81,6 @@ pub fn check_texts(pool: &StringPool) -> Result<(), Error>
     }
 }
 
-/// The page's id, with the bit for long references.
 fn header(page: CodePage, long: bool) -> u32
     ensures { result ≡ page_id page + (if long then 2 ^ 31 else 0) }
 {
@@ -89,7 +88,6 @@ fn header(page: CodePage, long: bool) -> u32
     if long { id + LONG } else { id }
 }
 
-/// Why one of the places can't be written.
 fn refusal(pool: &StringPool) -> Option<Reason>
     ensures refused { is_some result ≡ is_refused (unindexed pool.now) }
     ensures many { length pool.now.places ≤ 16777215 }
@@ -105,7 +103,6 @@ fn refusal(pool: &StringPool) -> Option<Reason>
     None
 }
 
-/// Why a place can't be written.
 fn place_refusal(page: CodePage, place: &PlaceRef) -> Option<Reason>
     ensures { is_some result ≡ is_refused_spelling (place_bytes page place.now) }
 {
@@ -116,7 +113,7 @@ fn place_refusal(page: CodePage, place: &PlaceRef) -> Option<Reason>
     }
 }
 
-/// How many bytes a place has in the data stream, where the page carries its text.
+/// Returns how many bytes a place has in the data stream, if the page can hold its text.
 fn place_len(page: CodePage, place: &PlaceRef) -> Option<usize>
     ensures { result ≡ option_map length (place_bytes page place.now) }
 {
@@ -126,7 +123,6 @@ fn place_len(page: CodePage, place: &PlaceRef) -> Option<usize>
     encoded_len(page, place.text())
 }
 
-/// Adds the entries of the places.
 fn push_entries(held: &mut Vec<u8>, pool: &StringPool) -> Result<(), AllocError>
     requires { is_refused (unindexed pool.now) ≡ false }
     ensures { OnOk result
@@ -139,7 +135,6 @@ fn push_entries(held: &mut Vec<u8>, pool: &StringPool) -> Result<(), AllocError>
     Ok(())
 }
 
-/// Adds the entry of a place.
 fn push_place(held: &mut Vec<u8>, page: CodePage, place: &PlaceRef) -> Result<(), AllocError>
     requires { is_refused_spelling (place_bytes page place.now) ≡ false }
     ensures { OnOk result (held.new.items ≡ held.old.items ++ entry_in page place.now) }
@@ -148,7 +143,7 @@ fn push_place(held: &mut Vec<u8>, page: CodePage, place: &PlaceRef) -> Result<()
     push_entry(held, len as u32, place.count())
 }
 
-/// Adds an entry: a long one for a long text, and for an empty one in use.
+/// Adds an entry, which is a long one for a long text and for an empty text in use.
 fn push_entry(held: &mut Vec<u8>, len: u32, count: u16) -> Result<(), AllocError>
     requires { count ≡ 0 → len ≡ 0 }
     ensures { OnOk result (held.new.items ≡ held.old.items ++ plain_entry (record { len = len; count = count })) }
@@ -162,7 +157,6 @@ fn push_entry(held: &mut Vec<u8>, len: u32, count: u16) -> Result<(), AllocError
     push_u32(held, len)
 }
 
-/// Adds the bytes of the texts, one behind the other.
 fn push_texts(held: &mut Vec<u8>, pool: &StringPool) -> Result<(), Error>
     requires { is_refused (unindexed pool.now) ≡ false }
     ensures ok { OnOk result
@@ -176,7 +170,6 @@ fn push_texts(held: &mut Vec<u8>, pool: &StringPool) -> Result<(), Error>
     Ok(())
 }
 
-/// Adds the bytes of a place's text, and none of a free place.
 fn push_text(held: &mut Vec<u8>, page: CodePage, place: &PlaceRef) -> Result<(), Error>
     requires { is_refused_spelling (place_bytes page place.now) ≡ false }
     ensures ok { OnOk result (held.new.items ≡ held.old.items ++ piece_of page place.now) }

@@ -9,10 +9,6 @@ use std::alloc::Global;
 /// many a file gives.
 const MOST_BUILT: usize = 33;
 
-/// Returns the columns of a table, whose values are limited as rules say.
-///
-/// # Errors
-/// Fails with `OutOfMemory`.
 pub(crate) fn built_columns(
     alloc: Global,
     rules: &[Vec<Value>],
@@ -25,7 +21,6 @@ pub(crate) fn built_columns(
     Ok(columns)
 }
 
-/// A column, whose values are limited as rules say.
 fn built_column(
     alloc: Global,
     rules: &[Vec<Value>],
@@ -43,7 +38,6 @@ fn built_column(
     })
 }
 
-/// Says of a column whether it is of the key, takes null, and can be localized.
 fn flagged(column: &GivenColumn, mut builder: ColumnBuilder) -> ColumnBuilder {
     if column.is_key {
         builder = builder.primary_key();

@@ -5,10 +5,6 @@ use msipkg_packages::msi::{Error, Expr, Package, Update, Value};
 use msipkg_packages::output::{Failure, Opened};
 use std::alloc::Global;
 
-/// Describes the columns of a package's tables as rows of `_Validation` do.
-///
-/// # Errors
-/// Fails as `Package::update_rows` does, at the table.
 pub(crate) fn describe(
     alloc: Global,
     package: &mut Package<Opened>,
@@ -20,7 +16,7 @@ pub(crate) fn describe(
     Ok(())
 }
 
-/// Describes the column that a row is about, if the table is there and the row has a text for that.
+/// Describes the column that a row is about, if the table exists and the row has a text for that.
 fn describe_column(
     alloc: Global,
     package: &mut Package<Opened>,
@@ -39,7 +35,6 @@ fn describe_column(
     }
 }
 
-/// Sets the description of a column.
 fn update(alloc: Global, table: &str, column: &str, text: &str) -> Result<Update, Error> {
     let text = Value::from_text(alloc, text)?;
     let is_about = is_equal(alloc, "Table", table)?.and(alloc, is_equal(alloc, "Column", column)?)?;
@@ -48,7 +43,6 @@ fn update(alloc: Global, table: &str, column: &str, text: &str) -> Result<Update
         .with(is_about)
 }
 
-/// The condition that a row has a text in a column.
 fn is_equal(alloc: Global, column: &str, text: &str) -> Result<Expr, Error> {
     Expr::col(alloc, column)?.eq(alloc, Expr::string(alloc, text)?)
 }

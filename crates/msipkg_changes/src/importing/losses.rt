@@ -28,10 +28,6 @@ impl Drop for Descriptions {
 }
 
 impl Descriptions {
-    /// Returns the rows of a package.
-    ///
-    /// # Errors
-    /// Fails if its `_Validation` can't be read, and with `OutOfMemory`.
     fn of(alloc: Global, package: &Package<Opened>) -> Result<Descriptions, Failure> {
         let mut rows = BTreeMap::new(alloc);
         for row in rows_of(alloc, package, VALIDATION)? {
@@ -40,17 +36,12 @@ impl Descriptions {
         Ok(Descriptions { alloc, rows })
     }
 
-    /// Returns the row about a table's column, if there is one.
-    ///
-    /// # Errors
-    /// Fails if memory is refused.
     fn about(&self, table: &str, column: &str) -> Result<Option<&Row>, AllocError> {
         let key = key_of(self.alloc, table, column)?;
         Ok(self.rows.get(key.as_str()))
     }
 }
 
-/// Adds a row, if it is about a column.
 fn add_row(alloc: Global, row: Row, rows: &mut BTreeMap<String, Row>) -> Result<(), AllocError> {
     if row.len() < 2 {
         return Ok(());
@@ -63,15 +54,12 @@ fn add_row(alloc: Global, row: Row, rows: &mut BTreeMap<String, Row>) -> Result<
     Ok(())
 }
 
-/// The key of a row. The length of the table's name tells where the column's begins.
+/// Returns the key of a row, in which the length of the table's name shows where the column's begins.
 fn key_of(alloc: Global, table: &str, column: &str) -> Result<String, AllocError> {
     format!(in alloc; "{} {table}{column}", table.len())
 }
 
 /// Notes what a package doesn't hold of rows of `_Validation` among tables: each cell and each row has a line.
-///
-/// # Errors
-/// Fails if `_Validation` can't be read, and with `OutOfMemory`.
 pub(crate) fn note_losses(
     alloc: Global,
     package: &Package<Opened>,
@@ -95,7 +83,6 @@ pub(crate) struct Losses<'a> {
 }
 
 impl<'a> Losses<'a> {
-    /// Returns what writes lines about a file.
     pub(crate) fn new(file: &'a str, lines: &'a mut Output) -> Losses<'a> {
         Losses {
             file,
@@ -104,10 +91,6 @@ impl<'a> Losses<'a> {
         }
     }
 
-    /// Fails if something is lost that may not be.
-    ///
-    /// # Errors
-    /// Fails so.
     pub(crate) fn permit(&self, is_lossy: bool) -> Result<(), Failure> {
         if self.count > 0 && !is_lossy {
             return Err(Failure::rule(LOSSY));
@@ -115,7 +98,6 @@ impl<'a> Losses<'a> {
         Ok(())
     }
 
-    /// Notes that nothing of a row is stored.
     fn add_row(&mut self, table: &str, column: &str) {
         self.count = self.count.saturating_add(1);
         let (file, table, column) = shown(self.file, table, column);
@@ -125,7 +107,6 @@ impl<'a> Losses<'a> {
         );
     }
 
-    /// Notes that a cell of a row isn't stored.
     fn add_cell(&mut self, table: &str, column: &str, cell: &str) {
         self.count = self.count.saturating_add(1);
         let (file, table, column) = shown(self.file, table, column);
@@ -135,7 +116,7 @@ impl<'a> Losses<'a> {
         );
     }
 
-    /// Notes that rows aren't stored whose tables the package hasn't got.
+    /// Notes that rows aren't stored because the package lacks their tables.
     fn add_others(&mut self, many: usize) {
         if many > 0 {
             self.count = self.count.saturating_add(many);
@@ -148,7 +129,6 @@ impl<'a> Losses<'a> {
     }
 }
 
-/// A file, a table and a column, as they are printed.
 fn shown<'a>(file: &'a str, table: &'a str, column: &'a str) -> (Shown<'a>, Shown<'a>, Shown<'a>) {
     (
         Shown::escaped(file),
@@ -157,7 +137,6 @@ fn shown<'a>(file: &'a str, table: &'a str, column: &'a str) -> (Shown<'a>, Show
     )
 }
 
-/// Notes what a package doesn't hold of the rows of a `_Validation`.
 fn note_table(
     alloc: Global,
     package: &Package<Opened>,
@@ -170,7 +149,6 @@ fn note_table(
     note_rows(package, columns, table, &held, rows.as_slice(), losses)
 }
 
-/// Notes what a package doesn't hold of these rows.
 fn note_rows(
     package: &Package<Opened>,
     columns: &[Column],
@@ -198,7 +176,6 @@ fn note_rows(
     Ok(())
 }
 
-/// Notes the cells of a row that aren't as they are stored, of the columns that its table gives.
 fn note_cells(
     columns: &[Column],
     table: &GivenTable,
@@ -217,12 +194,11 @@ fn note_cells(
     }
 }
 
-/// Whether a value is stored, or says the same as the one that is: a category may be spelled in two ways.
+/// Returns whether a value is stored, or says the same as the stored one: a category may be spelled in two ways.
 fn is_held(cell: &str, value: &Value, stored: &Value) -> bool {
     value == stored || (has_category(cell, value) && category_of(value) == category_of(stored))
 }
 
-/// The category that a value names.
 fn category_of(value: &Value) -> Option<Category> {
     value.as_str()?.parse::<Category>().ok()
 }

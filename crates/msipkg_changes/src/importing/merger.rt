@@ -40,11 +40,9 @@ impl Drop for Merger<'_> {
     }
 }
 
-/// Returns the rows of a table with those that a file gives, which stand in the place of those with the same key, and
-/// else behind them. In a row that is updated, a column that the file doesn't give keeps its value.
-///
-/// # Errors
-/// Fails at a row with the key of an earlier one or with a value that its column doesn't take, and with `OutOfMemory`.
+/// Puts the rows of a file in the place of those with the same key, and else behind them. In a row that is updated, a
+/// column that the file lacks keeps its value. Fails at a row with the key of an earlier one or with a value that its
+/// column doesn't take.
 pub(crate) fn merged_rows(
     alloc: Global,
     columns: &[Column],
@@ -67,7 +65,6 @@ pub(crate) fn merged_rows(
 }
 
 impl Merger<'_> {
-    /// Returns the rows.
     fn into_rows(self) -> Vec<Vec<Value>> {
         let Merger {
             alloc: _,
@@ -80,7 +77,6 @@ impl Merger<'_> {
         rows
     }
 
-    /// Takes the rows of a file.
     fn take_all(&mut self, given: Vec<Vec<Value>>) -> Result<(), Failure> {
         let mut number = 0usize;
         for row in given {
@@ -90,7 +86,6 @@ impl Merger<'_> {
         Ok(())
     }
 
-    /// Takes the row of a number.
     fn take(&mut self, number: usize, row: Vec<Value>) -> Result<(), Failure> {
         let key = key_of(self.alloc, self.columns, row.as_slice())?;
         let end = Place {
@@ -111,7 +106,7 @@ impl Merger<'_> {
         Ok(())
     }
 
-    /// Puts the row of a number at a place, which is that of another one or behind all.
+    /// Puts the row of a number at a place, which is that of another row or behind all.
     fn put(&mut self, number: usize, place: usize, mut row: Vec<Value>) -> Result<(), Failure> {
         if let Some(stored) = self.rows.get(place) {
             self.keep_others(stored.as_slice(), row.as_mut_slice())?;
@@ -124,7 +119,7 @@ impl Merger<'_> {
         Ok(())
     }
 
-    /// Keeps the values of columns that the file doesn't give, if rows are updated.
+    /// Keeps the values of columns that the file lacks, if rows are updated.
     fn keep_others(&self, stored: &[Value], row: &mut [Value]) -> Result<(), Error> {
         if matches!(self.merging, Merging::Replace) {
             return Ok(());
@@ -138,7 +133,6 @@ impl Merger<'_> {
     }
 }
 
-/// Where rows stand, by their keys.
 fn places_of(
     alloc: Global,
     columns: &[Column],
@@ -155,7 +149,6 @@ fn places_of(
     Ok(places)
 }
 
-/// The key of a row.
 fn key_of(alloc: Global, columns: &[Column], row: &[Value]) -> Result<Vec<Value>, Error> {
     let mut key = Vec::new(alloc);
     for (column, value) in columns.iter().zip(row.iter()) {

@@ -7,7 +7,6 @@ use msipkg_queries::{near_text, said, shown_value};
 use msipkg_reading::GivenTable;
 use std::alloc::{AllocError, Global};
 
-/// Returns the columns of a package's table, or none where it isn't there.
 pub(crate) fn columns_of<'a>(package: &'a Package<Opened>, name: &str) -> &'a [Column] {
     match package.get_table(name) {
         Some(table) => table.columns(),
@@ -15,11 +14,8 @@ pub(crate) fn columns_of<'a>(package: &'a Package<Opened>, name: &str) -> &'a [C
     }
 }
 
-/// Returns the rows of a table with a value for each of these columns, which is found by its name. One that isn't given
-/// has nulls.
-///
-/// # Errors
-/// Fails at a name that none of these columns has or that stands twice, and if memory is refused.
+/// Returns the rows of a table with a value for each of these columns, which is found by its name, and is null if it is
+/// missing. Fails at a name that none of these columns has or that occurs twice.
 pub(crate) fn package_rows(
     alloc: Global,
     columns: &[Column],
@@ -33,7 +29,6 @@ pub(crate) fn package_rows(
     Ok(rows)
 }
 
-/// Refuses a name that no column has or that stands twice.
 fn check_names(alloc: Global, columns: &[Column], table: &GivenTable) -> Result<(), Failure> {
     for i in 0..table.columns.len() {
         let name = table.columns[i].name.as_str();
@@ -48,7 +43,6 @@ fn check_names(alloc: Global, columns: &[Column], table: &GivenTable) -> Result<
     Ok(())
 }
 
-/// The message for a column that the package's table hasn't got.
 fn missing_column(alloc: Global, columns: &[Column], name: &str) -> Result<String, AllocError> {
     let mut names = Vec::with_capacity(alloc, columns.len())?;
     for column in columns {
@@ -58,7 +52,6 @@ fn missing_column(alloc: Global, columns: &[Column], name: &str) -> Result<Strin
     format!(in alloc; "the package's table has no such column{near}")
 }
 
-/// The values of a row, in the order of columns.
 fn package_row(
     alloc: Global,
     columns: &[Column],
@@ -76,9 +69,8 @@ fn package_row(
     Ok(values)
 }
 
-/// The value of a column of a type, which is null where none is given. A text stands for what a field of CSV does: the
-/// empty one for null, too, since the installer knows no empty text. One that the column doesn't take is left to be
-/// refused.
+/// Returns the value of a column of a type, or null if none is given. A text is read as a field of CSV: the empty one
+/// is null, too, since the installer knows no empty text. One that the column doesn't take is left to be refused.
 fn package_value(
     alloc: Global,
     coltype: ColumnType,
@@ -91,10 +83,6 @@ fn package_value(
     }
 }
 
-/// Refuses the first row with a value that its column doesn't take.
-///
-/// # Errors
-/// Fails at the row and the column.
 pub(crate) fn check_rows(
     alloc: Global,
     columns: &[Column],
@@ -107,10 +95,7 @@ pub(crate) fn check_rows(
     Ok(())
 }
 
-/// Refuses the row of a number, counted from 0 on, if it has a value that its column doesn't take.
-///
-/// # Errors
-/// Fails at the row and the column.
+/// Refuses a row if it has a value that its column doesn't take. The number of the row is counted from 0.
 pub(crate) fn check_row(
     alloc: Global,
     columns: &[Column],
@@ -127,13 +112,11 @@ pub(crate) fn check_row(
     }
 }
 
-/// The message for a value that its column doesn't take.
 fn refusal(alloc: Global, value: &Value) -> Result<String, AllocError> {
     let shown = shown_value(alloc, value)?;
     format!(in alloc; "the column doesn't take {shown}")
 }
 
-/// The first value that isn't taken, and the name of its column.
 fn refused_value<'a>(columns: &'a [Column], row: &'a [Value]) -> Option<(&'a str, &'a Value)> {
     let (column, value) = columns
         .iter()

@@ -8,10 +8,8 @@ use msipkg_reading::GivenTable;
 use std::alloc::Global;
 
 /// Returns the rows of `_Validation` among tables, with values for the columns that it has in the package. A value that
-/// such a column doesn't take becomes null. Other tools write such ones, as a list of tables to which a key refers.
-///
-/// # Errors
-/// Fails at a column that `_Validation` hasn't got, and if memory is refused.
+/// such a column doesn't take becomes null: other tools write such values, for example a list of tables to which a key
+/// refers. Fails at a column that `_Validation` lacks.
 pub(crate) fn rules_of(
     alloc: Global,
     columns: &[Column],
@@ -26,7 +24,6 @@ pub(crate) fn rules_of(
     Ok(rules)
 }
 
-/// Adds the rows of a table.
 fn add_rules(
     alloc: Global,
     columns: &[Column],
@@ -41,7 +38,7 @@ fn add_rules(
     Ok(())
 }
 
-/// Makes values null that columns don't take, but for a category in another spelling.
+/// Makes values null that columns don't take, except a category in another spelling.
 fn forget_others(columns: &[Column], row: &mut [Value]) {
     for i in 0..row.len().min(columns.len()) {
         if !columns[i].is_valid_value(&row[i]) && !has_category(columns[i].name(), &row[i]) {
@@ -50,7 +47,8 @@ fn forget_others(columns: &[Column], row: &mut [Value]) {
     }
 }
 
-/// Whether a value of a column of `_Validation` names a category: other programs spell some otherwise, as `Guid`.
+/// Returns whether a value of a column of `_Validation` names a category. Other programs spell some differently, such
+/// as `Guid`.
 pub(crate) fn has_category(column: &str, value: &Value) -> bool {
     match value {
         Value::Str(text) => column == "Category" && text.as_str().parse::<Category>().is_ok(),
@@ -58,7 +56,6 @@ pub(crate) fn has_category(column: &str, value: &Value) -> bool {
     }
 }
 
-/// Returns the row about a column, or nothing where there is none.
 pub(crate) fn rule_about<'a>(rules: &'a [Vec<Value>], table: &str, column: &str) -> &'a [Value] {
     for rule in rules {
         if is_about(rule.as_slice(), table, column) {
@@ -68,7 +65,6 @@ pub(crate) fn rule_about<'a>(rules: &'a [Vec<Value>], table: &str, column: &str)
     &[]
 }
 
-/// Whether a row is about a column.
 fn is_about(rule: &[Value], table: &str, column: &str) -> bool {
     match rule {
         [Value::Str(of), Value::Str(name), ..] => of.as_str() == table && name.as_str() == column,

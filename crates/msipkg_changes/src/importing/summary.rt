@@ -6,10 +6,7 @@ use msipkg_packages::output::{Failure, Opened, PROPERTIES};
 use msipkg_reading::GivenProperty;
 use std::alloc::{AllocError, Global};
 
-/// Gives a package a summary, of which nothing of the old one stays but the code page, where none is given.
-///
-/// # Errors
-/// Fails if a text stands for no value of its property, at the property, and with `OutOfMemory`.
+/// Replaces the summary of a package. Of the old one only the code page stays, if no other is given.
 pub(crate) fn apply_summary(
     alloc: Global,
     package: &mut Package<Opened>,
@@ -40,7 +37,6 @@ fn clear_all(summary: &mut SummaryInfo) -> Result<(), Failure> {
     Ok(())
 }
 
-/// Sets a property to what a text of the installer's stands for.
 fn set(alloc: Global, summary: &mut SummaryInfo, name: &str, text: &str) -> Result<(), Failure> {
     match name {
         "keywords" => Ok(set_keywords(alloc, summary, text)?),
@@ -53,7 +49,7 @@ fn set(alloc: Global, summary: &mut SummaryInfo, name: &str, text: &str) -> Resu
     }
 }
 
-/// Sets the keywords to a text as it is, in which they are parted already.
+/// Sets the keywords to a text as it is, in which they are separated already.
 fn set_keywords(alloc: Global, summary: &mut SummaryInfo, text: &str) -> Result<(), Error> {
     let text = String::from_str(alloc, text)?;
     summary.set_keywords(vec![in alloc; text]?.as_slice())
@@ -69,7 +65,8 @@ fn set_template(alloc: Global, summary: &mut SummaryInfo, text: &str) -> Result<
     set_property(alloc, summary, "languages", languages)
 }
 
-/// A time of the installer's tables, as `2024/02/29 12:00:00`, as ISO 8601 has it. A number of ticks stays as it is.
+/// Converts a time of the installer's tables, such as `2024/02/29 12:00:00`, to ISO 8601. A number of ticks stays as it
+/// is.
 fn iso_text(alloc: Global, text: &str) -> Result<String, AllocError> {
     if text.ends_with(" ticks") {
         return String::from_str(alloc, text);

@@ -13,12 +13,9 @@ use msipkg_packages::output::{Failure, Opened};
 use msipkg_reading::GivenTable;
 use std::alloc::Global;
 
-/// Gives a package tables, each with its rows. Rows of `_Validation` say more of columns, and aren't stored themselves.
-/// All tables are created and described before rows are inserted, since each such change copies the texts that the
-/// package has by then.
-///
-/// # Errors
-/// Fails as the changes do, at the table, the row and the column.
+/// Adds tables with their rows. Rows of `_Validation` say more of columns, and aren't stored themselves. All tables are
+/// created and described before rows are inserted, since each such change copies the texts that the package has by
+/// then.
 pub(crate) fn apply_tables(
     alloc: Global,
     package: &mut Package<Opened>,
@@ -31,7 +28,7 @@ pub(crate) fn apply_tables(
     insert_all(alloc, package, tables, merging)
 }
 
-/// Gives a package `_Validation` if it lacks one of the tables.
+/// Adds `_Validation` to a package if it lacks one of the tables.
 fn prepare(
     alloc: Global,
     package: &mut Package<Opened>,
@@ -48,7 +45,6 @@ fn prepare(
     Ok(())
 }
 
-/// Creates the tables that aren't there, and describes columns.
 fn create_tables(
     alloc: Global,
     package: &mut Package<Opened>,
@@ -66,7 +62,6 @@ fn create_tables(
     describe(alloc, package, rules)
 }
 
-/// Creates a table.
 fn create_table(
     alloc: Global,
     package: &mut Package<Opened>,
@@ -78,7 +73,6 @@ fn create_table(
     Ok(package.create_table(table.name.as_str(), columns)?)
 }
 
-/// Inserts the rows of tables.
 fn insert_all(
     alloc: Global,
     package: &mut Package<Opened>,
@@ -96,7 +90,6 @@ fn insert_all(
     Ok(())
 }
 
-/// Puts the rows of a table among those that the package has.
 fn put_rows(
     alloc: Global,
     package: &mut Package<Opened>,
@@ -109,7 +102,6 @@ fn put_rows(
     }
 }
 
-/// Inserts the rows of a table.
 fn insert_rows(
     alloc: Global,
     package: &mut Package<Opened>,
@@ -121,7 +113,6 @@ fn insert_rows(
     Ok(package.insert_rows(insert(alloc, table, rows)?)?)
 }
 
-/// Replaces or updates rows by those of a table.
 fn merge_rows(
     alloc: Global,
     package: &mut Package<Opened>,
@@ -136,7 +127,6 @@ fn merge_rows(
     Ok(package.insert_rows(insert(alloc, table, rows)?)?)
 }
 
-/// The query that inserts rows into a table.
 fn insert(alloc: Global, table: &GivenTable, rows: Vec<Vec<Value>>) -> Result<Insert, Error> {
     Insert::into(alloc, table.name.as_str())?.rows(rows)
 }
