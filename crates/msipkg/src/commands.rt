@@ -1,15 +1,17 @@
-//! A command: from arguments to what they ask for, from a failure to its line and status.
+//! Running a command: from words to an exit status.
 
-use crate::changing::{self, is_change};
-use crate::exchanging::{compare, is_each};
-use crate::looking::{escapes_of, look};
-use crate::several::print_each;
+use crate::asked::Asked;
+use crate::command::{Command, manner_of};
+use crate::escapes::escapes_of;
+use crate::looking::look_at_each;
 use clap::ArgMatches;
 use clap::error::ErrorKind;
+use msipkg_changes::{Change, change_file, create_file, read_script};
+use msipkg_diff::compare_files;
 use msipkg_output::{Failure, Output, System};
-use msipkg_packages::{PackageFile, Purpose};
+use msipkg_packages::Purpose;
 use msipkg_texts::{Shown, Style};
-use msipkg_words::{Verb, matches_of, verb_named};
+use msipkg_words::{matches_of, verb_named};
 
 /// The exit status where the reader of the output has gone away: that of a program which the signal for it ended.
 const CLOSED: u8 = 141;
@@ -46,10 +48,12 @@ pub(crate) fn unwritten_status(output: &Output) -> u8 {
     if output.is_closed() { CLOSED } else { 1 }
 }
 
+/// Every error but a lack of memory is one of the words.
 fn status_of(kind: ErrorKind) -> u8 {
-    match kind {
-        ErrorKind::OutOfMemory => 1,
-        _ => 2,
+    if matches!(kind, ErrorKind::OutOfMemory) {
+        1
+    } else {
+        2
     }
 }
 
@@ -63,22 +67,14 @@ fn run_matched(
     let Some(asked) = asked_of(matches, is_terminal) else {
         return 2;
     };
-    match carry_out(rt, &asked, output, errors) {
+    let command = Command::of(&asked);
+    match carry_out(rt, &asked, command, output, errors) {
         Ok(status) => status,
         Err(_) if output.is_closed() => CLOSED,
         Err(failure) => {
             report(asked.file(), &failure, errors);
-            failure_status(asked.verb)
+            command.failure_status()
         }
-    }
-}
-
-/// Returns the exit status for a command that failed: `diff` and `check` have 1 for what they find, and 2 where they
-/// failed.
-pub(crate) fn failure_status(verb: Verb) -> u8 {
-    match verb {
-        Verb::Diff | Verb::Check => 2,
-        _ => 1,
     }
 }
 
@@ -90,54 +86,6 @@ fn asked_of<'a, 'b>(matches: &'b ArgMatches<'a>, is_terminal: bool) -> Option<As
         escapes: escapes_of(verb, given, is_terminal),
     };
     Some(Asked { verb, given, style })
-}
-
-/// A command with what was given to it.
-#[derive(Clone, Copy)]
-pub(crate) struct Asked<'a, 'b> {
-    pub(crate) verb: Verb,
-    pub(crate) given: &'b ArgMatches<'a>,
-    pub(crate) style: Style,
-}
-
-impl<'a, 'b> Asked<'a, 'b> {
-    pub(crate) fn file(&self) -> &'a str {
-        self.text("FILE")
-    }
-
-    pub(crate) fn package<'c>(&self, path: &'c str, purpose: Purpose) -> PackageFile<'c> {
-        PackageFile {
-            path,
-            page: self.page(),
-            purpose,
-        }
-    }
-
-    /// Returns what a package that is to be changed is opened for, which is `recoded` only with `--recode`.
-    pub(crate) fn purpose_of_change(&self, recoded: Purpose) -> Purpose {
-        if self.given.get_flag("recode") {
-            recoded
-        } else {
-            Purpose::Change
-        }
-    }
-
-    fn page(&self) -> Option<i32> {
-        self.given.get_str("page")?.parse().ok()
-    }
-
-    pub(crate) fn is_json(&self) -> bool {
-        self.given.get_flag("json")
-    }
-
-    /// Returns the value of an argument, or the empty text.
-    pub(crate) fn text(&self, id: &str) -> &'a str {
-        self.given.get_str(id).unwrap_or("")
-    }
-
-    pub(crate) fn texts(&self, id: &str) -> &'b [&'a str] {
-        self.given.get_strs(id).unwrap_or(&[])
-    }
 }
 
 pub(crate) fn report(file: &str, failure: &Failure, errors: &mut Output) {
@@ -157,10 +105,11 @@ pub(crate) fn report(file: &str, failure: &Failure, errors: &mut Output) {
 fn carry_out(
     rt: &System,
     asked: &Asked<'_, '_>,
+    command: Command<'_, '_>,
     output: &mut Output,
     errors: &mut Output,
 ) -> Result<u8, Failure> {
-    match obey(rt, asked, output, errors) {
+    match obey(rt, asked, command, output, errors) {
         Ok(status) => {
             output.end()?;
             errors.end()?;
@@ -175,45 +124,83 @@ fn first_failure(failure: Failure, output: &mut Output) -> Failure {
     let has_failed = output.has_failed();
     match output.end() {
         Err(error) if has_failed => Failure::from(error),
-        _ => failure,
+        Ok(()) | Err(_) => failure,
     }
 }
 
 fn obey(
     rt: &System,
     asked: &Asked<'_, '_>,
+    command: Command<'_, '_>,
     output: &mut Output,
     errors: &mut Output,
 ) -> Result<u8, Failure> {
-    if is_change(asked) {
-        changing::change(rt, asked, output, errors)?;
-        return Ok(0);
+    match command {
+        Command::Look(task) => look_at_each(rt, asked, task, output, errors),
+        Command::Diff { other, is_json } => compare(rt, asked, other, is_json, output, errors),
+        Command::New {
+            kind,
+            page,
+            is_forced,
+        } => {
+            create_file(rt, asked.file(), kind, page, is_forced)?;
+            Ok(0)
+        }
+        Command::Change(made) => change(rt, asked, made, output, errors),
+        Command::Script(path) => execute_script(rt, asked, path, output, errors),
+        Command::Batch => Err(Failure::rule("batch is no command of a batch")),
     }
-    look_or_compare(&with_input(rt, asked)?, asked, output, errors)
 }
 
-/// Returns the system for a command that looks at packages. If the command names `-`, standard input is read.
-fn with_input(rt: &System, asked: &Asked<'_, '_>) -> Result<System, Failure> {
-    let has_input = |id: &str| asked.texts(id).contains(&"-");
-    let is_named = has_input("FILE") || has_input("OTHER") || is_each(asked) && has_input("TABLE");
-    if is_named {
+/// Returns the system for a command that looks at these files. If `-` is one of them, standard input is read.
+pub(crate) fn with_input(rt: &System, files: &[&str]) -> Result<System, Failure> {
+    if files.contains(&"-") {
         Ok(rt.with_input()?)
     } else {
         Ok(*rt)
     }
 }
 
-fn look_or_compare(
+fn compare(
     rt: &System,
     asked: &Asked<'_, '_>,
+    other: &str,
+    is_json: bool,
     output: &mut Output,
     errors: &mut Output,
 ) -> Result<u8, Failure> {
-    let is_well = match asked.verb {
-        Verb::Info | Verb::Check => return Ok(print_each(rt, asked, output, errors)),
-        Verb::Export if is_each(asked) => return Ok(print_each(rt, asked, output, errors)),
-        Verb::Diff => compare(rt, asked, output, errors)?,
-        _ => look(rt, asked, asked.file(), output, errors)?,
-    };
-    Ok(u8::from(!is_well))
+    let rt = with_input(rt, &[asked.file(), other])?;
+    let old = asked.package(asked.file(), Purpose::Look);
+    let new = asked.package(other, Purpose::Look);
+    let is_same = compare_files(&rt, asked.style, &old, &new, is_json, output, errors)?;
+    Ok(u8::from(!is_same))
+}
+
+/// Makes a change in a package: all of it, or none.
+fn change(
+    rt: &System,
+    asked: &Asked<'_, '_>,
+    made: Change<'_, '_>,
+    output: &mut Output,
+    errors: &mut Output,
+) -> Result<u8, Failure> {
+    let purpose = asked.purpose_of_change(Purpose::Recode);
+    let file = asked.package(asked.file(), purpose);
+    change_file(rt, &file, made, manner_of(asked), output, errors)?;
+    Ok(0)
+}
+
+fn execute_script(
+    rt: &System,
+    asked: &Asked<'_, '_>,
+    path: &str,
+    output: &mut Output,
+    errors: &mut Output,
+) -> Result<u8, Failure> {
+    let statements = read_script(rt, path)?;
+    let mut texts = Vec::with_capacity(rt.alloc(), statements.len())?;
+    for statement in &statements {
+        texts.push(statement.as_str())?;
+    }
+    change(rt, asked, Change::Execute(texts.as_slice()), output, errors)
 }

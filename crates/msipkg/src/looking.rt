@@ -1,119 +1,138 @@
-//! The commands that look at a package: what is asked for, and what it shows.
+//! Commands that look at packages: an error in one is printed, and the others go on.
 
-use crate::commands::Asked;
-use crate::exchanging::export_asked;
-use clap::ArgMatches;
-use msipkg_checks::{CheckOptions, check_file};
-use msipkg_looks::{Form, Format, Look, show};
-use msipkg_output::{Failure, Output, RowFormat, System};
-use msipkg_packages::{Folder, Purpose};
-use msipkg_texts::Escapes;
-use msipkg_words::Verb;
+use crate::asked::Asked;
+use crate::command::Task;
+use crate::commands::{report, with_input};
+use msipkg_changes::mend_counts;
+use msipkg_checks::check_file;
+use msipkg_export::{export, export_line};
+use msipkg_looks::{Look, show};
+use msipkg_output::{Failure, Output, System, failure_json};
+use msipkg_packages::Purpose;
+use std::alloc::Global;
 
-/// Returns what a command prints as escapes. JSON and CSV have escapes or quotes of their own.
-pub(crate) fn escapes_of(verb: Verb, given: &ArgMatches<'_>, is_terminal: bool) -> Escapes {
-    if is_terminal || given.get_flag("escape") {
-        return Escapes::Hidden;
-    }
-    match verb {
-        Verb::Info
-        | Verb::Tables
-        | Verb::Schema
-        | Verb::Streams
-        | Verb::Summary
-        | Verb::Check
-        | Verb::Diff => {
-            if given.get_flag("json") {
-                Escapes::Nothing
-            } else {
-                Escapes::Hidden
-            }
-        }
-        Verb::Query if !given.get_flag("raw") => row_escapes(given),
-        _ => Escapes::Nothing,
-    }
-}
-
-fn row_escapes(given: &ArgMatches<'_>) -> Escapes {
-    match Format::of_name(given.get_str("format").unwrap_or("tabs")) {
-        Some(Format::Table) => Escapes::Hidden,
-        Some(Format::Rows(RowFormat::Csv | RowFormat::Json)) => Escapes::Nothing,
-        Some(Format::Rows(RowFormat::Tabs | RowFormat::Lines)) | None => Escapes::Breaks,
-    }
-}
-
-/// Carries out a command that looks at the package of a file, and returns whether nothing was found to be wrong.
-pub(crate) fn look(
+/// Looks at each file, and returns the greatest of their exit statuses. As JSON each file has one line, with its error
+/// as `error`.
+pub(crate) fn look_at_each(
     rt: &System,
     asked: &Asked<'_, '_>,
+    task: Task<'_, '_>,
+    output: &mut Output,
+    errors: &mut Output,
+) -> Result<u8, Failure> {
+    let status = look_at_files(rt, asked, task, asked.texts("FILE"), output, errors)?;
+    match task {
+        // With --each the words behind the first are files, too.
+        Task::ExportLine => {
+            let others = asked.texts("TABLE");
+            Ok(status.max(look_at_files(rt, asked, task, others, output, errors)?))
+        }
+        Task::Show(_) | Task::Check { .. } | Task::Export { .. } => Ok(status),
+    }
+}
+
+fn look_at_files(
+    rt: &System,
+    asked: &Asked<'_, '_>,
+    task: Task<'_, '_>,
+    files: &[&str],
+    output: &mut Output,
+    errors: &mut Output,
+) -> Result<u8, Failure> {
+    let rt = with_input(rt, files)?;
+    let mut status = 0u8;
+    for file in files {
+        status = status.max(look_or_report(&rt, asked, task, file, output, errors));
+        if output.has_failed() {
+            break;
+        }
+    }
+    Ok(status)
+}
+
+/// An error of the output isn't reported here, but where the output ends.
+fn look_or_report(
+    rt: &System,
+    asked: &Asked<'_, '_>,
+    task: Task<'_, '_>,
     file: &str,
     output: &mut Output,
     errors: &mut Output,
-) -> Result<bool, Failure> {
-    let file = asked.package(file, Purpose::Look);
-    match asked.verb {
-        Verb::Check => check_file(rt, options_of(asked), &file, output, errors),
-        Verb::Export => export_asked(rt, asked, &file, output, errors),
-        _ => show(rt, asked.style, &file, look_of(asked), output, errors),
-    }
-}
-
-fn options_of(asked: &Asked<'_, '_>) -> CheckOptions {
-    CheckOptions {
-        style: asked.style,
-        is_json: asked.is_json(),
-        is_strict: asked.given.get_flag("strict"),
-    }
-}
-
-fn look_of<'a, 'b>(asked: &Asked<'a, 'b>) -> Look<'a, 'b> {
-    let is_json = asked.is_json();
-    match asked.verb {
-        Verb::Info => Look::Info { is_json },
-        Verb::Tables => Look::Tables { is_json },
-        Verb::Streams => Look::Streams { is_json },
-        Verb::Summary => Look::Summary { is_json },
-        Verb::Schema => Look::Schema {
-            names: asked.texts("TABLE"),
-            form: form_of(asked),
-        },
-        Verb::Extract => {
-            let folder = folder_of(asked);
-            Look::Extract {
-                names: asked.texts("NAME"),
-                folder,
+) -> u8 {
+    write_head(asked, task, file, output);
+    match look(rt, asked, task, file, output, errors) {
+        Ok(is_well) => u8::from(!is_well),
+        Err(failure) => {
+            if !output.has_failed() {
+                report_one(rt.alloc(), asked, task, file, &failure, output, errors);
             }
+            task.failure_status()
         }
-        _ => Look::Query {
-            text: asked.text("TEXT"),
-            format: format_of(asked),
-        },
     }
 }
 
-fn folder_of<'a>(asked: &Asked<'a, '_>) -> Folder<'a> {
-    Folder {
-        path: asked.text("output"),
-        is_forced: asked.given.get_flag("force"),
+/// Writes the path of a file above what `info` prints of it, if there are several files.
+fn write_head(asked: &Asked<'_, '_>, task: Task<'_, '_>, file: &str, output: &mut Output) {
+    let is_alone = asked.texts("FILE").len() < 2;
+    if !is_alone && matches!(task, Task::Show(Look::Info { is_json: false })) {
+        writeln!(output, "file: {}", asked.style.show(file));
     }
 }
 
-fn form_of(asked: &Asked<'_, '_>) -> Form {
-    if asked.is_json() {
-        Form::Json
-    } else if asked.given.get_flag("sql") {
-        Form::Sql
+/// Looks at a package, and returns whether nothing was found to be wrong.
+fn look(
+    rt: &System,
+    asked: &Asked<'_, '_>,
+    task: Task<'_, '_>,
+    path: &str,
+    output: &mut Output,
+    errors: &mut Output,
+) -> Result<bool, Failure> {
+    let file = asked.package(path, Purpose::Look);
+    match task {
+        Task::Show(look) => show(rt, asked.style, &file, look, output, errors),
+        Task::Check { options, mending } => {
+            if let Some(manner) = mending {
+                // Checking the package afterwards notes where its texts are still recoded.
+                let purpose = asked.purpose_of_change(Purpose::RecodeSilently);
+                mend_counts(rt, &asked.package(path, purpose), manner, errors)?;
+            }
+            check_file(rt, options, &file, output, errors)
+        }
+        Task::Export { tables, target } => export(rt, &file, tables, &target, output, errors),
+        Task::ExportLine => {
+            export_line(rt, asked.style, &file, output, errors)?;
+            Ok(true)
+        }
+    }
+}
+
+fn report_one(
+    alloc: Global,
+    asked: &Asked<'_, '_>,
+    task: Task<'_, '_>,
+    file: &str,
+    failure: &Failure,
+    output: &mut Output,
+    errors: &mut Output,
+) {
+    let is_json = match task {
+        Task::Show(Look::Info { is_json }) => is_json,
+        Task::Check { options, .. } => options.is_json,
+        Task::ExportLine => true,
+        Task::Show(
+            Look::Tables { .. }
+            | Look::Schema { .. }
+            | Look::Query { .. }
+            | Look::Streams { .. }
+            | Look::Extract { .. }
+            | Look::Summary { .. },
+        )
+        | Task::Export { .. } => false,
+    };
+    if is_json {
+        failure_json(alloc, file, failure).print_line(asked.style, output);
     } else {
-        Form::Rows
-    }
-}
-
-/// Returns the format that was asked for, or by default aligned columns on a terminal and tab-separated lines
-/// elsewhere.
-fn format_of(asked: &Asked<'_, '_>) -> Format {
-    match Format::of_name(asked.text("format")) {
-        Some(format) => format,
-        None if asked.style.is_terminal => Format::Table,
-        None => Format::Rows(RowFormat::Tabs),
+        report(file, failure, errors);
     }
 }

@@ -1,12 +1,12 @@
 //! The program `msipkg`: looks into Windows Installer packages, and changes them.
 #![tactic(auto)]
 
+mod asked;
 mod batch;
-mod changing;
+mod command;
 mod commands;
-mod exchanging;
+mod escapes;
 mod looking;
-mod several;
 
 use msipkg_output::{Output, System};
 use std::io::IsTerminal;

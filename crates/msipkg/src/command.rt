@@ -1,0 +1,224 @@
+//! What a command asks for, made once from its words.
+
+use crate::asked::Asked;
+use msipkg_changes::{Change, Import, Manner, Merging};
+use msipkg_checks::CheckOptions;
+use msipkg_export::{FileFormat, Target};
+use msipkg_looks::{Form, Format, Look};
+use msipkg_output::RowFormat;
+use msipkg_packages::Folder;
+use msipkg_words::Verb;
+
+/// A command.
+#[derive(Clone, Copy)]
+pub(crate) enum Command<'a, 'b> {
+    /// It looks at the packages of files, one after the other.
+    Look(Task<'a, 'b>),
+    Diff {
+        other: &'a str,
+        is_json: bool,
+    },
+    New {
+        kind: &'a str,
+        page: Option<&'a str>,
+        is_forced: bool,
+    },
+    Change(Change<'a, 'b>),
+    /// It carries out the statements of a file.
+    Script(&'a str),
+    Batch,
+}
+
+/// What is done with each package that a command looks at.
+#[derive(Clone, Copy)]
+pub(crate) enum Task<'a, 'b> {
+    Show(Look<'a, 'b>),
+    Check {
+        options: CheckOptions,
+        /// How the package is mended first, if it is.
+        mending: Option<Manner>,
+    },
+    Export {
+        tables: &'b [&'a str],
+        target: Target<'a>,
+    },
+    /// It is exported as a line of JSON.
+    ExportLine,
+}
+
+impl<'a, 'b> Command<'a, 'b> {
+    pub(crate) fn of(asked: &Asked<'a, 'b>) -> Command<'a, 'b> {
+        let is_json = asked.has("json");
+        match asked.verb {
+            Verb::Info => Command::Look(Task::Show(Look::Info { is_json })),
+            Verb::Tables => Command::Look(Task::Show(Look::Tables { is_json })),
+            Verb::Schema => Command::Look(Task::Show(schema_of(asked))),
+            Verb::Query => Command::Look(Task::Show(query_of(asked))),
+            Verb::Streams => Command::Look(Task::Show(Look::Streams { is_json })),
+            Verb::Extract => Command::Look(Task::Show(extract_of(asked))),
+            Verb::Summary => summary_of(asked),
+            Verb::Check => Command::Look(check_of(asked)),
+            Verb::New => new_of(asked),
+            Verb::Add => Command::Change(Change::Add(asked.texts("NAME=PATH"))),
+            Verb::Remove => Command::Change(remove_of(asked)),
+            Verb::Exec => exec_of(asked),
+            Verb::Export => Command::Look(export_of(asked)),
+            Verb::Import => Command::Change(import_of(asked)),
+            Verb::Diff => Command::Diff {
+                other: asked.text("OTHER"),
+                is_json,
+            },
+            Verb::Batch => Command::Batch,
+        }
+    }
+
+    /// Returns the exit status of a command that failed: `diff` and `check` have 1 for what they find, and 2 where they
+    /// failed.
+    pub(crate) fn failure_status(self) -> u8 {
+        match self {
+            Command::Diff { .. } => 2,
+            Command::Look(task) => task.failure_status(),
+            Command::New { .. } | Command::Change(_) | Command::Script(_) | Command::Batch => 1,
+        }
+    }
+}
+
+impl<'a, 'b> Task<'a, 'b> {
+    pub(crate) fn failure_status(self) -> u8 {
+        match self {
+            Task::Check { .. } => 2,
+            Task::Show(_) | Task::Export { .. } | Task::ExportLine => 1,
+        }
+    }
+}
+
+/// Returns how a package is changed.
+pub(crate) fn manner_of(asked: &Asked<'_, '_>) -> Manner {
+    Manner {
+        is_strict: asked.has("strict"),
+        is_verified: !asked.has("no-verify"),
+        is_json: asked.has("json"),
+        style: asked.style,
+    }
+}
+
+fn schema_of<'a, 'b>(asked: &Asked<'a, 'b>) -> Look<'a, 'b> {
+    Look::Schema {
+        names: asked.texts("TABLE"),
+        form: if asked.has("json") {
+            Form::Json
+        } else if asked.has("sql") {
+            Form::Sql
+        } else {
+            Form::Rows
+        },
+    }
+}
+
+fn query_of<'a, 'b>(asked: &Asked<'a, 'b>) -> Look<'a, 'b> {
+    Look::Query {
+        text: asked.text("TEXT"),
+        format: format_of(asked),
+    }
+}
+
+/// Returns the format that was asked for, or by default aligned columns on a terminal and tab-separated lines
+/// elsewhere.
+fn format_of(asked: &Asked<'_, '_>) -> Format {
+    match Format::of_name(asked.text("format")) {
+        Some(format) => format,
+        None if asked.style.is_terminal => Format::Table,
+        None => Format::Rows(RowFormat::Tabs),
+    }
+}
+
+fn extract_of<'a, 'b>(asked: &Asked<'a, 'b>) -> Look<'a, 'b> {
+    Look::Extract {
+        names: asked.texts("NAME"),
+        folder: Folder {
+            path: asked.text("output"),
+            is_forced: asked.has("force"),
+        },
+    }
+}
+
+/// Properties are printed, unless some are set or cleared.
+fn summary_of<'a, 'b>(asked: &Asked<'a, 'b>) -> Command<'a, 'b> {
+    let (set, cleared) = (asked.texts("set"), asked.texts("clear"));
+    if set.is_empty() && cleared.is_empty() {
+        let is_json = asked.has("json");
+        return Command::Look(Task::Show(Look::Summary { is_json }));
+    }
+    Command::Change(Change::Properties { set, cleared })
+}
+
+fn check_of<'a, 'b>(asked: &Asked<'a, 'b>) -> Task<'a, 'b> {
+    Task::Check {
+        options: CheckOptions {
+            style: asked.style,
+            is_json: asked.has("json"),
+            is_strict: asked.has("strict"),
+        },
+        mending: if asked.has("fix") {
+            Some(manner_of(asked))
+        } else {
+            None
+        },
+    }
+}
+
+fn new_of<'a, 'b>(asked: &Asked<'a, 'b>) -> Command<'a, 'b> {
+    Command::New {
+        kind: asked.text("kind"),
+        page: asked.option("page"),
+        is_forced: asked.has("force"),
+    }
+}
+
+fn remove_of<'a, 'b>(asked: &Asked<'a, 'b>) -> Change<'a, 'b> {
+    Change::Remove {
+        names: asked.texts("NAME"),
+        is_signature: asked.has("signature"),
+    }
+}
+
+fn exec_of<'a, 'b>(asked: &Asked<'a, 'b>) -> Command<'a, 'b> {
+    match asked.option("from") {
+        Some(path) => Command::Script(path),
+        None => Command::Change(Change::Execute(asked.texts("TEXT"))),
+    }
+}
+
+fn export_of<'a, 'b>(asked: &Asked<'a, 'b>) -> Task<'a, 'b> {
+    if asked.has("each") {
+        return Task::ExportLine;
+    }
+    Task::Export {
+        tables: asked.texts("TABLE"),
+        target: target_of(asked),
+    }
+}
+
+/// Returns what an export goes to, where `-` is the output.
+fn target_of<'a>(asked: &Asked<'a, '_>) -> Target<'a> {
+    Target {
+        format: FileFormat::of_name(asked.text("format")).unwrap_or(FileFormat::Json),
+        path: asked.option("output").filter(|path| *path != "-"),
+        is_forced: asked.has("force"),
+        style: asked.style,
+    }
+}
+
+fn import_of<'a, 'b>(asked: &Asked<'a, 'b>) -> Change<'a, 'b> {
+    Change::Import(Import {
+        paths: asked.texts("PATH"),
+        merging: if asked.has("replace") {
+            Merging::Replace
+        } else if asked.has("update") {
+            Merging::Update
+        } else {
+            Merging::Refuse
+        },
+        is_lossy: asked.has("lossy"),
+    })
+}
