@@ -37,10 +37,6 @@ pub kind_is : {X : Type 0} (r : Result X Fault) (e : Fault) (k : ErrorKind) → 
 kind_is (Ok x) e k is h = tt
 kind_is (Err f) e k is h = ap (λ (g : Fault). g.kind) is ∙ h
 
-pub no_input : {X : Type 0} (P : Type 0) (r : Result X Fault) → IsErrAnd r (λ f. f ≡ no_memory) → IfErr r (λ f. f.kind ≡ kind.InvalidInput → P)
-no_input P (Ok x) is = tt
-no_input P (Err f) is = λ k. absurd (input_no_memory (sym k ∙ ap (λ (g : Fault). g.kind) is))
-
 -- an error of data at a place
 pub refused_at : {Y : Type 0} (e : Fault) (place : Place) (read : Option Y) → e ≡ record { kind = kind.InvalidData; place = Some place } → read ≡ None → FailsAs e.kind read
 refused_at e place read is none = subst (λ (k : Fault). FailsAs k.kind read) (sym is) none

@@ -1,6 +1,6 @@
 //! Control characters, and the characters that stand for them in a text archive.
 
-ghost use Rattle.std.specs.Prelude.{◌≡◌, ◌++◌, ◌||◌, IfOk, OnOk, map, string_bytes};
+ghost use Rattle.std.specs.Prelude.{◌≡◌, ◌++◌, ◌||◌, IfOk, OnOk, length, map, string_bytes, take};
 ghost use Rattle.std.specs.List.{list_any};
 ghost use Rattle.msi_text_archive.specs.Characters.{is_control as is_control_of, is_stand_in as is_stand_in_of};
 ghost use Rattle.msi_text_archive.specs.Characters.{swapped as swapped_of};
@@ -70,7 +70,8 @@ fn swapped(character: char) -> char
 
 /// Appends a text in which control characters and those that replace them have changed places.
 pub(crate) fn push_swapped(text: &mut String, plain: &str) -> Result<(), AllocError>
-    ensures { OnOk result (string_bytes text.new ≡ string_bytes text.old ++ map swapped_of plain.now) }
+    ensures ok { OnOk result (string_bytes text.new ≡ string_bytes text.old ++ map swapped_of plain.now) }
+    ensures begins { take (length (string_bytes text.old)) (string_bytes text.new) ≡ string_bytes text.old }
 {
     if has_moved(plain) {
         push_each_swapped(text, plain)
@@ -80,7 +81,8 @@ pub(crate) fn push_swapped(text: &mut String, plain: &str) -> Result<(), AllocEr
 }
 
 fn push_each_swapped(text: &mut String, plain: &str) -> Result<(), AllocError>
-    ensures { OnOk result (string_bytes text.new ≡ string_bytes text.old ++ map swapped_of plain.now) }
+    ensures ok { OnOk result (string_bytes text.new ≡ string_bytes text.old ++ map swapped_of plain.now) }
+    ensures begins { take (length (string_bytes text.old)) (string_bytes text.new) ≡ string_bytes text.old }
 {
     for character in plain.chars() {
         text.push(swapped(character))?;

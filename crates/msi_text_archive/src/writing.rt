@@ -1,6 +1,7 @@
 //! Writing an archive as its text.
 
-ghost use Rattle.std.specs.Prelude.{◌≡◌, ◌++◌, ◌∷◌, [], IfOk, IfErr, OnOk, if◌then◌else◌, map, string_bytes, true};
+ghost use Rattle.std.specs.Prelude.{◌≡◌, ◌++◌, ◌∷◌, [], IfOk, IfErr, OnErr, OnOk, if◌then◌else◌};
+ghost use Rattle.std.specs.Prelude.{length, map, string_bytes, take, true};
 ghost use Rattle.std.specs.List.{flat_map};
 ghost use Rattle.msi_text_base.specs.declared.errors.ErrorKind.TheVariants.{InvalidInput, OutOfMemory};
 ghost use Rattle.msi_text_archive.specs.Places.{IsAt};
@@ -16,16 +17,21 @@ use crate::archive::{Archive, ArchiveColumn};
 use crate::characters::push_swapped;
 use crate::errors::ArchiveError;
 use crate::writable::{check_archive, check_row};
+use itoa::Buffer;
 use msi_table_values::column::ColumnType;
 use msi_table_values::value::Value;
 use msi_text_base::text::Items;
 use std::alloc::{AllocError, Global};
 
 fn push_value(text: &mut String, value: &Value) -> Result<(), AllocError>
-    ensures { OnOk result (string_bytes text.new ≡ string_bytes text.old ++ value_field_of value.now) }
+    ensures ok { OnOk result (string_bytes text.new ≡ string_bytes text.old ++ value_field_of value.now) }
+    ensures begins { take (length (string_bytes text.old)) (string_bytes text.new) ≡ string_bytes text.old }
 {
     match value {
-        Value::Int(number) => write!(text, "{number}"),
+        Value::Int(number) => {
+            let mut digits = Buffer::new();
+            text.push_str(digits.format(*number))
+        }
         Value::Str(plain) => push_swapped(text, plain.as_str()),
         Value::Null | Value::Binary => Ok(()),
     }
@@ -114,8 +120,9 @@ fn push_keys(text: &mut String, archive: &Archive) -> Result<(), AllocError>
     text.push_str("\r\n")
 }
 
-fn push_row(text: &mut String, row: &[Value]) -> Result<(), AllocError>
-    ensures { OnOk result (string_bytes text.new ≡ string_bytes text.old ++ row_line row.now) }
+fn push_fields(text: &mut String, row: &[Value]) -> Result<(), AllocError>
+    ensures ok { OnOk result (string_bytes text.new ≡ string_bytes text.old ++ row_line row.now) }
+    ensures begins { take (length (string_bytes text.old)) (string_bytes text.new) ≡ string_bytes text.old }
 {
     let Some((first, others)) = row.split_first() else {
         return text.push_str("\r\n");
@@ -126,6 +133,19 @@ fn push_row(text: &mut String, row: &[Value]) -> Result<(), AllocError>
         push_value(text, value)?;
     }
     text.push_str("\r\n")
+}
+
+/// Appends the line of a row. If memory is refused, the text stays as it was.
+fn push_row(text: &mut String, row: &[Value]) -> Result<(), AllocError>
+    ensures ok { OnOk result (string_bytes text.new ≡ string_bytes text.old ++ row_line row.now) }
+    ensures same { OnErr result (string_bytes text.new ≡ string_bytes text.old) }
+{
+    let held = text.len();
+    let pushed = push_fields(text, row);
+    if pushed.is_err() {
+        text.truncate(held);
+    }
+    pushed
 }
 
 fn push_rows(text: &mut String, rows: &[Items<Value>]) -> Result<(), AllocError>
@@ -173,10 +193,10 @@ pub fn write(alloc: Global, archive: &Archive) -> Result<String, ArchiveError>
 /// given, which is 4 for the first row.
 ///
 /// # Errors
-/// Fails with `InvalidInput` if no line means the row, and then the text stays as it was: a text is empty or has one of
-/// the characters that stand for control characters; a value isn't of its column's type, or there isn't one for each
-/// column; or there is no column. The error has the first field that can't be written. Otherwise it fails with
-/// `OutOfMemory`, at no place, and a part of the line may stand behind the text.
+/// Fails with `InvalidInput` if no line means the row: a text is empty or has one of the characters that stand for
+/// control characters; a value isn't of its column's type, or there isn't one for each column; or there is no column.
+/// The error has the first field that can't be written. Otherwise it fails with `OutOfMemory`, at no place. After an
+/// error the text is as it was.
 pub fn write_row(
     text: &mut String,
     line: usize,
@@ -188,7 +208,7 @@ pub fn write_row(
     ensures kind { IfErr result (λ e.
         e.kind ≡ (if has_row_line columns.now row.now then OutOfMemory else InvalidInput)) }
     ensures place { IfErr result (λ e. IsAt e.place e.kind (row_unwritable columns.now line row.now)) }
-    ensures same { IfErr result (λ e. e.kind ≡ InvalidInput → string_bytes text.new ≡ string_bytes text.old) }
+    ensures same { OnErr result (string_bytes text.new ≡ string_bytes text.old) }
 {
     check_row(line, columns, row)?;
     push_row(text, row)?;

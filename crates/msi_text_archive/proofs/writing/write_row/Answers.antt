@@ -1,7 +1,7 @@
 use Rattle.std.proofs.Common.{cond, ap, sym, ◌∙◌}
 use Rattle.msi_text_base.specs.declared.errors.ErrorKind.TheVariants.{InvalidInput, OutOfMemory}
 use Rattle.msi_text_archive.specs.Places.{no_memory}
-use Rattle.msi_text_archive.proofs.PlaceLemmas.{kind_is, no_input, no_place, placed_err, placed_on}
+use Rattle.msi_text_archive.proofs.PlaceLemmas.{kind_is, no_place, placed_err, placed_on}
 use Rattle.msi_text_archive.proofs.writing.write_row.Goals as goal
 
 pub returns-in_err-check_row-clause-kind : goal.returns-in_err-check_row-clause-kind
@@ -19,6 +19,3 @@ returns-in_err-push_row-clause-kind c =
 
 pub returns-in_err-push_row-clause-place : goal.returns-in_err-push_row-clause-place
 returns-in_err-push_row-clause-place c = placed_err c.from_residual-in_err-push_row.result _ (no_place c.from_residual-in_err-push_row.result _ c.from_residual-in_err-push_row.ensures.1)
-
-pub returns-in_err-push_row-clause-same : goal.returns-in_err-push_row-clause-same
-returns-in_err-push_row-clause-same c = no_input _ c.from_residual-in_err-push_row.result c.from_residual-in_err-push_row.ensures.1
