@@ -1,6 +1,6 @@
 //! Lists of texts whose copies share them.
 
-ghost use Rattle.std.specs.Prelude.{◌≡◌, ◌==◌, [], IfOk, length};
+ghost use Rattle.std.specs.Prelude.{◌≡◌, ◌==◌, [], IfOk, IsOk, length};
 ghost use Rattle.msi_text_base.specs.Results.{OnlyMemory};
 
 use msi_text_base::errors::Error;
@@ -35,9 +35,10 @@ impl SharedTexts {
     /// Returns a list of these texts, which are moved in. No text takes no memory.
     ///
     /// # Errors
-    /// Fails with `OutOfMemory`.
+    /// Fails with `OutOfMemory`, unless there is no text.
     pub fn from_items(texts: Items<Text>) -> Result<SharedTexts, Error>
         ensures ok { IfOk result (λ shared. shared ≡ texts) }
+        ensures none { texts ≡ [] → IsOk result }
         ensures kind { OnlyMemory result }
     {
         if texts.is_empty() {
