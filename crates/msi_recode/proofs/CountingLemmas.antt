@@ -16,8 +16,8 @@ use Rattle.msi_text_base.proofs.OrderingLemmas.{nat_equal}
 use Rattle.msi_text_base.proofs.ReadFieldLemmas.{IsBytes}
 use Rattle.msi_summary_properties.specs.declared.propset.PropertyValue.{PropertyValue}
 use Rattle.msi_summary_properties.proofs.SpelledSetLemmas.{stands_drop}
-use Rattle.msi_recode.specs.declared.errors.RecodeError.TheVariants as error
 use Rattle.msi_recode.specs.declared.page.TextPage.{TextPage}
+use Rattle.msi_recode.specs.Errors.{of_property}
 use Rattle.msi_recode.specs.SummaryReading.{CanBePut, IsCounted, IsEntryRead, IsNotCounted, value_in}
 use Rattle.msi_recode.specs.SummaryRecoding.{AreTooLong, EntryStandsAt, IsFirstUnread, IsValuesError, SpellsValueIn, most_size, stream_size}
 use Rattle.msi_recode.proofs.SizeLemmas.{section_behind}
@@ -109,9 +109,10 @@ module _ (version : ℕ) (text_page : TextPage) (bytes : List ℕ) (section : �
       by_reason (inr there) = inr (sym (c.listed id) ∙ there)
 
   pub value_error : (k : ErrorKind) → (k ≡ kind.InvalidData) ⊎ (k ≡ kind.OutOfMemory) → (k ≡ kind.InvalidData → IsFirstUnread version text_page bytes section pairs id)
-      → IsValuesError version text_page bytes section pairs (error.Property id k)
-  value_error k (inl invalid) first = inr (inl (id, ap (λ (x : ErrorKind). error.Property id x) invalid, first invalid))
-  value_error k (inr memory) first = inl memory
+      → IsValuesError version text_page bytes section pairs (of_property id k)
+  value_error k (inl invalid) first =
+      subst (λ (x : ErrorKind). IsValuesError version text_page bytes section pairs (of_property id x)) (sym invalid) (inr (inl (id, refl, first invalid)))
+  value_error k (inr memory) first = subst (λ (x : ErrorKind). IsValuesError version text_page bytes section pairs (of_property id x)) (sym memory) (inl refl)
 
 pub too_long : (version : ℕ) (text_page : TextPage) (bytes : List ℕ) (section : ℕ) (pairs : List (ℕ × ℕ)) (i size : ℕ) (ids : BTreeSet ℕ) → IsBytes bytes → AreCounted version text_page bytes section (take i pairs) ids size → most_size (length bytes) < size
     → AreTooLong version text_page bytes section pairs

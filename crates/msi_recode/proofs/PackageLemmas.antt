@@ -66,7 +66,7 @@ module _ (given : Option TextPage) (streams : Streams) (pool_name data_name name
 
 -- streams that can be recoded have no error but of memory
 streams_only : (given : Option TextPage) (streams after : Streams) (err : RecodeError) → IsStreamsError given streams err → AreStreamsRecoded given streams after → kind_of err ≡ kind.OutOfMemory
-streams_only given streams after err (inl memory) recoded = memory
+streams_only given streams after err (inl memory) recoded = ap kind_of memory
 streams_only given streams after err (inr (inl (is, lack))) (old, new, have, texts, put) = absurd (lack old have)
 streams_only given streams after err (inr (inr (these, there, inl fails))) (old, new, have, (pool, summary), put) =
     let same : these ≡ old = these_once streams these old there have in
@@ -80,7 +80,7 @@ contents_only given before after err fails (recoded, same) = streams_only given 
 
 -- invalid data can't be recoded
 pub streams_refused : (given : Option TextPage) (streams : Streams) (err : RecodeError) → IsStreamsError given streams err → kind_of err ≡ kind.InvalidData → CannotBeRecodedIn given streams
-streams_refused given streams err (inl memory) invalid other had = let e : kind.InvalidData ≡ kind.OutOfMemory = sym invalid ∙ memory in cc
+streams_refused given streams err (inl memory) invalid other had = let e : kind.InvalidData ≡ kind.OutOfMemory = sym invalid ∙ ap kind_of memory in cc
 streams_refused given streams err (inr (inl (is, lack))) invalid other had = absurd (lack other had)
 streams_refused given streams err (inr (inr (these, there, inl fails))) invalid other had =
     let same : these ≡ other = these_once streams these other there had in
@@ -93,7 +93,7 @@ streams_refused given streams err (inr (inr (these, there, inr (entries, texts, 
 
 pub no_file : (k : ErrorKind) (given : Option TextPage) (bytes : List ℕ) → (k ≡ kind.InvalidData) ⊎ (k ≡ kind.OutOfMemory) → ((contents : Contents) → Holds bytes contents → k ≡ kind.OutOfMemory) → IsFileError given bytes (error.Package k)
 no_file k given bytes (inl invalid) only = inr (inl (ap (λ (x : ErrorKind). error.Package x) invalid, λ contents holds. let e : kind.InvalidData ≡ kind.OutOfMemory = sym invalid ∙ only contents holds in cc))
-no_file k given bytes (inr memory) only = inl memory
+no_file k given bytes (inr memory) only = inl (ap (λ (x : ErrorKind). error.Package x) memory)
 
 pub not_recoded : (given : Option TextPage) (bytes : List ℕ) (old : Contents) (err : RecodeError) → Holds bytes old → IsStreamsError given old.streams err → IsFileError given bytes err
 not_recoded given bytes old err holds fails = inr (inr (old, holds, inl fails))
@@ -101,11 +101,11 @@ not_recoded given bytes old err holds fails = inr (inr (old, holds, inl fails))
 pub not_written : (k : ErrorKind) (given : Option TextPage) (bytes : List ℕ) (old new : Contents) → (k ≡ kind.InvalidInput) ⊎ (k ≡ kind.OutOfMemory) → (k ≡ kind.InvalidInput → refuses new 0 ≡ true) → Holds bytes old → IsRecoded given old new
     → IsFileError given bytes (error.Package k)
 not_written k given bytes old new (inl input) refused holds recoded = inr (inr (old, holds, inr (ap (λ (x : ErrorKind). error.Package x) input, (new, recoded, refused input))))
-not_written k given bytes old new (inr memory) refused holds recoded = inl memory
+not_written k given bytes old new (inr memory) refused holds recoded = inl (ap (λ (x : ErrorKind). error.Package x) memory)
 
 -- a file that can be recoded has no error but of memory
 pub file_only : (given : Option TextPage) (bytes after : List ℕ) (err : RecodeError) → IsFileError given bytes err → IsFileRecoded given bytes after → kind_of err ≡ kind.OutOfMemory
-file_only given bytes after err (inl memory) recoded = memory
+file_only given bytes after err (inl memory) recoded = ap kind_of memory
 file_only given bytes after err (inr (inl (is, nothing))) (old, new, holds, recoded, accepted, laid, again) = absurd (nothing old holds)
 file_only given bytes after err (inr (inr (found, held, inl fails))) (old, new, holds, recoded, accepted, laid, again) =
     let same : found ≡ old = held_once bytes found old held holds in
@@ -117,7 +117,7 @@ file_only given bytes after err (inr (inr (found, held, inr (is, (made, written,
 
 -- invalid data are no file that can be recoded
 pub file_refused : (given : Option TextPage) (bytes : List ℕ) (err : RecodeError) → IsFileError given bytes err → kind_of err ≡ kind.InvalidData → (contents : Contents) → Holds bytes contents → CannotBeRecodedIn given contents.streams
-file_refused given bytes err (inl memory) invalid contents holds = let e : kind.InvalidData ≡ kind.OutOfMemory = sym invalid ∙ memory in cc
+file_refused given bytes err (inl memory) invalid contents holds = let e : kind.InvalidData ≡ kind.OutOfMemory = sym invalid ∙ ap kind_of memory in cc
 file_refused given bytes err (inr (inl (is, nothing))) invalid contents holds = absurd (nothing contents holds)
 file_refused given bytes err (inr (inr (found, held, inl fails))) invalid contents holds =
     subst (λ (c : Contents). CannotBeRecodedIn given c.streams) (held_once bytes found contents held holds) (streams_refused given found.streams err fails invalid)

@@ -12,7 +12,7 @@ use Rattle.msi_text_pool_base.specs.Pool.{Entry, Place, header_of, plain_entry}
 use Rattle.msi_recode.specs.declared.page.TextPage.{TextPage}
 use Rattle.msi_recode.specs.declared.errors.RecodeError.{RecodeError}
 use Rattle.msi_recode.specs.declared.errors.RecodeError.TheVariants as error
-use Rattle.msi_recode.specs.Errors.{kind_of}
+use Rattle.msi_recode.specs.Errors.{kind_of, of_place}
 use Rattle.msi_recode.specs.TextPages.{Reads, text_in}
 use Rattle.msi_recode.specs.PoolRecoding.{PoolHead, IsHead, SpellsTexts, AreRecoded, CannotBeRecoded, HavePlaces, IsPoolError, FailsAt, FailsInFront, entry_of, is_long, has_long, entries_written, texts_written}
 use Rattle.msi_recode.specs.PoolReading.{IsFront, IsPut, AreWritten, ArePut, IsTextError, IsTextsError}
@@ -90,7 +90,7 @@ written_next page e bytes rest front entries texts entries_before texts_before e
 
 -- why a text isn't put is why the texts aren't
 pub texts_error : (k : ErrorKind) (page : TextPage) (entries : List Entry) (bytes : List ℕ) (i : ℕ) (front : List Place) (old : List ℕ) (e : Entry)
-    → AreInFront page entries bytes i front old → i < length entries → e ≡ get_or entries i e → IsTextError page e old k → IsTextsError page bytes entries (error.Place i k)
+    → AreInFront page entries bytes i front old → i < length entries → e ≡ get_or entries i e → IsTextError page e old k → IsTextsError page bytes entries (of_place i k)
 texts_error kind.AlreadyExists page entries bytes i front old e so_far lt is h = absurd h
 texts_error kind.InvalidData page entries bytes i front old e so_far lt is h = texts_fail page entries bytes i front old e so_far lt is h
 texts_error kind.InvalidInput page entries bytes i front old e so_far lt is h = absurd h
@@ -122,21 +122,26 @@ recoded hint pool_stream data_stream head page list long entries_before texts_be
 pub head_error : (k : ErrorKind) (given : Option TextPage) (pool_stream data_stream : List ℕ) → (k ≡ kind.InvalidData) ⊎ (k ≡ kind.OutOfMemory) → ((head : PoolHead) → IsHead given pool_stream head → k ≡ kind.OutOfMemory)
     → IsPoolError given pool_stream data_stream (error.Package k)
 head_error k given pool_stream data_stream (inl invalid) only = inr (inl (ap (λ (x : ErrorKind). error.Package x) invalid, λ head said. let e : kind.InvalidData ≡ kind.OutOfMemory = sym invalid ∙ only head said in cc))
-head_error k given pool_stream data_stream (inr memory) only = inl memory
+head_error k given pool_stream data_stream (inr memory) only = inl (ap (λ (x : ErrorKind). error.Package x) memory)
 
 error_of : (e : RecodeError) (page : TextPage) (data_stream : List ℕ) (list : List Entry) (head : PoolHead) → page ≡ head.page → list ≡ head.entries → IsTextsError page data_stream list e → IsTextsError head.page data_stream head.entries e
 error_of e page data_stream list head page_is list_is h =
     subst (λ (x : TextPage). IsTextsError x data_stream head.entries e) page_is (subst (λ (x : List Entry). IsTextsError page data_stream x e) list_is h)
 
 place_of : (e : RecodeError) (given : Option TextPage) (pool_stream data_stream : List ℕ) (head : PoolHead) → IsHead given pool_stream head → IsTextsError head.page data_stream head.entries e → IsPoolError given pool_stream data_stream e
-place_of (error.Package k) given pool_stream data_stream head said h = absurd h
+place_of (error.Package kind.AlreadyExists) given pool_stream data_stream head said h = absurd h
+place_of (error.Package kind.InvalidData) given pool_stream data_stream head said h = absurd h
+place_of (error.Package kind.InvalidInput) given pool_stream data_stream head said h = absurd h
+place_of (error.Package kind.NotFound) given pool_stream data_stream head said h = absurd h
+place_of (error.Package kind.Io) given pool_stream data_stream head said h = absurd h
+place_of (error.Package kind.OutOfMemory) given pool_stream data_stream head said h = inl refl
 place_of (error.Property id k) given pool_stream data_stream head said h = elim h [ ]
 place_of (error.Place n kind.AlreadyExists) given pool_stream data_stream head said h = absurd h
 place_of (error.Place n kind.InvalidData) given pool_stream data_stream head said h = inr (inr (head, n, said, refl, h))
 place_of (error.Place n kind.InvalidInput) given pool_stream data_stream head said h = absurd h
 place_of (error.Place n kind.NotFound) given pool_stream data_stream head said h = absurd h
 place_of (error.Place n kind.Io) given pool_stream data_stream head said h = absurd h
-place_of (error.Place n kind.OutOfMemory) given pool_stream data_stream head said h = inl refl
+place_of (error.Place n kind.OutOfMemory) given pool_stream data_stream head said h = absurd h
 
 pub place_error : (e : RecodeError) (given : Option TextPage) (pool_stream data_stream : List ℕ) (head : PoolHead) (page : TextPage) (list : List Entry) → page ≡ head.page → list ≡ head.entries
     → IsHead given pool_stream head → IsTextsError page data_stream list e → IsPoolError given pool_stream data_stream e
@@ -150,13 +155,13 @@ fails_long given pool_stream data_stream found head n places read fails (said, s
 
 -- a pool that can be recoded has no error but of memory
 pub pool_only : (given : Option TextPage) (pool_stream data_stream entries texts : List ℕ) (e : RecodeError) → IsPoolError given pool_stream data_stream e → AreRecoded given pool_stream data_stream entries texts → kind_of e ≡ kind.OutOfMemory
-pool_only given pool_stream data_stream entries texts e (inl memory) made = memory
+pool_only given pool_stream data_stream entries texts e (inl memory) made = ap kind_of memory
 pool_only given pool_stream data_stream entries texts e (inr (inl (is, none))) (head, places, have, pool, plain, short) = absurd (none head have.0)
 pool_only given pool_stream data_stream entries texts e (inr (inr (found, n, read, is, fails))) (head, places, have, pool, plain, short) =
     absurd (true≢false (sym (fails_long given pool_stream data_stream found head n places read fails have) ∙ short))
 
 -- invalid data have no places that can be recoded
 pub pool_refused : (given : Option TextPage) (pool_stream data_stream : List ℕ) (e : RecodeError) → IsPoolError given pool_stream data_stream e → kind_of e ≡ kind.InvalidData → CannotBeRecoded given pool_stream data_stream
-pool_refused given pool_stream data_stream e (inl memory) invalid head places have = let k : kind.InvalidData ≡ kind.OutOfMemory = sym invalid ∙ memory in cc
+pool_refused given pool_stream data_stream e (inl memory) invalid head places have = let k : kind.InvalidData ≡ kind.OutOfMemory = sym invalid ∙ ap kind_of memory in cc
 pool_refused given pool_stream data_stream e (inr (inl (is, none))) invalid head places have = absurd (none head have.0)
 pool_refused given pool_stream data_stream e (inr (inr (found, n, read, is, fails))) invalid head places have = fails_long given pool_stream data_stream found head n places read fails have

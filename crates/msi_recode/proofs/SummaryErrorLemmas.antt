@@ -116,9 +116,9 @@ values_of given bytes set s h pairs text_page listed =
     (λ x ps p. AllZip (EntryStandsAt x.version p bytes x.section) ps s.entries × (has_pair (λ r q. eqb r.0 q.0) ps ≡ false)) (s.spelled, s.once)
 
 only_memory : (given : Option TextPage) (bytes : List ℕ) (err : RecodeError) (set : Properties) (s : IsSummary given bytes set) → is_too_long (length bytes) s.entries ≡ false → IsSummaryError given bytes err → kind_of err ≡ kind.OutOfMemory
-only_memory given bytes err set s short (inl memory) = memory
+only_memory given bytes err set s short (inl memory) = ap kind_of memory
 only_memory given bytes err set s short (inr (inl (is, nothing))) = absurd (nothing (header_of set s.version s.reserved s.section) s.pairs s.page (listed_again given bytes set s))
-only_memory given bytes err set s short (inr (inr (h, pairs, text_page, listed, inl memory))) = memory
+only_memory given bytes err set s short (inr (inr (h, pairs, text_page, listed, inl memory))) = ap kind_of memory
 only_memory given bytes err set s short (inr (inr (h, pairs, text_page, listed, inr (inl (id, is, unread))))) =
     let v = values_of given bytes set s h pairs text_page listed in
     absurd (none_unread h.version text_page bytes h.section id pairs s.entries v.0 v.1 unread)
@@ -137,9 +137,9 @@ not_input : {P : Type 0} (err : RecodeError) → kind_of err ≡ kind.InvalidDat
 not_input err invalid is = let e : kind.InvalidData ≡ kind.InvalidInput = sym invalid ∙ ap kind_of is in cc
 
 pub summary_refused : (given : Option TextPage) (bytes : List ℕ) (err : RecodeError) → IsSummaryError given bytes err → kind_of err ≡ kind.InvalidData → HasNoSummary given bytes
-summary_refused given bytes err (inl memory) invalid set s = not_memory (kind_of err) invalid memory
+summary_refused given bytes err (inl memory) invalid set s = not_memory (kind_of err) invalid (ap kind_of memory)
 summary_refused given bytes err (inr (inl (is, nothing))) invalid set s = nothing (header_of set s.version s.reserved s.section) s.pairs s.page (listed_again given bytes set s)
-summary_refused given bytes err (inr (inr (h, pairs, text_page, listed, inl memory))) invalid set s = not_memory (kind_of err) invalid memory
+summary_refused given bytes err (inr (inr (h, pairs, text_page, listed, inl memory))) invalid set s = not_memory (kind_of err) invalid (ap kind_of memory)
 summary_refused given bytes err (inr (inr (h, pairs, text_page, listed, inr (inl (id, is, unread))))) invalid set s =
     let v = values_of given bytes set s h pairs text_page listed in
     none_unread h.version text_page bytes h.section id pairs s.entries v.0 v.1 unread

@@ -53,7 +53,7 @@ ArePut page bytes entries entries_before texts_before entries_after texts_after 
 -- why they aren't
 abbrev pub IsTextsError : TextPage → List ℕ → List Entry → RecodeError → Type 0
 IsTextsError page bytes entries (error.Place n kind.InvalidData) = FailsAt page bytes entries n
-IsTextsError page bytes entries (error.Place n kind.OutOfMemory) = Unit {0}
+IsTextsError page bytes entries (error.Package kind.OutOfMemory) = Unit {0}
 IsTextsError page bytes entries _ = ⊥
 
 -- why one isn't

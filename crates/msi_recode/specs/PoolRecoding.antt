@@ -8,7 +8,6 @@ use Rattle.msi_text_pool_base.specs.Pool.{Place, Pool, Entry, header_of, plain_e
 use Rattle.msi_recode.specs.declared.page.TextPage.{TextPage}
 use Rattle.msi_recode.specs.declared.errors.RecodeError.{RecodeError}
 use Rattle.msi_recode.specs.declared.errors.RecodeError.TheVariants as error
-use Rattle.msi_recode.specs.Errors.{kind_of}
 use Rattle.msi_recode.specs.TextPages.{Reads, page_for}
 
 -- what the first stream says: the page of the texts, whether references are long, and each text's length and count
@@ -90,7 +89,7 @@ HasNoHead given pool_stream = (head : PoolHead) → IsHead given pool_stream hea
 -- an error of the pool: memory, that it has no head, or the first place that can't be recoded
 abbrev pub IsPoolError : Option TextPage → List ℕ → List ℕ → RecodeError → Type 0
 IsPoolError given pool_stream data_stream err =
-    (kind_of err ≡ kind.OutOfMemory)
+    (err ≡ error.Package kind.OutOfMemory)
     ⊎ (err ≡ error.Package kind.InvalidData) × HasNoHead given pool_stream
     ⊎ ((head : PoolHead) × (n : ℕ) × IsHead given pool_stream head × (err ≡ error.Place n kind.InvalidData)
     × FailsAt head.page data_stream head.entries n)

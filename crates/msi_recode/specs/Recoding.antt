@@ -10,7 +10,6 @@ use Rattle.msi_database_system.specs.Keys.{table_key, summary_key, string_pool_n
 use Rattle.msi_recode.specs.declared.errors.RecodeError.{RecodeError}
 use Rattle.msi_recode.specs.declared.errors.RecodeError.TheVariants as error
 use Rattle.msi_recode.specs.declared.page.TextPage.{TextPage}
-use Rattle.msi_recode.specs.Errors.{kind_of}
 use Rattle.msi_recode.specs.PoolRecoding.{AreRecoded, CannotBeRecoded, IsPoolError}
 use Rattle.msi_recode.specs.SummaryRecoding.{HasNoSummary, IsSummaryError, IsSummaryRecoded}
 
@@ -58,7 +57,7 @@ LackTextStreams streams = (these : TextStreams) → HaveTextStreams streams thes
 -- recoded, one of the summary
 abbrev pub IsStreamsError : Option TextPage → Streams → RecodeError → Type 0
 IsStreamsError given streams err =
-    (kind_of err ≡ kind.OutOfMemory)
+    (err ≡ error.Package kind.OutOfMemory)
     ⊎ (err ≡ error.Package kind.InvalidData) × LackTextStreams streams
     ⊎ ((these : TextStreams) × HaveTextStreams streams these
     × (IsPoolError given these.entries these.texts err
@@ -81,7 +80,7 @@ IsUnwritable given old = (new : Contents) × IsRecoded given old new × (refuses
 -- an error of the file: memory, that it is none, an error of its streams, or that its recoded contents aren't written
 abbrev pub IsFileError : Option TextPage → List ℕ → RecodeError → Type 0
 IsFileError given bytes err =
-    (kind_of err ≡ kind.OutOfMemory)
+    (err ≡ error.Package kind.OutOfMemory)
     ⊎ (err ≡ error.Package kind.InvalidData) × HoldsNothing bytes
     ⊎ ((old : Contents) × Holds bytes old
     × (IsStreamsError given old.streams err ⊎ (err ≡ error.Package kind.InvalidInput) × IsUnwritable given old))

@@ -19,7 +19,6 @@ use Rattle.msi_recode.specs.declared.errors.RecodeError.{RecodeError}
 use Rattle.msi_recode.specs.declared.errors.RecodeError.TheVariants as error
 use Rattle.msi_recode.specs.declared.page.TextPage.{TextPage}
 use Rattle.msi_recode.specs.declared.page.TextPage.TheVariants.{Plain}
-use Rattle.msi_recode.specs.Errors.{kind_of}
 use Rattle.msi_recode.specs.TextPages.{Reads, page_for}
 
 -- a text, by any bytes that read as it in the page
@@ -142,14 +141,14 @@ pub record AreTooLong (version : ℕ) (page : TextPage) (bytes : List ℕ) (sect
 -- an error of the values: memory, the first that isn't read, or that they are too long
 abbrev pub IsValuesError : ℕ → TextPage → List ℕ → ℕ → List (ℕ × ℕ) → RecodeError → Type 0
 IsValuesError version page bytes section pairs err =
-    (kind_of err ≡ kind.OutOfMemory)
+    (err ≡ error.Package kind.OutOfMemory)
     ⊎ ((id : ℕ) × (err ≡ error.Property id kind.InvalidData) × IsFirstUnread version page bytes section pairs id)
     ⊎ (err ≡ error.Package kind.InvalidInput) × AreTooLong version page bytes section pairs
 
 -- an error of the summary: memory, that nothing is listed, or one of its values
 abbrev pub IsSummaryError : Option TextPage → List ℕ → RecodeError → Type 0
 IsSummaryError given bytes err =
-    (kind_of err ≡ kind.OutOfMemory)
+    (err ≡ error.Package kind.OutOfMemory)
     ⊎ (err ≡ error.Package kind.InvalidData) × ListsNothing given bytes
     ⊎ ((head : Header) × (pairs : List (ℕ × ℕ)) × (page : TextPage) × IsListed given bytes head pairs page
     × IsValuesError head.version page bytes head.section pairs err)

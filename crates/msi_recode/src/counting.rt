@@ -50,7 +50,7 @@ pub(crate) fn check_values(
         let rest = rest_from(bytes, section, place);
         match count_value(alloc, &mut ids, id, version, reader, rest) {
             Ok(len) => size += 8 + len,
-            Err(error) => return Err(RecodeError::Property(id, error)),
+            Err(error) => return Err(RecodeError::of_property(id, error)),
         }
         if size > most {
             return Err(RecodeError::Package(Error::new(

@@ -96,7 +96,7 @@ impl RecodedPool {
             let entry = entries.entry(index);
             match self.push_place(alloc, reader, &entry, rest) {
                 Ok(after) => rest = after,
-                Err(error) => return Err(RecodeError::Place(index, error)),
+                Err(error) => return Err(RecodeError::of_place(index, error)),
             }
         }
         Ok(())

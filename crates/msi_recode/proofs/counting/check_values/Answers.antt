@@ -1,9 +1,10 @@
-use Rattle.std.proofs.Common.{get_or, refl, ap, subst, inr, arith, ◌+◌}
+use Rattle.std.proofs.Common.{get_or, refl, sym, ap, subst, inr, arith, ◌+◌}
 use Rattle.std.specs.BTreeSet.{contains}
 use Rattle.std.specs.Ordering.{nat_cmp}
 use Rattle.msi_recode.specs.declared.errors.RecodeError.TheVariants as error
 use Rattle.msi_recode.specs.Readers.{page_of}
 use Rattle.msi_recode.specs.SummaryReading.{IsCounted, IsNotCounted}
+use Rattle.msi_recode.specs.SummaryRecoding.{IsValuesError}
 use Rattle.msi_recode.proofs.CountingLemmas.{counted_next, value_error, value_unread, too_long}
 use Rattle.msi_recode.proofs.counting.check_values.Goals as goal
 
@@ -13,9 +14,9 @@ returns-in-Err-clause-err c =
     let pairs = c.args.pairs.now in
     let i = c.loop-id.id-index in
     let pair = get_or pairs i (0, 0) in
-    value_error c.args.version page c.args.bytes.now c.args.section pairs i pair.0 pair.1 c.in-Err.error c.in-Err.ensures.kinds (λ invalid.
+    subst (λ err. IsValuesError c.args.version page c.args.bytes.now c.args.section pairs err) (sym c.of_property.ensures) (value_error c.args.version page c.args.bytes.now c.args.section pairs i pair.0 pair.1 c.in-Err.error c.in-Err.ensures.kinds (λ invalid.
     value_unread c.args.version page c.args.bytes.now c.args.section pairs i pair.0 pair.1 c.loop-id.ids c.loop-id.size (λ i. omega (arith, c.type_inv.bytes i)) c.loop-id.invariant.0 c.loop-id.invariant.1 c.loop-id-test.true refl
-    (subst (λ bytes. IsNotCounted c.args.version page bytes (contains nat_cmp c.loop-id.ids pair.0)) c.rest_from-rest.ensures (c.in-Err.ensures.refused invalid)))
+    (subst (λ bytes. IsNotCounted c.args.version page bytes (contains nat_cmp c.loop-id.ids pair.0)) c.rest_from-rest.ensures (c.in-Err.ensures.refused invalid))))
 
 pub returns-then-size-most-clause-err : goal.returns-then-size-most-clause-err
 returns-then-size-most-clause-err c =

@@ -1,5 +1,6 @@
-use Rattle.std.proofs.Common.{◌∙◌, inl}
+use Rattle.std.proofs.Common.{◌∙◌, ap, inl}
 use Rattle.std.proofs.lemmas.Result.{err_from_is_err_and}
+use Rattle.msi_recode.specs.declared.errors.RecodeError.TheVariants as error
 use Rattle.msi_recode.specs.Readers.{page_of}
 use Rattle.msi_recode.proofs.RecodedLemmas.{recoded, head_error, place_error, pool_only, pool_refused}
 use Rattle.msi_recode.proofs.pool.recode_pool.Goals as goal
@@ -22,7 +23,7 @@ returns-in_err-head-clause-refused c =
 pub returns-in_err-reader-clause-exact : goal.returns-in_err-reader-clause-exact
 returns-in_err-reader-clause-exact c =
     let p = err_from_is_err_and c.from_residual-in_err-reader.result c.from_residual-in_err-reader.ensures.1 in
-    rw (p.1, p.2) (inl c.in_err-reader.ensures.kind)
+    rw (p.1, p.2) (inl (ap (λ k. error.Package k) c.in_err-reader.ensures.kind))
 
 pub returns-in_err-reader-clause-refused : goal.returns-in_err-reader-clause-refused
 returns-in_err-reader-clause-refused c =

@@ -1,6 +1,7 @@
 use Rattle.std.specs.Prelude.{Err}
 use Rattle.std.proofs.Common.{ap, inl}
 use Rattle.std.proofs.lemmas.Result.{err_from_is_err_and}
+use Rattle.msi_recode.specs.declared.errors.RecodeError.TheVariants as error
 use Rattle.msi_recode.proofs.SummaryErrorLemmas.{summary_only, summary_refused, unwritten_memory, memory_valid}
 use Rattle.msi_recode.proofs.SummarySetLemmas.{summary_writable}
 use Rattle.msi_recode.proofs.summary.recode_summary.Goals as goal
@@ -38,7 +39,7 @@ returns-in_err-stream_of-clause-only c = λ after recoded.
 pub returns-in_err-stream_of-clause-exact : goal.returns-in_err-stream_of-clause-exact
 returns-in_err-stream_of-clause-exact c =
     let p = err_from_is_err_and c.from_residual-in_err-stream_of.result c.from_residual-in_err-stream_of.ensures.1 in
-    rw (p.1, p.2) (inl (unwritten_memory c.in_err-stream_of.field-0.0 c.in_ok-set.set c.in_err-stream_of.ensures.kinds (λ invalid. c.in_err-stream_of.ensures.refused.0 (ap Err invalid)) c.in_ok-set.ensures.written))
+    rw (p.1, p.2) (inl (ap (λ k. error.Package k) (unwritten_memory c.in_err-stream_of.field-0.0 c.in_ok-set.set c.in_err-stream_of.ensures.kinds (λ invalid. c.in_err-stream_of.ensures.refused.0 (ap Err invalid)) c.in_ok-set.ensures.written)))
 
 pub returns-in_err-stream_of-clause-refused : goal.returns-in_err-stream_of-clause-refused
 returns-in_err-stream_of-clause-refused c =

@@ -1,6 +1,7 @@
-use Rattle.std.proofs.Common.{arith, inl}
+use Rattle.std.proofs.Common.{ap, arith, inl}
 use Rattle.std.proofs.lemmas.Result.{err_from_is_err_and}
 use Rattle.msi_summary_properties.specs.HeaderView.{view_head}
+use Rattle.msi_recode.specs.declared.errors.RecodeError.TheVariants as error
 use Rattle.msi_recode.specs.Readers.{page_of}
 use Rattle.msi_recode.proofs.SummaryErrorLemmas.{no_header, no_section, no_page, values_error, put_memory}
 use Rattle.msi_recode.proofs.SummarySetLemmas.{summary_made, set_written}
@@ -35,7 +36,7 @@ returns-in_err-page-clause-exact c =
 pub returns-in_err-reader-clause-exact : goal.returns-in_err-reader-clause-exact
 returns-in_err-reader-clause-exact c =
     let p = err_from_is_err_and c.from_residual-in_err-reader.result c.from_residual-in_err-reader.ensures.1 in
-    rw (p.1, p.2) (inl c.in_err-reader.ensures.kind)
+    rw (p.1, p.2) (inl (ap (λ k. error.Package k) c.in_err-reader.ensures.kind))
 
 pub returns-in_err-check_values-clause-exact : goal.returns-in_err-check_values-clause-exact
 returns-in_err-check_values-clause-exact c =
@@ -47,5 +48,5 @@ pub returns-in_err-put_values-clause-exact : goal.returns-in_err-put_values-clau
 returns-in_err-put_values-clause-exact c =
     let head = view_head c.in_ok-head.head in
     let p = err_from_is_err_and c.from_residual-in_err-put_values.result c.from_residual-in_err-put_values.ensures.1 in
-    rw (p.1, p.2) (inl (put_memory head.version (page_of c.in_ok-reader.reader) c.args.bytes.now head.section c.in_ok-pairs.pairs.items c.deref-2.result.now c.deref-3.result.now c.in_err-put_values.field-0.0
-    c.deref-2.ensures.value c.deref-3.ensures.value c.in_ok-check_values.ensures.ok c.in_err-put_values.ensures.kinds c.in_err-put_values.ensures.refused))
+    rw (p.1, p.2) (inl (ap (λ k. error.Package k) (put_memory head.version (page_of c.in_ok-reader.reader) c.args.bytes.now head.section c.in_ok-pairs.pairs.items c.deref-2.result.now c.deref-3.result.now c.in_err-put_values.field-0.0
+    c.deref-2.ensures.value c.deref-3.ensures.value c.in_ok-check_values.ensures.ok c.in_err-put_values.ensures.kinds c.in_err-put_values.ensures.refused)))

@@ -1,5 +1,6 @@
-use Rattle.std.proofs.Common.{arith, sym, ◌++◌, [], ◌∷◌}
+use Rattle.std.proofs.Common.{arith, subst, sym, ◌++◌, [], ◌∷◌}
 use Rattle.std.proofs.lemmas.Option.{get_or_from_slice_get, slice_get_within}
+use Rattle.msi_recode.specs.PoolReading.{IsTextsError}
 use Rattle.msi_recode.specs.Readers.{page_of}
 use Rattle.msi_recode.proofs.TextsLemmas.{texts_next, texts_done}
 use Rattle.msi_recode.proofs.RecodedLemmas.{texts_error, written_next}
@@ -11,8 +12,8 @@ returns-in-Err-clause-err c =
     let entries = c.args.entries.now in
     let index = c.loop-index.index in
     let entry = c.entry-entry.result in
-    texts_error c.in-Err.error (page_of c.args.reader.now) entries c.args.bytes.now index put.0 c.loop-index.rest.now entry put.1
-    (slice_get_within entries index entry c.entry-entry.ensures) (sym (get_or_from_slice_get entries index entry entry c.entry-entry.ensures)) c.in-Err.ensures.err
+    subst (λ err. IsTextsError (page_of c.args.reader.now) c.args.bytes.now entries err) (sym c.of_place.ensures) (texts_error c.in-Err.error (page_of c.args.reader.now) entries c.args.bytes.now index put.0 c.loop-index.rest.now entry put.1
+    (slice_get_within entries index entry c.entry-entry.ensures) (sym (get_or_from_slice_get entries index entry entry c.entry-entry.ensures)) c.in-Err.ensures.err)
 
 pub loop-index-preserved : goal.loop-index-preserved
 loop-index-preserved c =
