@@ -1,9 +1,11 @@
 //! Rows as lines of CSV.
 
 ghost use Rattle.std.specs.Prelude.{◌≡◌, ◌≢◌, ◌==◌, ◌++◌, ◌+◌, ◌-◌, ◌^◌, false, true, not, min, length, OnOk, IfErr};
+ghost use Rattle.std.specs.Prelude.{IfSome, Some};
 ghost use Rattle.std.specs.Io.KnownBytes.{Appends};
 ghost use Rattle.csv.specs.Reading.{Refused};
-ghost use Rattle.csv.specs.Writing.{field_text, fields_written, has_written, next_sep, text_written, writer_setup};
+ghost use Rattle.csv.specs.Writing.{field_text, fields_written, first_length, has_written, next_sep, text_written};
+ghost use Rattle.csv.specs.Writing.{writer_setup};
 ghost use Rattle.csv.specs.declared.writer.QuoteStyle.TheVariants.{NonNumeric};
 ghost use Rattle.msi_text_rows.specs.CsvRows.{csv_line, value_field};
 
@@ -23,6 +25,7 @@ fn write_csv_value<W: Write + Drop>(writer: &mut Writer<W>, value: &Value) -> Re
     ensures wrote { OnOk result (has_written writer.old ≡ false → (writer_setup writer.old).style ≢ NonNumeric
         → has_written writer.new ≡ not (length (field_text (writer_setup writer.old) (value_field value.now)) == 0)) }
     ensures stays { OnOk result (has_written writer.old ≡ true → has_written writer.new ≡ true) }
+    ensures first { first_length writer.new ≡ first_length writer.old }
     ensures refused { IfErr result (λ e. Refused e) }
 {
     match value {
@@ -50,6 +53,10 @@ pub fn write_csv_row<W: Write + Drop>(writer: &mut Writer<W>, row: &Row) -> Resu
     ensures ended { OnOk result (fields_written writer.new ≡ 0) }
     ensures clean { OnOk result (has_written writer.new ≡ false) }
     ensures setup { OnOk result (writer_setup writer.new ≡ writer_setup writer.old) }
+    ensures lengths { OnOk result (fields_written writer.old ≡ 0 → (writer_setup writer.old).flexible ≡ false
+        → IfSome (first_length writer.old) (λ first. length row.now.values ≡ first)) }
+    ensures noted { OnOk result (fields_written writer.old ≡ 0 → (writer_setup writer.old).flexible ≡ false
+        → first_length writer.new ≡ Some (length row.now.values)) }
     ensures refused { IfErr result (λ e. Refused e) }
 {
     for i in 0..row.len() {
