@@ -4,6 +4,7 @@ mod columns;
 mod descriptions;
 mod losses;
 mod merger;
+mod null_streams;
 mod rows;
 mod rules;
 mod summary;
@@ -18,6 +19,7 @@ use losses::note_losses;
 use msipkg_packages::msi::Package;
 use msipkg_packages::output::{Failure, Opened, System};
 use msipkg_reading::{Given, GivenStream, read_files};
+use null_streams::remove_null_streams;
 use std::alloc::Global;
 use summary::apply_summary;
 use tables::apply_tables;
@@ -76,6 +78,7 @@ fn apply(
         package.set_database_codepage(page)?;
     }
     apply_tables(alloc, package, given.tables.as_slice(), merging)?;
+    remove_null_streams(alloc, package, given.tables.as_slice())?;
     apply_streams(alloc, package, given.streams.as_slice())?;
     if given.has_summary {
         apply_summary(alloc, package, given.summary.as_slice())

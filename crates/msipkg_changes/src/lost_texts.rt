@@ -1,8 +1,8 @@
 //! Texts of a package that its code pages can't hold: none is written, since it would read back as another.
 
 use msipkg_packages::msi::{CodePage, Error, Package, Rows, SummaryInfo, Table, ValueView};
-use msipkg_packages::output::{Cause, Failure, Opened, PROPERTIES, push_key};
-use msipkg_packages::{property_text, rows_of};
+use msipkg_packages::output::{Cause, Failure, Opened, PROPERTIES};
+use msipkg_packages::{cell_text, property_text, rows_of};
 use msipkg_texts::Shown;
 use std::alloc::{AllocError, Global};
 
@@ -40,7 +40,7 @@ fn lost_in_table(
     };
     for _ in 0..rows.len() {
         if let Some((place, c)) = lost_in_row(page, &rows) {
-            let cell = cell_text(alloc, table, &rows, place)?;
+            let cell = cell_text(alloc, table.name(), &rows, place)?;
             return Ok(Some(lacking(alloc, page, c)?.at(alloc, "table", cell.as_str())));
         }
         rows.pass();
@@ -69,31 +69,6 @@ fn lost_character(page: CodePage, text: &str) -> Option<char> {
         }
     }
     None
-}
-
-/// Returns the name of a table, the key of its next row with its values separated by slashes, and the name of a column.
-fn cell_text(
-    alloc: Global,
-    table: &Table,
-    rows: &Rows<'_>,
-    place: usize,
-) -> Result<String, AllocError> {
-    let mut text = format!(in alloc; "{}, row ", table.name())?;
-    let mut is_first = true;
-    for (place, column) in rows.columns().iter().enumerate() {
-        if column.is_primary_key() {
-            if !is_first {
-                text.push('/')?;
-            }
-            is_first = false;
-            push_key(rows.peek(place).unwrap_or(ValueView::Null), &mut text)?;
-        }
-    }
-    text.push_str(", column ")?;
-    if let Some(column) = rows.columns().get(place) {
-        text.push_str(column.name())?;
-    }
-    Ok(text)
 }
 
 fn lost_in_summary(alloc: Global, summary: &SummaryInfo) -> Result<Option<Failure>, Failure> {

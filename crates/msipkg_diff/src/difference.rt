@@ -56,6 +56,7 @@ pub(crate) struct Member<'a> {
 /// What stands under a name.
 #[derive(Clone, Copy)]
 pub(crate) enum Content<'a> {
+    Null,
     Value(&'a Value),
     Text(&'a str),
     Number(i64),
@@ -95,7 +96,7 @@ fn print_members(style: Style, sign: char, members: &[Member<'_>], output: &mut 
 }
 
 fn print_member(style: Style, sign: char, member: &Member<'_>, output: &mut Output) {
-    if let Content::Value(Value::Null) = member.content {
+    if let Content::Null | Content::Value(Value::Null) = member.content {
         return;
     }
     let name = style.show(member.name);
@@ -116,7 +117,7 @@ struct ShownContent<'a> {
 impl Display for ShownContent<'_> {
     fn fmt<W: fmt::Write>(&self, f: &mut fmt::Formatter<W>) -> fmt::Result {
         match self.content {
-            Content::Value(Value::Null) => Ok(()),
+            Content::Null | Content::Value(Value::Null) => Ok(()),
             Content::Value(Value::Int(number)) => write!(f, "{number}"),
             Content::Value(Value::Str(text)) => self.style.show(text.as_str()).fmt(f),
             Content::Value(Value::Binary) => f.write_str("[stream]"),
@@ -159,7 +160,7 @@ fn put_members(side: &str, members: &[Member<'_>], object: &mut JsonObject) {
 fn put_member(member: &Member<'_>, object: &mut JsonObject) {
     let name = member.name;
     match member.content {
-        Content::Value(Value::Null) => object.put_text(name, None),
+        Content::Null | Content::Value(Value::Null) => object.put_text(name, None),
         Content::Value(Value::Int(number)) => object.put_number(name, Some(i64::from(*number))),
         Content::Value(Value::Str(text)) => object.put_text(name, Some(text.as_str())),
         Content::Value(Value::Binary) => object.put_truth(name, true),

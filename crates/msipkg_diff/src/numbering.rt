@@ -2,6 +2,7 @@
 
 use crate::difference::Content;
 use msipkg_packages::msi::{Column, ColumnType, Error, Items, Rows, Value, ValueView};
+use msipkg_packages::output::NullCells;
 use std::alloc::Global;
 use std::collections::BTreeMap;
 
@@ -56,11 +57,12 @@ pub(crate) fn numbered_rows(
     alloc: Global,
     texts: &mut Texts,
     mut rows: Rows<'_>,
+    nulls: &NullCells,
     others: &[Column],
 ) -> Result<Vec<Items<Value>>, Error> {
     let mut all = Vec::with_capacity(alloc, rows.len())?;
-    for _ in 0..rows.len() {
-        all.push(numbered_row(alloc, texts, &rows, others)?)?;
+    for number in 0..rows.len() {
+        all.push(numbered_row(alloc, texts, &rows, number, nulls, others)?)?;
         rows.pass();
     }
     Ok(all)
@@ -70,11 +72,13 @@ fn numbered_row(
     alloc: Global,
     texts: &mut Texts,
     rows: &Rows<'_>,
+    number: usize,
+    nulls: &NullCells,
     others: &[Column],
 ) -> Result<Items<Value>, Error> {
     let mut values = Vec::with_capacity(alloc, rows.columns().len())?;
     for place in 0..rows.columns().len() {
-        let value = match rows.peek(place).unwrap_or(ValueView::Null) {
+        let value = match nulls.value_in(rows, number, place) {
             ValueView::Null => Value::Null,
             ValueView::Int(number) => number_beside(alloc, number, others.get(place))?,
             ValueView::Str(text) => Value::Int(texts.number(text)?),

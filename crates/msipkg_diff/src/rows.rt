@@ -8,7 +8,8 @@ use msi_compare::{Difference as RowDifference, differences};
 use msipkg_packages::msi::{
     Column, Error, Items, Package, Row, Rows, Select, Table, Value, ValueView,
 };
-use msipkg_packages::output::{Failure, Opened, push_key};
+use msipkg_packages::null_cells_of;
+use msipkg_packages::output::{Failure, NullCells, Opened, push_key};
 use msipkg_texts::Shown;
 use std::alloc::{AllocError, Global};
 use std::cmp::Ordering;
@@ -24,6 +25,19 @@ struct Pair<'a> {
     new: &'a [Items<Value>],
 }
 
+/// The null cells of the columns of streams of two tables.
+struct PairNulls {
+    old: NullCells,
+    new: NullCells,
+}
+
+/// Written out, so that a function that owns one calls one drop, and its proof doesn't go through those of the parts.
+impl Drop for PairNulls {
+    fn drop(self) {
+        let PairNulls { old: _, new: _ } = self;
+    }
+}
+
 /// Compares the rows of a table by their keys. Where different rows of one package share a key, only how many rows
 /// there are is shown.
 pub(crate) fn compare_rows(
@@ -35,12 +49,16 @@ pub(crate) fn compare_rows(
 ) -> Result<(), Failure> {
     let old_rows = rows_of_old(old, table, report.alloc)?;
     let new_rows = rows_of_new(new, other, report.alloc)?;
-    if are_same(old_rows, new_rows) {
+    let nulls = PairNulls {
+        old: null_cells_of(report.alloc, old.package, table)?,
+        new: null_cells_of(report.alloc, new.package, other)?,
+    };
+    if are_same(old_rows, new_rows, &nulls) {
         return Ok(());
     }
     let old_rows = rows_of_old(old, table, report.alloc)?;
     let new_rows = rows_of_new(new, other, report.alloc)?;
-    match compare_numbered(table, other, old_rows, new_rows, report) {
+    match compare_numbered(table, other, old_rows, new_rows, &nulls, report) {
         Ok(()) => Ok(()),
         Err(failure) => Err(failure.at(report.alloc, "table", table.name())),
     }
@@ -73,11 +91,12 @@ fn compare_numbered(
     other: &Table,
     old: Rows<'_>,
     new: Rows<'_>,
+    nulls: &PairNulls,
     report: &mut Report<'_>,
 ) -> Result<(), Failure> {
     let mut texts = Texts::new(report.alloc);
-    let old = numbered_rows(report.alloc, &mut texts, old, other.columns())?;
-    let new = numbered_rows(report.alloc, &mut texts, new, table.columns())?;
+    let old = numbered_rows(report.alloc, &mut texts, old, &nulls.old, other.columns())?;
+    let new = numbered_rows(report.alloc, &mut texts, new, &nulls.new, table.columns())?;
     let pair = Pair {
         table: table.name(),
         texts: &texts,
@@ -95,7 +114,8 @@ pub(crate) fn add_removed(
     report: &mut Report<'_>,
 ) -> Result<(), Failure> {
     let rows = rows_of_old(old, table, report.alloc)?;
-    add_all_rows(Change::Removed, table, rows, report)
+    let nulls = null_cells_of(report.alloc, old.package, table)?;
+    add_all_rows(Change::Removed, table, rows, &nulls, report)
 }
 
 pub(crate) fn add_added(
@@ -104,7 +124,8 @@ pub(crate) fn add_added(
     report: &mut Report<'_>,
 ) -> Result<(), Failure> {
     let rows = rows_of_new(new, table, report.alloc)?;
-    add_all_rows(Change::Added, table, rows, report)
+    let nulls = null_cells_of(report.alloc, new.package, table)?;
+    add_all_rows(Change::Added, table, rows, &nulls, report)
 }
 
 /// Returns the failure at a table of the new package, whose file has to be named.
@@ -126,12 +147,12 @@ fn compare_pair(pair: &Pair<'_>, report: &mut Report<'_>) -> Result<(), Failure>
     add_differences(pair, report)
 }
 
-fn are_same(mut rows: Rows<'_>, mut others: Rows<'_>) -> bool {
+fn are_same(mut rows: Rows<'_>, mut others: Rows<'_>, nulls: &PairNulls) -> bool {
     if rows.len() != others.len() {
         return false;
     }
-    for _ in 0..rows.len() {
-        if !are_same_next(&rows, &others) {
+    for number in 0..rows.len() {
+        if !are_same_next(&rows, &others, number, nulls) {
             return false;
         }
         rows.pass();
@@ -140,11 +161,11 @@ fn are_same(mut rows: Rows<'_>, mut others: Rows<'_>) -> bool {
     true
 }
 
-fn are_same_next(rows: &Rows<'_>, others: &Rows<'_>) -> bool {
-    (0..rows.columns().len()).all(|place| match (rows.peek(place), others.peek(place)) {
-        (Some(value), Some(other)) => value.compare(other) == Ordering::Equal,
-        (None, None) => true,
-        (Some(_), None) | (None, Some(_)) => false,
+fn are_same_next(rows: &Rows<'_>, others: &Rows<'_>, number: usize, nulls: &PairNulls) -> bool {
+    (0..rows.columns().len()).all(|place| {
+        let value = nulls.old.value_in(rows, number, place);
+        let other = nulls.new.value_in(others, number, place);
+        value.compare(other) == Ordering::Equal
     })
 }
 
@@ -295,7 +316,7 @@ fn push_content(content: Content<'_>, text: &mut String) -> Result<(), AllocErro
     match content {
         Content::Value(value) => push_key(ValueView::of(value), text),
         Content::Text(value) | Content::Json(value) => text.push_str(value),
-        Content::Number(_) | Content::Truth(_) => Ok(()),
+        Content::Null | Content::Number(_) | Content::Truth(_) => Ok(()),
     }
 }
 
@@ -303,10 +324,13 @@ fn add_all_rows(
     change: Change,
     table: &Table,
     rows: Rows<'_>,
+    nulls: &NullCells,
     report: &mut Report<'_>,
 ) -> Result<(), Failure> {
+    let mut number = 0usize;
     for row in rows {
-        add_row(change, table, &row?, report)?;
+        add_row(change, table, &row?, number, nulls, report)?;
+        number = number.saturating_add(1);
     }
     Ok(())
 }
@@ -315,9 +339,11 @@ fn add_row<'a>(
     change: Change,
     table: &'a Table,
     row: &'a Row,
+    number: usize,
+    nulls: &NullCells,
     report: &mut Report<'_>,
 ) -> Result<(), AllocError> {
-    let members = row_members(report.alloc, table.columns(), row)?;
+    let members = row_members(report.alloc, table.columns(), row, number, nulls)?;
     let key = key_text(report.alloc, table.columns(), members.as_slice())?;
     let none = Vec::new(report.alloc);
     let (old, new) = match change {
@@ -339,12 +365,18 @@ fn row_members<'a>(
     alloc: Global,
     columns: &'a [Column],
     row: &'a Row,
+    number: usize,
+    nulls: &NullCells,
 ) -> Result<Vec<Member<'a>>, AllocError> {
     let mut members = Vec::with_capacity(alloc, row.len())?;
     for i in 0..row.len().min(columns.len()) {
         members.push(Member {
             name: columns[i].name(),
-            content: Content::Value(&row[i]),
+            content: if nulls.has(number, i) {
+                Content::Null
+            } else {
+                Content::Value(&row[i])
+            },
         })?;
     }
     Ok(members)

@@ -3,8 +3,10 @@
 use crate::exporting::BARE;
 use crate::folders::make_folder;
 use msipkg_packages::msi::{Package, Rows, Table};
-use msipkg_packages::output::{Failure, Opened, Output, RowFormat, System, at_file, write_rows};
-use msipkg_packages::{Folder, chosen_tables, open_new, rows_of};
+use msipkg_packages::output::{
+    Failure, NullCells, Opened, Output, RowFormat, System, at_file, write_rows,
+};
+use msipkg_packages::{Folder, chosen_tables, null_cells_of, open_new, rows_of};
 use msipkg_texts::{Ending, SafeName, SafeNames, Style};
 use std::alloc::{AllocError, Global};
 
@@ -51,8 +53,9 @@ fn export_table(
     given: &mut SafeNames,
 ) -> Result<(), Failure> {
     let rows = rows_of(rt.alloc(), package, table.name())?;
+    let nulls = null_cells_of(rt.alloc(), package, table)?;
     let path = folder.path_of(rt.alloc(), &file_name(table, given)?)?;
-    let written = write_file(rt, path.as_str(), folder.is_forced, rows);
+    let written = write_file(rt, path.as_str(), folder.is_forced, rows, &nulls);
     at_file(rt.alloc(), path.as_str(), written)
 }
 
@@ -60,15 +63,26 @@ fn file_name(table: &Table, given: &mut SafeNames) -> Result<SafeName, AllocErro
     given.give(table.name())?.with_ending(Ending::Csv)
 }
 
-fn write_file(rt: &System, path: &str, is_forced: bool, rows: Rows<'_>) -> Result<(), Failure> {
+fn write_file(
+    rt: &System,
+    path: &str,
+    is_forced: bool,
+    rows: Rows<'_>,
+    nulls: &NullCells,
+) -> Result<(), Failure> {
     let (new, bytes) = open_new(rt, path, is_forced)?;
     let mut output = Output::to_file(rt.alloc(), bytes);
-    let written = write_synced(rt.alloc(), rows, &mut output);
+    let written = write_synced(rt.alloc(), rows, nulls, &mut output);
     new.settle(rt, written)
 }
 
-fn write_synced(alloc: Global, rows: Rows<'_>, output: &mut Output) -> Result<(), Failure> {
-    write_rows(alloc, BARE, RowFormat::Csv, rows, output)?;
+fn write_synced(
+    alloc: Global,
+    rows: Rows<'_>,
+    nulls: &NullCells,
+    output: &mut Output,
+) -> Result<(), Failure> {
+    write_rows(alloc, BARE, RowFormat::Csv, rows, nulls, output)?;
     Ok(output.end_synced()?)
 }
 
@@ -80,5 +94,6 @@ pub(crate) fn write_csv(
     output: &mut Output,
 ) -> Result<(), Failure> {
     let rows = rows_of(alloc, package, table.name())?;
-    write_rows(alloc, style, RowFormat::Csv, rows, output)
+    let nulls = null_cells_of(alloc, package, table)?;
+    write_rows(alloc, style, RowFormat::Csv, rows, &nulls, output)
 }

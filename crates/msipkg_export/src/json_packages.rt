@@ -2,8 +2,10 @@
 
 use base64::engine::general_purpose::STANDARD;
 use msipkg_packages::msi::{Error, Package, Rows, SummaryInfo, Table};
-use msipkg_packages::output::{Failure, JsonRow, Opened, Output, PROPERTIES, put_columns};
-use msipkg_packages::{chosen_tables, kind_name, property_text, rows_of};
+use msipkg_packages::output::{
+    Failure, JsonRow, NullCells, Opened, Output, PROPERTIES, put_columns,
+};
+use msipkg_packages::{chosen_tables, kind_name, null_cells_of, property_text, rows_of};
 use msipkg_texts::{JsonObject, Style, write_quoted, write_text};
 use std::alloc::{AllocError, Global};
 
@@ -116,7 +118,8 @@ fn write_table(
 ) -> Result<(), Failure> {
     write_columns(alloc, style, table, output);
     let rows = rows_of(alloc, package, table.name())?;
-    write_rows(alloc, style, rows, output)
+    let nulls = null_cells_of(alloc, package, table)?;
+    write_rows(alloc, style, rows, &nulls, output)
 }
 
 fn write_columns(alloc: Global, style: Style, table: &Table, output: &mut Output) {
@@ -132,10 +135,11 @@ fn write_rows(
     alloc: Global,
     style: Style,
     rows: Rows<'_>,
+    nulls: &NullCells,
     output: &mut Output,
 ) -> Result<(), Failure> {
     output.push_str(",\"rows\":[");
-    write_lists(alloc, style, rows, output)?;
+    write_lists(alloc, style, rows, nulls, output)?;
     output.push_str("]}");
     Ok(())
 }
@@ -144,12 +148,15 @@ fn write_lists(
     alloc: Global,
     style: Style,
     rows: Rows<'_>,
+    nulls: &NullCells,
     output: &mut Output,
 ) -> Result<(), Failure> {
     let mut json = JsonRow::new(alloc);
     let mut before: &[u8] = b"";
+    let mut number = 0usize;
     for row in rows {
-        json = json.list(&row?)?;
+        json = json.list(&row?, number, nulls)?;
+        number = number.saturating_add(1);
         output.push_bytes(before);
         before = b",";
         json.print(style, output);

@@ -3,13 +3,14 @@
 use crate::archive_pages::ArchivePage;
 use crate::archive_parts::text_value;
 use crate::archive_texts::ArchiveText;
-use msipkg_packages::msi::{
-    CodePage, Column, ColumnType, Error, Package, Rows, Table, Value, ValueView,
-};
+use msipkg_packages::msi::{CodePage, Column, ColumnType, Package, Rows, Table, Value, ValueView};
 use msipkg_packages::output::{Failure, Opened, Output, stream_name};
-use msipkg_packages::rows_of;
+use msipkg_packages::{cell_text, has_null_streams, rows_of};
 use msipkg_texts::{SafeName, SafeNames, Style};
-use std::alloc::Global;
+use std::alloc::{AllocError, Global};
+
+/// The refusal of a row whose stream doesn't exist.
+const NO_STREAM: &str = "its stream isn't there, and the column doesn't take null";
 
 /// A stream and the name of its file.
 pub(crate) struct StreamFile {
@@ -116,28 +117,40 @@ impl<'a> TableArchive<'a> {
         self.text.push(self.row.as_slice())
     }
 
-    fn value_of(&mut self, rows: &Rows<'_>, place: usize) -> Result<Value, Error> {
+    fn value_of(&mut self, rows: &Rows<'_>, place: usize) -> Result<Value, Failure> {
         match rows.peek(place).unwrap_or(ValueView::Null) {
             ValueView::Null => Ok(Value::Null),
             ValueView::Int(number) => Ok(Value::Int(number)),
-            ValueView::Str(text) => text_value(self.alloc, text),
-            ValueView::Binary => self.file_of(rows),
+            ValueView::Str(text) => Ok(text_value(self.alloc, text)?),
+            ValueView::Binary => self.file_of(rows, place),
         }
     }
 
-    /// Returns the name of the file of the next row's stream. It is null where the stream doesn't exist, since the
-    /// cells of such columns don't record null.
-    fn file_of(&mut self, rows: &Rows<'_>) -> Result<Value, Error> {
-        let Some(stream) = stream_name(self.alloc, self.table, rows)? else {
-            return Ok(Value::Null);
+    /// Returns the name of the file of the next row's stream, or null if the stream doesn't exist and the column takes
+    /// null.
+    fn file_of(&mut self, rows: &Rows<'_>, place: usize) -> Result<Value, Failure> {
+        let Some(stream) = self.stream_of(rows)? else {
+            return self.null_in(rows, place);
         };
-        if !self.package.has_stream(stream.as_str()) {
-            return Ok(Value::Null);
-        }
         let file = self.given.give(stream.as_str())?;
         let value = Value::from_text(self.alloc, file.as_str())?;
         self.files.push(StreamFile { stream, file })?;
         Ok(value)
+    }
+
+    /// Returns the name of the next row's stream, if it exists.
+    fn stream_of(&self, rows: &Rows<'_>) -> Result<Option<String>, AllocError> {
+        let name = stream_name(self.alloc, self.table, rows)?;
+        Ok(name.filter(|name| self.package.has_stream(name.as_str())))
+    }
+
+    /// Returns null, unless the column of the cell doesn't take it.
+    fn null_in(&self, rows: &Rows<'_>, place: usize) -> Result<Value, Failure> {
+        if rows.columns().get(place).is_some_and(|column| has_null_streams(column)) {
+            return Ok(Value::Null);
+        }
+        let cell = cell_text(self.alloc, self.table, rows, place)?;
+        Err(Failure::rule(NO_STREAM).at(self.alloc, "table", cell.as_str()))
     }
 }
 

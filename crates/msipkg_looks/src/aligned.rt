@@ -2,7 +2,7 @@
 //! written, so that none of their texts is kept.
 
 use msipkg_packages::msi::{Column, Rows, ValueView};
-use msipkg_packages::output::{Output, value_width, write_value};
+use msipkg_packages::output::{NullCells, Output, value_width, write_value};
 use msipkg_texts::{Style, Widths};
 use std::alloc::{AllocError, Global};
 
@@ -10,11 +10,12 @@ pub(crate) fn widths_of(
     alloc: Global,
     style: Style,
     mut rows: Rows<'_>,
+    nulls: &NullCells,
 ) -> Result<Widths, AllocError> {
     let mut widths = Widths::new(alloc, rows.columns().len())?;
     widen_by_names(style, rows.columns(), &mut widths);
-    for _ in 0..rows.len() {
-        widen_by_row(style, &rows, &mut widths);
+    for number in 0..rows.len() {
+        widen_by_row(style, &rows, number, nulls, &mut widths);
         rows.pass();
     }
     Ok(widths)
@@ -26,12 +27,17 @@ fn widen_by_names(style: Style, columns: &[Column], widths: &mut Widths) {
     }
 }
 
-fn widen_by_row(style: Style, rows: &Rows<'_>, widths: &mut Widths) {
+fn widen_by_row(
+    style: Style,
+    rows: &Rows<'_>,
+    number: usize,
+    nulls: &NullCells,
+    widths: &mut Widths,
+) {
     for place in 0..rows.columns().len() {
-        match rows.peek(place) {
-            Some(ValueView::Str(text)) => widths.widen_by_text(place, style, text),
-            Some(value) => widths.widen(place, value_width(style, value)),
-            None => {}
+        match nulls.value_in(rows, number, place) {
+            ValueView::Str(text) => widths.widen_by_text(place, style, text),
+            value => widths.widen(place, value_width(style, value)),
         }
     }
 }
@@ -41,6 +47,7 @@ pub(crate) fn write_aligned(
     style: Style,
     widths: &Widths,
     mut rows: Rows<'_>,
+    nulls: &NullCells,
     output: &mut Output,
 ) {
     if rows.columns().is_empty() {
@@ -48,8 +55,8 @@ pub(crate) fn write_aligned(
     }
     write_names(style, widths, rows.columns(), output);
     widths.write_dashes(output);
-    for _ in 0..rows.len() {
-        write_row(style, widths, &rows, output);
+    for number in 0..rows.len() {
+        write_row(style, widths, &rows, number, nulls, output);
         rows.pass();
     }
 }
@@ -64,10 +71,17 @@ fn write_names(style: Style, widths: &Widths, columns: &[Column], output: &mut O
 }
 
 /// Writes the values of the next row. The last one isn't filled up, so its width isn't asked for.
-fn write_row(style: Style, widths: &Widths, rows: &Rows<'_>, output: &mut Output) {
+fn write_row(
+    style: Style,
+    widths: &Widths,
+    rows: &Rows<'_>,
+    number: usize,
+    nulls: &NullCells,
+    output: &mut Output,
+) {
     let count = rows.columns().len();
     for place in 0..count {
-        let value = rows.peek(place).unwrap_or(ValueView::Null);
+        let value = nulls.value_in(rows, number, place);
         write_value(style, value, output);
         if place + 1 < count {
             widths.fill_up(place, value_width(style, value), output);

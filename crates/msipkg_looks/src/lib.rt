@@ -8,6 +8,7 @@ mod facts;
 mod info;
 mod listing;
 pub mod look;
+mod nulls;
 mod product;
 pub mod query;
 pub mod schema;

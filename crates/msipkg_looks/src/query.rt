@@ -1,6 +1,7 @@
 //! `query FILE TEXT`: the rows that a query selects.
 
 use crate::aligned::{widths_of, write_aligned};
+use crate::nulls::null_cells;
 use msipkg_packages::msi::{Package, Rows};
 use msipkg_packages::output::{Failure, Opened, Output, RowFormat, write_rows};
 use msipkg_queries::{explained, read_select};
@@ -71,11 +72,13 @@ fn write_selected(
     output: &mut Output,
 ) -> Result<(), Failure> {
     let rows = selected(alloc, package, text)?;
+    let nulls = null_cells(alloc, package, text, rows.columns())?;
     match format {
-        Format::Rows(format) => write_rows(alloc, style, format, rows, output),
+        Format::Rows(format) => write_rows(alloc, style, format, rows, &nulls, output),
         Format::Table => {
-            let widths = widths_of(alloc, style, rows)?;
-            write_aligned(style, &widths, selected(alloc, package, text)?, output);
+            let widths = widths_of(alloc, style, rows, &nulls)?;
+            let rows = selected(alloc, package, text)?;
+            write_aligned(style, &widths, rows, &nulls, output);
             Ok(())
         }
     }

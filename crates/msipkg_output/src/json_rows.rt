@@ -1,7 +1,8 @@
 //! The JSON of rows.
 
-use msi_table::Row;
-use msi_text_rows::{JsonWriter, write_json_object, write_json_row};
+use crate::nulls::NullCells;
+use msi_table::{Row, Value};
+use msi_text_rows::{JsonWriter, write_json_object, write_json_row, write_json_value};
 use msipkg_system::Output;
 use msipkg_texts::{Style, write_text};
 use std::alloc::{AllocError, Global};
@@ -39,13 +40,23 @@ impl JsonRow {
         })
     }
 
-    /// Returns the JSON of a row as a list, in the place of what was there.
+    /// Returns the JSON of the row of a number as a list, in the place of what was there. Of a cell among `nulls` it is
+    /// null.
     ///
     /// # Errors
     /// Fails if memory is refused.
-    pub fn list(self, row: &Row) -> Result<JsonRow, AllocError> {
+    pub fn list(
+        self,
+        row: &Row,
+        number: usize,
+        nulls: &NullCells,
+    ) -> Result<JsonRow, AllocError> {
         let mut writer = self.emptied();
-        write_json_row(&mut writer, row)?;
+        if nulls.is_empty() {
+            write_json_row(&mut writer, row)?;
+        } else {
+            write_list(&mut writer, row, number, nulls)?;
+        }
         Ok(JsonRow {
             bytes: writer.into_inner(),
         })
@@ -68,4 +79,21 @@ impl JsonRow {
         bytes.clear();
         JsonWriter::new(bytes)
     }
+}
+
+fn write_list(
+    writer: &mut JsonWriter,
+    row: &Row,
+    number: usize,
+    nulls: &NullCells,
+) -> Result<(), AllocError> {
+    writer.begin_array()?;
+    for place in 0..row.len() {
+        if nulls.has(number, place) {
+            write_json_value(writer, &Value::Null)?;
+        } else {
+            write_json_value(writer, &row[place])?;
+        }
+    }
+    writer.end_array()
 }

@@ -5,6 +5,7 @@
 pub mod columns;
 pub mod failure;
 pub mod json_rows;
+pub mod nulls;
 pub mod pages;
 pub mod properties;
 mod repeated;
@@ -18,8 +19,9 @@ pub use columns::{ColumnTypeText, put_columns};
 pub use failure::{Cause, Failure, at_file, failure_json};
 pub use json_rows::JsonRow;
 pub use msipkg_system::{Carrier, Identity, Opened, Origin, Output, System, SystemFile, path_in};
+pub use nulls::NullCells;
 pub use pages::Pages;
 pub use properties::PROPERTIES;
 pub use rows::{RowFormat, write_rows};
-pub use texts::{TimeText, push_key, stream_name};
+pub use texts::{TimeText, push_key, stream_name, stream_name_by};
 pub use values::{value_width, write_value};

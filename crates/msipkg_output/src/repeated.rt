@@ -1,5 +1,7 @@
-//! Rows in which columns have the same name, as a query has them that selects a column twice, as objects of JSON.
+//! Rows in which columns have the same name, as a query has them that selects a column twice, and rows with null cells
+//! of streams, as objects of JSON.
 
+use crate::nulls::NullCells;
 use msi_table::{Column, Rows, ValueView};
 use msipkg_system::Output;
 use msipkg_texts::{JsonObject, Style};
@@ -59,21 +61,28 @@ pub(crate) fn write_named(
     style: Style,
     names: &[String],
     mut rows: Rows<'_>,
+    nulls: &NullCells,
     output: &mut Output,
 ) {
     let mut before = "\n";
-    for _ in 0..rows.len() {
+    for number in 0..rows.len() {
         output.push_str(before);
         before = ",\n";
-        object_of(alloc, names, &rows).print(style, output);
+        object_of(alloc, names, &rows, number, nulls).print(style, output);
         rows.pass();
     }
 }
 
-fn object_of(alloc: Global, names: &[String], rows: &Rows<'_>) -> JsonObject {
+fn object_of(
+    alloc: Global,
+    names: &[String],
+    rows: &Rows<'_>,
+    number: usize,
+    nulls: &NullCells,
+) -> JsonObject {
     let mut object = JsonObject::new(alloc);
     for (place, name) in names.iter().enumerate() {
-        let value = rows.peek(place).unwrap_or(ValueView::Null);
+        let value = nulls.value_in(rows, number, place);
         put_value(name.as_str(), value, &mut object);
     }
     object

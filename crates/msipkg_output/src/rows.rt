@@ -2,10 +2,11 @@
 
 use crate::failure::Failure;
 use crate::json_rows::JsonRow;
+use crate::nulls::NullCells;
 use crate::repeated::{has_repeated, member_names, write_named};
 use crate::values::{STREAM, write_value};
 use csv::Writer;
-use msi_table::{Column, Row, Rows, Value, ValueView};
+use msi_table::{Column, Row, Rows, Value};
 use msi_text_rows::write_csv_row;
 use msipkg_system::Output;
 use msipkg_texts::Style;
@@ -26,14 +27,16 @@ pub enum RowFormat {
 
 /// How values are printed.
 #[derive(Clone, Copy)]
-struct Printer {
+struct Printer<'a> {
     alloc: Global,
     style: Style,
     format: RowFormat,
+    nulls: &'a NullCells,
 }
 
-/// Writes rows. Null prints as nothing, in JSON as `null`; a stream as `[stream]`, in JSON as `true`. In JSON a column
-/// whose name stands in front already has a number behind it, as `Name_2`.
+/// Writes rows, in which the cells among `nulls` are null. Null prints as nothing, in JSON as `null`; a stream as
+/// `[stream]`, in JSON as `true`. In JSON a column whose name stands in front already has a number behind it, as
+/// `Name_2`.
 ///
 /// # Errors
 /// Fails for CSV and JSON as reading a row does, and if memory is refused.
@@ -42,12 +45,14 @@ pub fn write_rows(
     style: Style,
     format: RowFormat,
     rows: Rows<'_>,
+    nulls: &NullCells,
     output: &mut Output,
 ) -> Result<(), Failure> {
     let printer = Printer {
         alloc,
         style,
         format,
+        nulls,
     };
     match format {
         RowFormat::Csv => write_csv(&printer, rows, output),
@@ -59,26 +64,28 @@ pub fn write_rows(
     }
 }
 
-fn write_csv(printer: &Printer, rows: Rows<'_>, output: &mut Output) -> Result<(), Failure> {
+fn write_csv(printer: &Printer<'_>, rows: Rows<'_>, output: &mut Output) -> Result<(), Failure> {
     let mut writer = Writer::from_writer(output);
     write_records(printer, rows, &mut writer)?;
     done(printer, writer.flush())
 }
 
 fn write_records(
-    printer: &Printer,
+    printer: &Printer<'_>,
     rows: Rows<'_>,
     writer: &mut Writer<&mut Output>,
 ) -> Result<(), Failure> {
     write_names(printer, rows.columns(), writer)?;
+    let mut number = 0usize;
     for row in rows {
-        write_record(printer, &row?, writer)?;
+        write_record(printer, &row?, number, writer)?;
+        number = number.saturating_add(1);
     }
     Ok(())
 }
 
 fn write_names(
-    printer: &Printer,
+    printer: &Printer<'_>,
     columns: &[Column],
     writer: &mut Writer<&mut Output>,
 ) -> Result<(), Failure> {
@@ -89,30 +96,36 @@ fn write_names(
 }
 
 fn write_record(
-    printer: &Printer,
+    printer: &Printer<'_>,
     row: &Row,
+    number: usize,
     writer: &mut Writer<&mut Output>,
 ) -> Result<(), Failure> {
-    if printer.style.escapes_hidden() {
-        write_shown(printer, row, writer)
+    if printer.style.escapes_hidden() || !printer.nulls.is_empty() {
+        write_shown(printer, row, number, writer)
     } else {
         done(printer, write_csv_row(writer, row))
     }
 }
 
 fn write_shown(
-    printer: &Printer,
+    printer: &Printer<'_>,
     row: &Row,
+    number: usize,
     writer: &mut Writer<&mut Output>,
 ) -> Result<(), Failure> {
     for i in 0..row.len() {
-        write_value_field(printer, &row[i], writer)?;
+        if printer.nulls.has(number, i) {
+            write_field(printer, "", writer)?;
+        } else {
+            write_value_field(printer, &row[i], writer)?;
+        }
     }
     done(printer, writer.end_record())
 }
 
 fn write_value_field(
-    printer: &Printer,
+    printer: &Printer<'_>,
     value: &Value,
     writer: &mut Writer<&mut Output>,
 ) -> Result<(), Failure> {
@@ -128,7 +141,7 @@ fn write_value_field(
 }
 
 fn write_field(
-    printer: &Printer,
+    printer: &Printer<'_>,
     text: &str,
     writer: &mut Writer<&mut Output>,
 ) -> Result<(), Failure> {
@@ -136,16 +149,16 @@ fn write_field(
     done(printer, writer.write_field(text.as_bytes()))
 }
 
-fn done(printer: &Printer, returned: Result<(), csv::Error>) -> Result<(), Failure> {
+fn done(printer: &Printer<'_>, returned: Result<(), csv::Error>) -> Result<(), Failure> {
     match returned {
         Ok(()) => Ok(()),
         Err(error) => Err(Failure::shown(printer.alloc, &error)),
     }
 }
 
-fn write_json(printer: &Printer, rows: Rows<'_>, output: &mut Output) -> Result<(), Failure> {
+fn write_json(printer: &Printer<'_>, rows: Rows<'_>, output: &mut Output) -> Result<(), Failure> {
     output.push_str("[");
-    if has_repeated(rows.columns()) {
+    if has_repeated(rows.columns()) || !printer.nulls.is_empty() {
         write_repeated(printer, rows, output)?;
     } else {
         write_objects(printer, rows, output)?;
@@ -154,14 +167,21 @@ fn write_json(printer: &Printer, rows: Rows<'_>, output: &mut Output) -> Result<
     Ok(())
 }
 
-/// Writes rows as objects, where several columns have the same name.
-fn write_repeated(printer: &Printer, rows: Rows<'_>, output: &mut Output) -> Result<(), Failure> {
+/// Writes rows as objects, where several columns have the same name, or cells of streams are null.
+fn write_repeated(printer: &Printer<'_>, rows: Rows<'_>, output: &mut Output) -> Result<(), Failure> {
     let names = member_names(printer.alloc, rows.columns())?;
-    write_named(printer.alloc, printer.style, names.as_slice(), rows, output);
+    write_named(
+        printer.alloc,
+        printer.style,
+        names.as_slice(),
+        rows,
+        printer.nulls,
+        output,
+    );
     Ok(())
 }
 
-fn write_objects(printer: &Printer, rows: Rows<'_>, output: &mut Output) -> Result<(), Failure> {
+fn write_objects(printer: &Printer<'_>, rows: Rows<'_>, output: &mut Output) -> Result<(), Failure> {
     let mut json = JsonRow::new(printer.alloc);
     let mut before: &[u8] = b"\n";
     for row in rows {
@@ -173,18 +193,18 @@ fn write_objects(printer: &Printer, rows: Rows<'_>, output: &mut Output) -> Resu
     Ok(())
 }
 
-fn write_each(printer: &Printer, mut rows: Rows<'_>, output: &mut Output) {
+fn write_each(printer: &Printer<'_>, mut rows: Rows<'_>, output: &mut Output) {
     for number in 0..rows.len() {
-        write_row(printer, number == 0, &rows, output);
+        write_row(printer, number, &rows, output);
         rows.pass();
     }
 }
 
 /// Writes the next row, with its values on lines, behind an empty line unless it is the first, or separated by tabs.
-fn write_row(printer: &Printer, is_first: bool, rows: &Rows<'_>, output: &mut Output) {
+fn write_row(printer: &Printer<'_>, number: usize, rows: &Rows<'_>, output: &mut Output) {
     let has_lines = matches!(printer.format, RowFormat::Lines);
     let between = if has_lines { "\n" } else { "\t" };
-    let mut before = if has_lines && !is_first { "\n" } else { "" };
+    let mut before = if has_lines && number > 0 { "\n" } else { "" };
     for (place, column) in rows.columns().iter().enumerate() {
         output.push_str(before);
         before = between;
@@ -192,7 +212,7 @@ fn write_row(printer: &Printer, is_first: bool, rows: &Rows<'_>, output: &mut Ou
             printer.style.print(column.name(), output);
             output.push_str(" = ");
         }
-        let value = rows.peek(place).unwrap_or(ValueView::Null);
+        let value = printer.nulls.value_in(rows, number, place);
         write_value(printer.style, value, output);
     }
     output.push_str("\n");

@@ -53,17 +53,47 @@ pub fn stream_name(
 ) -> Result<Option<String>, AllocError> {
     let mut name = String::from_str(alloc, table)?;
     for (place, column) in rows.columns().iter().enumerate() {
-        if column.is_primary_key() {
-            let value = rows.peek(place).unwrap_or(ValueView::Null);
-            if is_too_long(value) {
-                return Ok(None);
-            }
-            name.push('.')?;
-            push_key(value, &mut name)?;
+        if column.is_primary_key() && !push_part(rows.peek(place), &mut name)? {
+            return Ok(None);
         }
     }
-    let has_room = name.chars().count() <= MOST_CHARACTERS;
-    Ok(if has_room { Some(name) } else { None })
+    Ok(short_name(name))
+}
+
+/// Returns the name of the stream of a table's row, as `stream_name` does, where the next row has the values of the key
+/// at these places: that of a join has columns of several tables.
+///
+/// # Errors
+/// Fails if memory is refused.
+pub fn stream_name_by(
+    alloc: Global,
+    table: &str,
+    keys: &[usize],
+    rows: &Rows<'_>,
+) -> Result<Option<String>, AllocError> {
+    let mut name = String::from_str(alloc, table)?;
+    for place in keys {
+        if !push_part(rows.peek(*place), &mut name)? {
+            return Ok(None);
+        }
+    }
+    Ok(short_name(name))
+}
+
+/// Puts a dot and the text of a key's value behind a name. Returns false if the name would be too long.
+fn push_part(value: Option<ValueView<'_>>, name: &mut String) -> Result<bool, AllocError> {
+    let value = value.unwrap_or(ValueView::Null);
+    if is_too_long(value) {
+        return Ok(false);
+    }
+    name.push('.')?;
+    push_key(value, name)?;
+    Ok(true)
+}
+
+fn short_name(name: String) -> Option<String> {
+    let has_room = name.as_str().chars().count() <= MOST_CHARACTERS;
+    if has_room { Some(name) } else { None }
 }
 
 /// Returns whether a value has more bytes than any text of so many characters.

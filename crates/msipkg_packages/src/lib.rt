@@ -3,6 +3,7 @@
 #![tactic(auto)]
 
 pub mod file_bytes;
+pub mod null_streams;
 pub mod opening;
 pub mod partial;
 mod reasons;
@@ -20,9 +21,10 @@ pub use msipkg_files::{
     Claim, Folder, NewFile, PackageFile, Purpose, check_kind, check_way, file_page, open_new,
     open_output, output,
 };
+pub use null_streams::{StreamColumn, has_null_streams, null_cells_in, null_cells_of};
 pub use opening::{FileState, kind_name, new_package, open_package, open_to_change};
 pub use partial::{Looked, open_to_look};
 pub use stored::{StoredStreams, stored_streams, stream_bytes};
 pub use summary_texts::{property_text, uuid_text};
-pub use tables::{chosen_tables, is_list, rows_of, table_named};
+pub use tables::{cell_text, chosen_tables, is_list, rows_of, table_named};
 pub use unlisted::unlisted_table;

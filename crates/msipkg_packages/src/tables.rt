@@ -1,7 +1,7 @@
 //! The tables that a command is about.
 
-use msi::{Error, Package, Rows, Select, Table};
-use msipkg_files::output::{Failure, Opened};
+use msi::{Error, Package, Rows, Select, Table, ValueView};
+use msipkg_files::output::{Failure, Opened, push_key};
 use std::alloc::{AllocError, Global};
 
 /// Returns whether a table only lists what the others are.
@@ -80,4 +80,33 @@ fn selected<'a>(
     table: &str,
 ) -> Result<Rows<'a>, Error> {
     package.select_rows(Select::table(alloc, table)?)
+}
+
+/// Returns the place of a cell for people: the name of a table, the key of its next row with its values separated by
+/// slashes, and the name of a column.
+///
+/// # Errors
+/// Fails if memory is refused.
+pub fn cell_text(
+    alloc: Global,
+    table: &str,
+    rows: &Rows<'_>,
+    place: usize,
+) -> Result<String, AllocError> {
+    let mut text = format!(in alloc; "{table}, row ")?;
+    let mut is_first = true;
+    for (place, column) in rows.columns().iter().enumerate() {
+        if column.is_primary_key() {
+            if !is_first {
+                text.push('/')?;
+            }
+            is_first = false;
+            push_key(rows.peek(place).unwrap_or(ValueView::Null), &mut text)?;
+        }
+    }
+    text.push_str(", column ")?;
+    if let Some(column) = rows.columns().get(place) {
+        text.push_str(column.name())?;
+    }
+    Ok(text)
 }

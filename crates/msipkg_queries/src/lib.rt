@@ -11,8 +11,10 @@ pub mod reasons;
 mod rules;
 pub mod showing;
 mod values;
+pub mod wide;
 
 pub use near::near_text;
 pub use reading::{check_statement, read_select, read_statement};
 pub use reasons::explained;
 pub use showing::{said, shown_value};
+pub use wide::{read_wide_select, selected_tables};

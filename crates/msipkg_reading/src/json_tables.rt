@@ -34,7 +34,8 @@ fn column_of(alloc: Global, item: &Json, table: &GivenTable) -> Result<GivenColu
         return Err(table.at_column(alloc, failure, name));
     };
     let mut column = GivenColumn::new(alloc, name, coltype)?;
-    column.is_localizable = letter.eq_ignore_ascii_case(&b'l');
+    // The letter says so of texts alone.
+    column.is_localizable = letter.eq_ignore_ascii_case(&b'l') || is_true(item, "localizable");
     column.is_nullable = letter.is_ascii_uppercase();
     column.is_key = is_true(item, "key");
     Ok(column)

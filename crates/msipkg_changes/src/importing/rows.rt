@@ -1,7 +1,8 @@
 //! Rows that files give, as a package's table has them.
 
 use msi_text_rows::csv_value;
-use msipkg_packages::msi::{Column, ColumnType, Error, Package, Value};
+use msipkg_packages::has_null_streams;
+use msipkg_packages::msi::{Column, Error, Package, Value};
 use msipkg_packages::output::{Failure, Opened};
 use msipkg_queries::{near_text, said, shown_value};
 use msipkg_reading::GivenTable;
@@ -52,7 +53,7 @@ fn missing_column(alloc: Global, columns: &[Column], name: &str) -> Result<Strin
     format!(in alloc; "the package's table has no such column{near}")
 }
 
-fn package_row(
+pub(crate) fn package_row(
     alloc: Global,
     columns: &[Column],
     table: &GivenTable,
@@ -64,21 +65,25 @@ fn package_row(
             Some(place) => row.get(place),
             None => None,
         };
-        values.push(package_value(alloc, column.coltype(), given)?)?;
+        values.push(package_value(alloc, column, given)?)?;
     }
     Ok(values)
 }
 
-/// Returns the value of a column of a type, or null if none is given. A text is read as a field of CSV: the empty one
-/// is null, too, since the installer knows no empty text. One that the column doesn't take is left to be refused.
-fn package_value(
-    alloc: Global,
-    coltype: ColumnType,
-    given: Option<&Value>,
-) -> Result<Value, Error> {
+/// Returns the value of a column, where null in a column of streams that takes it is a cell whose stream doesn't exist.
+fn package_value(alloc: Global, column: &Column, given: Option<&Value>) -> Result<Value, Error> {
+    match value_given(alloc, column, given)? {
+        Value::Null if has_null_streams(column) => Ok(Value::Binary),
+        value => Ok(value),
+    }
+}
+
+/// Returns the value of a column, or null if none is given. A text is read as a field of CSV: the empty one is null,
+/// too, since the installer knows no empty text. One that the column doesn't take is left to be refused.
+fn value_given(alloc: Global, column: &Column, given: Option<&Value>) -> Result<Value, Error> {
     match given {
         None => Ok(Value::Null),
-        Some(Value::Str(text)) => csv_value(alloc, coltype, text.as_str()),
+        Some(Value::Str(text)) => csv_value(alloc, column.coltype(), text.as_str()),
         Some(value) => value.clone(alloc),
     }
 }
