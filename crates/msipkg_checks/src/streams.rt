@@ -3,6 +3,7 @@
 use crate::reading::pass_over;
 use crate::report::{Place, Report};
 use crate::shown::{Cut, row_name};
+use msipkg_packages::has_null_streams;
 use msipkg_packages::msi::{ColumnType, Package, Rows, Select, Table, ValueView};
 use msipkg_packages::output::{Failure, Opened, stream_name};
 use std::alloc::{AllocError, Global};
@@ -207,11 +208,10 @@ fn has_stream_column(table: &Table) -> bool {
     false
 }
 
-/// Returns whether the next row needs a stream: one of its columns of streams doesn't take null. The value of a cell of
-/// such a column doesn't show whether it is null.
+/// Returns whether the next row needs a stream: one of its columns of streams doesn't take null.
 fn needs_stream(rows: &Rows<'_>) -> bool {
     for column in rows.columns() {
-        if matches!(column.coltype(), ColumnType::Binary) && !column.is_nullable() {
+        if matches!(column.coltype(), ColumnType::Binary) && !has_null_streams(column) {
             return true;
         }
     }

@@ -146,7 +146,11 @@ impl<'a> TableArchive<'a> {
 
     /// Returns null, unless the column of the cell doesn't take it.
     fn null_in(&self, rows: &Rows<'_>, place: usize) -> Result<Value, Failure> {
-        if rows.columns().get(place).is_some_and(|column| has_null_streams(column)) {
+        if rows
+            .columns()
+            .get(place)
+            .is_some_and(|column| has_null_streams(column))
+        {
             return Ok(Value::Null);
         }
         let cell = cell_text(self.alloc, self.table, rows, place)?;

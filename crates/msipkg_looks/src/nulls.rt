@@ -24,6 +24,7 @@ pub(crate) fn null_cells(
     Ok(null_cells_in(alloc, package, streams.as_slice(), rows)?)
 }
 
+/// Returns those of the selected columns that may have null cells, if it is known which table each is of.
 fn stream_columns<'a>(
     alloc: Global,
     columns: &[Column],
@@ -32,51 +33,32 @@ fn stream_columns<'a>(
 ) -> Result<Vec<StreamColumn<'a>>, AllocError> {
     let mut streams = Vec::new(alloc);
     for (place, column) in columns.iter().enumerate() {
-        let found = tables_of(alloc, column.name(), all, tables)?;
-        if let Some(stream) = the_one(place, found) {
+        let mut found = found_columns(alloc, place, column.name(), all, tables)?;
+        if let Some(stream) = found.pop()
+            && found.is_empty()
+        {
             streams.push(stream)?;
         }
     }
     Ok(streams)
 }
 
-/// A table with a column of streams that takes null, and the places of its key.
-struct Keyed<'a> {
-    table: &'a str,
-    keys: Vec<usize>,
-}
-
-/// Written out, so that a function that owns one calls one drop, and its proof doesn't go through those of the parts.
-impl Drop for Keyed<'_> {
-    fn drop(self) {
-        let Keyed { table: _, keys: _ } = self;
-    }
-}
-
-/// Returns the column at a place, if it is known which table it is of.
-fn the_one(place: usize, mut found: Vec<Keyed<'_>>) -> Option<StreamColumn<'_>> {
-    let last = found.pop()?;
-    if !found.is_empty() {
-        return None;
-    }
-    let Keyed { table, keys } = last;
-    Some(StreamColumn { place, table, keys })
-}
-
-/// Returns the tables that have a column of streams that takes null under a name, and whose keys are among all columns.
-fn tables_of<'a>(
+/// Returns what the selected column of a place and a name is in each table that has such a column, with streams and
+/// null, and whose key is among all columns.
+fn found_columns<'a>(
     alloc: Global,
+    place: usize,
     name: &str,
     all: &[Column],
     tables: &[&'a Table],
-) -> Result<Vec<Keyed<'a>>, AllocError> {
+) -> Result<Vec<StreamColumn<'a>>, AllocError> {
     let mut found = Vec::new(alloc);
     for table in tables {
         if let Some(front) = front_of(table, name)
             && let Some(keys) = key_places(alloc, table, front, all)?
         {
             let table = table.name();
-            found.push(Keyed { table, keys })?;
+            found.push(StreamColumn { place, table, keys })?;
         }
     }
     Ok(found)
@@ -97,7 +79,9 @@ fn front_of<'a>(table: &Table, name: &'a str) -> Option<&'a str> {
 }
 
 fn has_stream_column(table: &Table, name: &str) -> bool {
-    table.get_column(name).is_some_and(|column| has_null_streams(column))
+    table
+        .get_column(name)
+        .is_some_and(|column| has_null_streams(column))
 }
 
 /// Returns the places of the key of a table among all columns, where its names have this text in front, if all are
@@ -109,13 +93,19 @@ fn key_places(
     all: &[Column],
 ) -> Result<Option<Vec<usize>>, AllocError> {
     let mut places = Vec::new(alloc);
-    for key in table.columns().iter().filter(|column| column.is_primary_key()) {
-        let place = all.iter().position(|column| column.name().strip_prefix(front)
-            == Some(key.name()));
-        match place {
+    for key in table.columns() {
+        if !key.is_primary_key() {
+            continue;
+        }
+        match place_named(all, front, key.name()) {
             Some(place) => places.push(place)?,
             None => return Ok(None),
         }
     }
     Ok(Some(places))
+}
+
+fn place_named(all: &[Column], front: &str, name: &str) -> Option<usize> {
+    all.iter()
+        .position(|column| column.name().strip_prefix(front) == Some(name))
 }

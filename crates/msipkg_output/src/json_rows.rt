@@ -45,12 +45,7 @@ impl JsonRow {
     ///
     /// # Errors
     /// Fails if memory is refused.
-    pub fn list(
-        self,
-        row: &Row,
-        number: usize,
-        nulls: &NullCells,
-    ) -> Result<JsonRow, AllocError> {
+    pub fn list(self, row: &Row, number: usize, nulls: &NullCells) -> Result<JsonRow, AllocError> {
         let mut writer = self.emptied();
         if nulls.is_empty() {
             write_json_row(&mut writer, row)?;

@@ -59,10 +59,7 @@ impl NullCells {
     /// Returns where the cells of a column stand, which is added if it isn't there.
     fn column_at(&mut self, place: usize) -> Result<usize, AllocError> {
         let end = self.columns.len();
-        let found = self
-            .columns
-            .iter()
-            .position(|column| column.place == place);
+        let found = self.columns.iter().position(|column| column.place == place);
         if found.is_none() {
             let rows = BTreeSet::new(self.alloc);
             self.columns.push(NullColumn { place, rows })?;
@@ -77,9 +74,7 @@ impl NullCells {
 
     /// Returns whether the cell of a row in a column is among them, both counted from 0.
     pub fn has(&self, row: usize, place: usize) -> bool {
-        self.columns
-            .iter()
-            .any(|column| column.place == place && column.rows.contains(&row))
+        self.columns.iter().any(|column| column.place == place && column.rows.contains(&row))
     }
 
     /// Returns the value of the next of some rows in a column: null where the cell is among these. The number of the

@@ -168,7 +168,11 @@ fn write_json(printer: &Printer<'_>, rows: Rows<'_>, output: &mut Output) -> Res
 }
 
 /// Writes rows as objects, where several columns have the same name, or cells of streams are null.
-fn write_repeated(printer: &Printer<'_>, rows: Rows<'_>, output: &mut Output) -> Result<(), Failure> {
+fn write_repeated(
+    printer: &Printer<'_>,
+    rows: Rows<'_>,
+    output: &mut Output,
+) -> Result<(), Failure> {
     let names = member_names(printer.alloc, rows.columns())?;
     write_named(
         printer.alloc,
@@ -181,7 +185,11 @@ fn write_repeated(printer: &Printer<'_>, rows: Rows<'_>, output: &mut Output) ->
     Ok(())
 }
 
-fn write_objects(printer: &Printer<'_>, rows: Rows<'_>, output: &mut Output) -> Result<(), Failure> {
+fn write_objects(
+    printer: &Printer<'_>,
+    rows: Rows<'_>,
+    output: &mut Output,
+) -> Result<(), Failure> {
     let mut json = JsonRow::new(printer.alloc);
     let mut before: &[u8] = b"\n";
     for row in rows {

@@ -22,9 +22,13 @@ pub fn read_wide_select(alloc: Global, text: &str) -> Result<Select, Failure> {
 /// Returns the text of a query with a star in place of its list of columns, which reaches up to the first `FROM`.
 fn wide_text(alloc: Global, pieces: &[Piece<'_>]) -> Result<String, AllocError> {
     let mut text = String::from_str(alloc, "SELECT *")?;
-    for piece in pieces.iter().skip_while(|piece| piece.kind != Kind::From) {
-        text.push(' ')?;
-        text.push_str(piece.text)?;
+    let mut is_behind = false;
+    for piece in pieces {
+        is_behind |= piece.kind == Kind::From;
+        if is_behind {
+            text.push(' ')?;
+            text.push_str(piece.text)?;
+        }
     }
     Ok(text)
 }

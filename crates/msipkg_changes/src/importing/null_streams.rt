@@ -31,11 +31,7 @@ fn remove_all(package: &mut Package<Opened>, names: &[String]) -> Result<(), Err
     Ok(())
 }
 
-fn null_names(
-    alloc: Global,
-    columns: &[Column],
-    table: &GivenTable,
-) -> Result<Vec<String>, Error> {
+fn null_names(alloc: Global, columns: &[Column], table: &GivenTable) -> Result<Vec<String>, Error> {
     let mut names = Vec::new(alloc);
     if !columns.iter().any(|column| has_null_streams(column)) {
         return Ok(names);
@@ -51,12 +47,23 @@ fn null_names(
 
 /// Returns whether a table gives null for the stream of a row.
 fn is_null(columns: &[Column], table: &GivenTable, row: &[Value]) -> bool {
-    let mut given = columns
-        .iter()
-        .filter(|column| has_null_streams(column))
-        .filter_map(|column| row.get(table.place_of(column.name())?));
-    let first = given.next();
-    first.is_some_and(is_null_value) && given.all(is_null_value)
+    let mut is_given = false;
+    for column in columns {
+        match given_stream(column, table, row) {
+            Some(value) if is_null_value(value) => is_given = true,
+            Some(_) => return false,
+            None => {}
+        }
+    }
+    is_given
+}
+
+/// Returns the value that a table gives in a row for a column of streams that takes null.
+fn given_stream<'a>(column: &Column, table: &GivenTable, row: &'a [Value]) -> Option<&'a Value> {
+    if !has_null_streams(column) {
+        return None;
+    }
+    row.get(table.place_of(column.name())?)
 }
 
 /// Returns whether a value is null or the empty text, which means null.
