@@ -8,7 +8,7 @@ use crate::recounting::{mend_first, noted};
 use crate::statements::{carry_out_statements, check_statements};
 use crate::storing::store;
 use crate::streams::{add_streams, remove_parts};
-use crate::validation::{Before, check_unlisted};
+use crate::validation::Before;
 use msipkg_packages::msi::Package;
 use msipkg_packages::output::{Failure, Opened, Output, System};
 use msipkg_packages::{Claim, FileState, PackageFile, open_to_change};
@@ -89,10 +89,9 @@ fn changed_package(
     notes: &mut Output,
 ) -> Result<(Package<Opened>, FileState), Failure> {
     let (mut package, state) = open_to_change(rt, file, notes)?;
-    let before = Before::of(&package);
+    let before = Before::of(rt, file.path, &package)?;
     apply(rt, file.path, &mut package, change, manner, outcome, notes)?;
-    if let Some(added) = before.added(&package) {
-        check_unlisted(rt, file, notes)?;
+    if let Some(added) = before.added(rt.alloc(), &package)? {
         outcome.add_validation(added);
     }
     recode(&mut package, file.purpose, manner, outcome)?;

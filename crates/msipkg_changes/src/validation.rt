@@ -4,7 +4,7 @@
 use crate::streams::fill_stream;
 use msipkg_packages::msi::{Column, Error, Insert, Package, Row, Table, Value};
 use msipkg_packages::output::{Failure, Opened, Output, System};
-use msipkg_packages::{PackageFile, is_list, new_package, rows_of, unlisted_table};
+use msipkg_packages::{is_list, new_package, rows_of, unlisted_table};
 use msipkg_texts::Shown;
 use std::alloc::Global;
 use std::mem;
@@ -13,28 +13,61 @@ use std::mem;
 pub(crate) const VALIDATION: &str = "_Validation";
 
 /// What a package had before it was changed.
-#[derive(Clone, Copy)]
 pub(crate) struct Before {
     has_validation: bool,
     is_signed: bool,
+    /// A table that the package didn't list, if it lacked `_Validation`.
+    unlisted: Option<String>,
+}
+
+/// Written out, so that a function that owns one calls one drop, and its proof doesn't go through those of the parts.
+impl Drop for Before {
+    fn drop(self) {
+        let Before {
+            has_validation: _,
+            is_signed: _,
+            unlisted: _,
+        } = self;
+    }
 }
 
 impl Before {
-    pub(crate) fn of(package: &Package<Opened>) -> Before {
-        Before {
-            has_validation: package.has_table(VALIDATION),
+    /// Returns what the package of a file has. Fails as `unlisted_table` does.
+    pub(crate) fn of(
+        rt: &System,
+        file: &str,
+        package: &Package<Opened>,
+    ) -> Result<Before, Failure> {
+        let has_validation = package.has_table(VALIDATION);
+        let unlisted = if has_validation {
+            None
+        } else {
+            unlisted_table(rt, file, package)?
+        };
+        Ok(Before {
+            has_validation,
             is_signed: package.has_digital_signature(),
-        }
+            unlisted,
+        })
     }
 
-    /// Returns what adding `_Validation` did to the package, if it was added.
-    pub(crate) fn added(self, package: &Package<Opened>) -> Option<Added> {
+    /// Returns what adding `_Validation` did to the package, if it was added. Fails at a table that the package didn't
+    /// list: a package made anew doesn't have its rows.
+    pub(crate) fn added(
+        &self,
+        alloc: Global,
+        package: &Package<Opened>,
+    ) -> Result<Option<Added>, Failure> {
         if self.has_validation || !package.has_table(VALIDATION) {
-            return None;
+            return Ok(None);
         }
-        Some(Added {
+        if let Some(table) = &self.unlisted {
+            let failure = Failure::rule("_Tables doesn't list it, so its rows would be lost");
+            return Err(failure.at(alloc, "_Validation can't be added, table", table.as_str()));
+        }
+        Ok(Some(Added {
             lost_signature: self.is_signed,
-        })
+        }))
     }
 }
 
@@ -54,28 +87,6 @@ impl Added {
         );
         if self.lost_signature {
             writeln!(notes, "msipkg: {file}: its digital signature is removed");
-        }
-    }
-}
-
-/// Fails if a file has rows of a table that its package doesn't list: a package made anew doesn't have them.
-///
-/// # Errors
-/// Fails at that table's name, and as `unlisted_table` does.
-pub(crate) fn check_unlisted(
-    rt: &System,
-    file: &PackageFile<'_>,
-    notes: &mut Output,
-) -> Result<(), Failure> {
-    match unlisted_table(rt, file, notes)? {
-        None => Ok(()),
-        Some(table) => {
-            let failure = Failure::rule("_Tables doesn't list it, so its rows would be lost");
-            Err(failure.at(
-                rt.alloc(),
-                "_Validation can't be added, table",
-                table.as_str(),
-            ))
         }
     }
 }

@@ -4,13 +4,13 @@ use crate::counts::check_counts;
 use crate::references::check_references;
 use crate::report::{Place, Report};
 use crate::streams::check_streams;
+use crate::unlisted::check_unlisted;
 use crate::validation::check_validation;
 use crate::values::check_values;
 use msipkg_packages::msi::Package;
 use msipkg_packages::output::{Failure, Opened, Output, System};
 use msipkg_packages::{Looked, PackageFile, open_to_look};
 use msipkg_texts::Style;
-use std::alloc::Global;
 
 /// How findings are printed.
 #[derive(Clone, Copy)]
@@ -37,22 +37,22 @@ pub fn check_file(
     notes: &mut Output,
 ) -> Result<bool, Failure> {
     let mut looked = open_to_look(rt, file, notes)?;
-    print_check(rt.alloc(), options, file.path, &mut looked, output)
+    print_check(rt, options, file.path, &mut looked, output)
 }
 
 fn print_check(
-    alloc: Global,
+    rt: &System,
     options: CheckOptions,
     file: &str,
     looked: &mut Looked,
     output: &mut Output,
 ) -> Result<bool, Failure> {
-    let mut report = Report::new(alloc, options, file, output);
+    let mut report = Report::new(rt.alloc(), options, file, output);
     report.begin();
     if !looked.has_summary {
         report.add(Place::Summary, &"it can't be read");
     }
-    let found = find_errors(alloc, &mut looked.package, &mut report);
+    let found = find_errors(rt, file, &mut looked.package, &mut report);
     report.end(found.as_ref().err());
     match found {
         Ok(()) => Ok(report.is_well()),
@@ -63,10 +63,13 @@ fn print_check(
 
 /// Finds the errors in a package. The counts come last, since counting anew changes the package in memory.
 fn find_errors(
-    alloc: Global,
+    rt: &System,
+    file: &str,
     package: &mut Package<Opened>,
     report: &mut Report<'_>,
 ) -> Result<(), Failure> {
+    let alloc = rt.alloc();
+    check_unlisted(rt, file, package, report)?;
     check_values(alloc, package, report)?;
     check_references(alloc, package, report)?;
     check_validation(alloc, package, report)?;

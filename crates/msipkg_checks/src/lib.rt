@@ -10,6 +10,7 @@ mod references;
 mod report;
 mod shown;
 mod streams;
+mod unlisted;
 mod validation;
 mod values;
 

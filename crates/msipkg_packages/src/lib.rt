@@ -2,6 +2,7 @@
 //! as texts.
 #![tactic(auto)]
 
+mod directory;
 pub mod file_bytes;
 pub mod null_streams;
 pub mod opening;
