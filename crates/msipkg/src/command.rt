@@ -43,7 +43,9 @@ pub(crate) enum Task<'a, 'b> {
         target: Target<'a>,
     },
     /// It is exported as a line of JSON.
-    ExportLine,
+    ExportLine {
+        is_lossy: bool,
+    },
 }
 
 impl<'a, 'b> Command<'a, 'b> {
@@ -87,7 +89,7 @@ impl<'a, 'b> Task<'a, 'b> {
     pub(crate) fn failure_status(self) -> u8 {
         match self {
             Task::Check { .. } => 2,
-            Task::Show(_) | Task::Export { .. } | Task::ExportLine => 1,
+            Task::Show(_) | Task::Export { .. } | Task::ExportLine { .. } => 1,
         }
     }
 }
@@ -191,7 +193,8 @@ fn exec_of<'a, 'b>(asked: &Asked<'a, 'b>) -> Command<'a, 'b> {
 
 fn export_of<'a, 'b>(asked: &Asked<'a, 'b>) -> Task<'a, 'b> {
     if asked.has("each") {
-        return Task::ExportLine;
+        let is_lossy = asked.has("lossy");
+        return Task::ExportLine { is_lossy };
     }
     Task::Export {
         tables: asked.texts("TABLE"),
@@ -206,6 +209,7 @@ fn target_of<'a>(asked: &Asked<'a, '_>) -> Target<'a> {
         path: asked.option("output").filter(|path| *path != "-"),
         is_forced: asked.has("force"),
         style: asked.style,
+        is_lossy: asked.has("lossy"),
     }
 }
 

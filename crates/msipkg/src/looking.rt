@@ -23,7 +23,7 @@ pub(crate) fn look_at_each(
     let status = look_at_files(rt, asked, task, asked.texts("FILE"), output, errors)?;
     match task {
         // With --each the words behind the first are files, too.
-        Task::ExportLine => {
+        Task::ExportLine { .. } => {
             let others = asked.texts("TABLE");
             Ok(status.max(look_at_files(rt, asked, task, others, output, errors)?))
         }
@@ -100,9 +100,8 @@ fn look(
             check_file(rt, options, &file, output, errors)
         }
         Task::Export { tables, target } => export(rt, &file, tables, &target, output, errors),
-        Task::ExportLine => {
-            export_line(rt, asked.style, &file, output, errors)?;
-            Ok(true)
+        Task::ExportLine { is_lossy } => {
+            export_line(rt, asked.style, &file, is_lossy, output, errors)
         }
     }
 }
@@ -119,7 +118,7 @@ fn report_one(
     let is_json = match task {
         Task::Show(Look::Info { is_json }) => is_json,
         Task::Check { options, .. } => options.is_json,
-        Task::ExportLine => true,
+        Task::ExportLine { .. } => true,
         Task::Show(
             Look::Tables { .. }
             | Look::Schema { .. }

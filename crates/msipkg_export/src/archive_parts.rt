@@ -1,5 +1,6 @@
 //! The parts of text archives.
 
+use crate::losses::has_localizable_type;
 use msi_text_archive::ArchiveColumn;
 use msipkg_packages::msi::{Column, Error, IntoText, Items, Text, Value};
 use std::alloc::Global;
@@ -15,12 +16,13 @@ pub(crate) fn archive_columns(
     Ok(Items::from_vec(all))
 }
 
+/// Returns a column of an archive, which is localizable only if it has texts.
 fn archive_column(alloc: Global, column: &Column) -> Result<ArchiveColumn, Error> {
     let name = column.name().into_text(alloc)?;
     Ok(ArchiveColumn::new(
         name,
         column.coltype(),
-        column.is_localizable(),
+        column.is_localizable() && has_localizable_type(column),
         column.is_nullable(),
     ))
 }

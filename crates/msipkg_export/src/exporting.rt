@@ -3,6 +3,7 @@
 use crate::archives::export_archives;
 use crate::csv_tables::{export_csv, write_csv};
 use crate::json_packages::write_package;
+use crate::losses::{note_losses, note_unlisted};
 use crate::table_archives::print_archive;
 use msipkg_packages::msi::{Package, Table};
 use msipkg_packages::output::{Failure, Opened, Output, System, at_file};
@@ -55,11 +56,14 @@ pub struct Target<'a> {
     pub is_forced: bool,
     /// How texts are printed on the output.
     pub style: Style,
+    /// Whether it is well if something is lost that the format can't hold.
+    pub is_lossy: bool,
 }
 
 /// Writes tables of a file's package, or the whole package where none is named, to files or to the output. Where a
 /// whole package has streams that aren't found under their names, `notes` gets a line for each, since they aren't
-/// exported. Returns whether all of the package can be read: tables are written without a summary.
+/// exported, and so it does for what else is lost. Returns whether all of the package can be read, since tables are
+/// written without a summary, and nothing is lost that may not be.
 ///
 /// # Errors
 /// Fails as `open_to_look` does, and for a whole package as `open_package`; if a table isn't there or can't be read, if
@@ -75,12 +79,11 @@ pub fn export(
 ) -> Result<bool, Failure> {
     if names.is_empty() && !matches!(target.format, FileFormat::Csv) {
         let package = open_package(rt, file, notes)?;
-        export_package(rt, file.path, &package, names, target, output, notes)?;
-        return Ok(true);
+        return export_package(rt, file.path, &package, names, target, output, notes);
     }
     let looked = open_to_look(rt, file, notes)?;
-    export_package(rt, file.path, &looked.package, names, target, output, notes)?;
-    Ok(looked.has_summary)
+    let is_well = export_package(rt, file.path, &looked.package, names, target, output, notes)?;
+    Ok(is_well && looked.has_summary)
 }
 
 fn export_package(
@@ -91,15 +94,16 @@ fn export_package(
     target: &Target<'_>,
     output: &mut Output,
     notes: &mut Output,
-) -> Result<(), Failure> {
+) -> Result<bool, Failure> {
     match target.path {
         None => print_package(rt.alloc(), file, package, names, target, output)?,
         Some(path) => write_files(rt, file, package, names, target, path)?,
     }
     if names.is_empty() && !matches!(target.format, FileFormat::Csv) {
-        return note_hidden(file, package, notes);
+        note_hidden(file, package, notes)?;
     }
-    Ok(())
+    let is_lost = note_losses(rt, file, package, names, target.format, notes)?;
+    Ok(target.is_lossy || !is_lost)
 }
 
 fn print_package(
@@ -200,7 +204,8 @@ fn note_stream(file: &str, stream: &str, notes: &mut Output) {
 }
 
 /// Writes a file's package as a line of JSON, if its tables can all be read. If it has streams that aren't found under
-/// their names, `notes` gets a line for each, since they aren't exported.
+/// their names, `notes` gets a line for each, since they aren't exported, and so it does for a table that the package
+/// doesn't list. Returns whether there is no such table, or it may be lost.
 ///
 /// # Errors
 /// Fails as `open_package` does, and if a table can't be read, and then nothing is written.
@@ -208,12 +213,15 @@ pub fn export_line(
     rt: &System,
     style: Style,
     file: &PackageFile<'_>,
+    is_lossy: bool,
     output: &mut Output,
     notes: &mut Output,
-) -> Result<(), Failure> {
+) -> Result<bool, Failure> {
     let package = open_package(rt, file, notes)?;
     write_line(rt.alloc(), style, file.path, &package, output)?;
-    note_hidden(file.path, &package, notes)
+    note_hidden(file.path, &package, notes)?;
+    let is_lost = note_unlisted(rt, file.path, &package, notes)?;
+    Ok(is_lossy || !is_lost)
 }
 
 fn write_line(

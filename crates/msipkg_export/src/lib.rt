@@ -10,6 +10,7 @@ mod csv_tables;
 pub mod exporting;
 mod folders;
 mod json_packages;
+mod losses;
 mod other_archives;
 mod table_archives;
 

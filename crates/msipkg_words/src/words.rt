@@ -386,6 +386,11 @@ static EXCHANGE_COMMANDS: [Row; 4] = [
             FORCE,
             PAGE,
             ESCAPE,
+            Argument {
+                id: "lossy",
+                form: Form::Flag,
+                help: "Succeeds even if something is lost, which standard error names",
+            },
         ],
     },
     Row {
