@@ -4,16 +4,19 @@ use crate::asked::Asked;
 use msipkg_changes::{Change, Import, Manner, Merging};
 use msipkg_checks::CheckOptions;
 use msipkg_export::{FileFormat, Target};
-use msipkg_looks::{Form, Format, Look};
+use msipkg_looks::{Form, Format, Look, Query};
 use msipkg_output::RowFormat;
 use msipkg_packages::Folder;
-use msipkg_words::Verb;
+use msipkg_words::{QUERY_USAGE, Verb};
 
 /// A command.
 #[derive(Clone, Copy)]
 pub(crate) enum Command<'a, 'b> {
     /// It looks at the packages of files, one after the other.
-    Look(Task<'a, 'b>),
+    Look {
+        files: &'b [&'a str],
+        task: Task<'a, 'b>,
+    },
     Diff {
         other: &'a str,
         is_json: bool,
@@ -27,12 +30,15 @@ pub(crate) enum Command<'a, 'b> {
     /// It carries out the statements of a file.
     Script(&'a str),
     Batch,
+    /// Its arguments aren't complete: how it is called.
+    Incomplete(&'static str),
 }
 
 /// What is done with each package that a command looks at.
 #[derive(Clone, Copy)]
 pub(crate) enum Task<'a, 'b> {
     Show(Look<'a, 'b>),
+    Query(Query<'a>),
     Check {
         options: CheckOptions,
         /// How the package is mended first, if it is.
@@ -52,19 +58,19 @@ impl<'a, 'b> Command<'a, 'b> {
     pub(crate) fn of(asked: &Asked<'a, 'b>) -> Command<'a, 'b> {
         let is_json = asked.has("json");
         match asked.verb {
-            Verb::Info => Command::Look(Task::Show(Look::Info { is_json })),
-            Verb::Tables => Command::Look(Task::Show(Look::Tables { is_json })),
-            Verb::Schema => Command::Look(Task::Show(schema_of(asked))),
-            Verb::Query => Command::Look(Task::Show(query_of(asked))),
-            Verb::Streams => Command::Look(Task::Show(Look::Streams { is_json })),
-            Verb::Extract => Command::Look(Task::Show(extract_of(asked))),
+            Verb::Info => look(asked, Task::Show(Look::Info { is_json })),
+            Verb::Tables => look(asked, Task::Show(Look::Tables { is_json })),
+            Verb::Schema => look(asked, Task::Show(schema_of(asked))),
+            Verb::Query => query_of(asked),
+            Verb::Streams => look(asked, Task::Show(Look::Streams { is_json })),
+            Verb::Extract => look(asked, Task::Show(extract_of(asked))),
             Verb::Summary => summary_of(asked),
-            Verb::Check => Command::Look(check_of(asked)),
+            Verb::Check => look(asked, check_of(asked)),
             Verb::New => new_of(asked),
             Verb::Add => Command::Change(Change::Add(asked.texts("NAME=PATH"))),
             Verb::Remove => Command::Change(remove_of(asked)),
             Verb::Exec => exec_of(asked),
-            Verb::Export => Command::Look(export_of(asked)),
+            Verb::Export => look(asked, export_of(asked)),
             Verb::Import => Command::Change(import_of(asked)),
             Verb::Diff => Command::Diff {
                 other: asked.text("OTHER"),
@@ -78,8 +84,8 @@ impl<'a, 'b> Command<'a, 'b> {
     /// failed.
     pub(crate) fn failure_status(self) -> u8 {
         match self {
-            Command::Diff { .. } => 2,
-            Command::Look(task) => task.failure_status(),
+            Command::Diff { .. } | Command::Incomplete(_) => 2,
+            Command::Look { task, .. } => task.failure_status(),
             Command::New { .. } | Command::Change(_) | Command::Script(_) | Command::Batch => 1,
         }
     }
@@ -89,7 +95,7 @@ impl<'a, 'b> Task<'a, 'b> {
     pub(crate) fn failure_status(self) -> u8 {
         match self {
             Task::Check { .. } => 2,
-            Task::Show(_) | Task::Export { .. } | Task::ExportLine { .. } => 1,
+            Task::Show(_) | Task::Query(_) | Task::Export { .. } | Task::ExportLine { .. } => 1,
         }
     }
 }
@@ -101,6 +107,13 @@ pub(crate) fn manner_of(asked: &Asked<'_, '_>) -> Manner {
         is_verified: !asked.has("no-verify"),
         is_json: asked.has("json"),
         style: asked.style,
+    }
+}
+
+fn look<'a, 'b>(asked: &Asked<'a, 'b>, task: Task<'a, 'b>) -> Command<'a, 'b> {
+    Command::Look {
+        files: asked.texts("FILE"),
+        task,
     }
 }
 
@@ -117,10 +130,24 @@ fn schema_of<'a, 'b>(asked: &Asked<'a, 'b>) -> Look<'a, 'b> {
     }
 }
 
-fn query_of<'a, 'b>(asked: &Asked<'a, 'b>) -> Look<'a, 'b> {
-    Look::Query {
-        text: asked.text("TEXT"),
+/// The last word is the query, and those in front of it are files.
+fn query_of<'a, 'b>(asked: &Asked<'a, 'b>) -> Command<'a, 'b> {
+    let Some((text, files)) = asked.texts("FILE").split_last() else {
+        return Command::Incomplete(QUERY_USAGE);
+    };
+    if files.is_empty() {
+        return Command::Incomplete(QUERY_USAGE);
+    }
+    let query = Query {
+        text,
         format: format_of(asked),
+        style: asked.style,
+        has_files: files.len() > 1,
+        for_spreadsheets: asked.has("for-spreadsheets"),
+    };
+    Command::Look {
+        files,
+        task: Task::Query(query),
     }
 }
 
@@ -149,7 +176,7 @@ fn summary_of<'a, 'b>(asked: &Asked<'a, 'b>) -> Command<'a, 'b> {
     let (set, cleared) = (asked.texts("set"), asked.texts("clear"));
     if set.is_empty() && cleared.is_empty() {
         let is_json = asked.has("json");
-        return Command::Look(Task::Show(Look::Summary { is_json }));
+        return look(asked, Task::Show(Look::Summary { is_json }));
     }
     Command::Change(Change::Properties { set, cleared })
 }

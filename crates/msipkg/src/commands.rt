@@ -136,7 +136,7 @@ fn obey(
     errors: &mut Output,
 ) -> Result<u8, Failure> {
     match command {
-        Command::Look(task) => look_at_each(rt, asked, task, output, errors),
+        Command::Look { files, task } => look_at_each(rt, asked, files, task, output, errors),
         Command::Diff { other, is_json } => compare(rt, asked, other, is_json, output, errors),
         Command::New {
             kind,
@@ -149,7 +149,21 @@ fn obey(
         Command::Change(made) => change(rt, asked, made, output, errors),
         Command::Script(path) => execute_script(rt, asked, path, output, errors),
         Command::Batch => Err(Failure::rule("batch is no command of a batch")),
+        Command::Incomplete(usage) => {
+            write_usage(usage, errors);
+            Ok(command.failure_status())
+        }
     }
+}
+
+/// Says what clap says where an argument is missing.
+fn write_usage(usage: &str, errors: &mut Output) {
+    writeln!(
+        errors,
+        "error: the following required arguments were not provided:"
+    );
+    writeln!(errors, "  <TEXT>\n\nUsage: {usage}\n");
+    writeln!(errors, "For more information, try '--help'.");
 }
 
 /// Returns the system for a command that looks at these files. If `-` is one of them, standard input is read.

@@ -6,43 +6,49 @@ use crate::commands::{report, with_input};
 use msipkg_changes::mend_counts;
 use msipkg_checks::check_file;
 use msipkg_export::{export, export_line};
-use msipkg_looks::{Look, show};
+use msipkg_looks::{LastNames, Look, check_query, print_query, show};
 use msipkg_output::{Failure, Output, System, failure_json};
 use msipkg_packages::Purpose;
 use std::alloc::Global;
 
 /// Looks at each file, and returns the greatest of their exit statuses. As JSON each file has one line, with its error
-/// as `error`.
+/// as `error`. A query is refused before a file is opened.
 pub(crate) fn look_at_each(
     rt: &System,
     asked: &Asked<'_, '_>,
+    files: &[&str],
     task: Task<'_, '_>,
     output: &mut Output,
     errors: &mut Output,
 ) -> Result<u8, Failure> {
-    let status = look_at_files(rt, asked, task, asked.texts("FILE"), output, errors)?;
+    match task {
+        Task::Query(query) => check_query(rt.alloc(), query.text)?,
+        Task::Show(_) | Task::Check { .. } | Task::Export { .. } | Task::ExportLine { .. } => {}
+    }
+    let status = look_at_files(rt, asked, files, task, output, errors)?;
     match task {
         // With --each the words behind the first are files, too.
         Task::ExportLine { .. } => {
             let others = asked.texts("TABLE");
-            Ok(status.max(look_at_files(rt, asked, task, others, output, errors)?))
+            Ok(status.max(look_at_files(rt, asked, others, task, output, errors)?))
         }
-        Task::Show(_) | Task::Check { .. } | Task::Export { .. } => Ok(status),
+        Task::Show(_) | Task::Query(_) | Task::Check { .. } | Task::Export { .. } => Ok(status),
     }
 }
 
 fn look_at_files(
     rt: &System,
     asked: &Asked<'_, '_>,
-    task: Task<'_, '_>,
     files: &[&str],
+    task: Task<'_, '_>,
     output: &mut Output,
     errors: &mut Output,
 ) -> Result<u8, Failure> {
     let rt = with_input(rt, files)?;
+    let mut names = LastNames::new(rt.alloc());
     let mut status = 0u8;
     for file in files {
-        status = status.max(look_or_report(&rt, asked, task, file, output, errors));
+        status = status.max(look_or_report(&rt, asked, task, file, &mut names, output, errors));
         if output.has_failed() {
             break;
         }
@@ -56,11 +62,12 @@ fn look_or_report(
     asked: &Asked<'_, '_>,
     task: Task<'_, '_>,
     file: &str,
+    names: &mut LastNames,
     output: &mut Output,
     errors: &mut Output,
 ) -> u8 {
     write_head(asked, task, file, output);
-    match look(rt, asked, task, file, output, errors) {
+    match look(rt, asked, task, file, names, output, errors) {
         Ok(is_well) => u8::from(!is_well),
         Err(failure) => {
             if !output.has_failed() {
@@ -85,12 +92,14 @@ fn look(
     asked: &Asked<'_, '_>,
     task: Task<'_, '_>,
     path: &str,
+    names: &mut LastNames,
     output: &mut Output,
     errors: &mut Output,
 ) -> Result<bool, Failure> {
     let file = asked.package(path, Purpose::Look);
     match task {
         Task::Show(look) => show(rt, asked.style, &file, look, output, errors),
+        Task::Query(query) => print_query(rt, &file, query, names, output, errors),
         Task::Check { options, mending } => {
             if let Some(manner) = mending {
                 // Checking the package afterwards notes where its texts are still recoded.
@@ -122,11 +131,11 @@ fn report_one(
         Task::Show(
             Look::Tables { .. }
             | Look::Schema { .. }
-            | Look::Query { .. }
             | Look::Streams { .. }
             | Look::Extract { .. }
             | Look::Summary { .. },
         )
+        | Task::Query(_)
         | Task::Export { .. } => false,
     };
     if is_json {

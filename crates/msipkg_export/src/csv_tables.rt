@@ -4,7 +4,7 @@ use crate::exporting::BARE;
 use crate::folders::make_folder;
 use msipkg_packages::msi::{Package, Rows, Table};
 use msipkg_packages::output::{
-    Failure, NullCells, Opened, Output, RowFormat, System, at_file, write_rows,
+    Failure, NullCells, Opened, Output, RowFormat, RowPrinting, System, at_file, write_rows,
 };
 use msipkg_packages::{Folder, chosen_tables, null_cells_of, open_new, rows_of};
 use msipkg_texts::{Ending, SafeName, SafeNames, Style};
@@ -82,7 +82,13 @@ fn write_synced(
     nulls: &NullCells,
     output: &mut Output,
 ) -> Result<(), Failure> {
-    write_rows(alloc, BARE, RowFormat::Csv, rows, nulls, output)?;
+    write_rows(
+        alloc,
+        RowPrinting::of(BARE, RowFormat::Csv),
+        rows,
+        nulls,
+        output,
+    )?;
     Ok(output.end_synced()?)
 }
 
@@ -95,5 +101,11 @@ pub(crate) fn write_csv(
 ) -> Result<(), Failure> {
     let rows = rows_of(alloc, package, table.name())?;
     let nulls = null_cells_of(alloc, package, table)?;
-    write_rows(alloc, style, RowFormat::Csv, rows, &nulls, output)
+    write_rows(
+        alloc,
+        RowPrinting::of(style, RowFormat::Csv),
+        rows,
+        &nulls,
+        output,
+    )
 }

@@ -18,5 +18,5 @@ mod summary;
 mod tables;
 
 pub use look::{Look, show};
-pub use query::Format;
+pub use query::{Format, LastNames, Query, check_query, print_query};
 pub use schema::Form;

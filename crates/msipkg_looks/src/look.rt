@@ -2,16 +2,13 @@
 
 use crate::extract::{extract_streams, print_stream};
 use crate::info::print_info;
-use crate::query::{Format, check_query, print_query};
 use crate::schema::{Form, print_schema};
 use crate::streams::print_streams;
 use crate::summary::print_summary;
 use crate::tables::print_tables;
-use msipkg_packages::msi::Package;
-use msipkg_packages::output::{Failure, Opened, Output, System};
+use msipkg_packages::output::{Failure, Output, System};
 use msipkg_packages::{Folder, Looked, PackageFile, open_package, open_to_look};
 use msipkg_texts::Style;
-use std::alloc::Global;
 
 /// What is looked at in a package.
 #[derive(Clone, Copy)]
@@ -29,11 +26,6 @@ pub enum Look<'a, 'b> {
         names: &'b [&'a str],
         form: Form,
     },
-    /// The rows that a query selects.
-    Query {
-        text: &'a str,
-        format: Format,
-    },
     /// Its streams.
     Streams {
         is_json: bool,
@@ -50,13 +42,12 @@ pub enum Look<'a, 'b> {
 }
 
 /// Prints what is looked at in the package of a file, or writes it to files, and returns whether all of it can be read.
-/// A query is refused before the file is opened. What can't be read, and what isn't as it is asked for, as texts that
-/// are recoded or a file with another name than its stream, has a line in `notes`.
+/// What can't be read, and what isn't as it is asked for, as texts that are recoded or a file with another name than its
+/// stream, has a line in `notes`.
 ///
 /// # Errors
-/// Fails as `open_to_look` does, and for the summary as `open_package`; if a text spells no query for rows, and as
-/// selecting does; if a table or a stream that is named isn't there; if a file is there already and isn't to be
-/// replaced; and as the calls of the system do.
+/// Fails as `open_to_look` does, and for the summary as `open_package`; if a table or a stream that is named isn't
+/// there; if a file is there already and isn't to be replaced; and as the calls of the system do.
 pub fn show(
     rt: &System,
     style: Style,
@@ -65,34 +56,28 @@ pub fn show(
     output: &mut Output,
     notes: &mut Output,
 ) -> Result<bool, Failure> {
-    check_words(rt.alloc(), look)?;
-    if let Look::Summary { is_json } = look {
-        return show_summary(rt, style, file, is_json, output, notes);
-    }
-    let mut looked = open_to_look(rt, file, notes)?;
+    let mut looked = open_for(rt, file, look, notes)?;
     let is_read = print_or_write(rt, style, file.path, &mut looked, look, output, notes)?;
     Ok(is_read && looked.has_summary)
 }
 
-fn show_summary(
+/// Without a summary that can be read there is nothing to print of it.
+fn open_for(
     rt: &System,
-    style: Style,
     file: &PackageFile<'_>,
-    is_json: bool,
-    output: &mut Output,
+    look: Look<'_, '_>,
     notes: &mut Output,
-) -> Result<bool, Failure> {
-    let package = open_package(rt, file, notes)?;
-    let summary = package.summary_info();
-    print_summary(rt.alloc(), style, file.path, summary, is_json, output);
-    Ok(true)
-}
-
-/// Fails if the look asks for a query that is none.
-fn check_words(alloc: Global, look: Look<'_, '_>) -> Result<(), Failure> {
+) -> Result<Looked, Failure> {
     match look {
-        Look::Query { text, format: _ } => check_query(alloc, text),
-        _ => Ok(()),
+        Look::Summary { .. } => Ok(Looked {
+            package: open_package(rt, file, notes)?,
+            has_summary: true,
+        }),
+        Look::Info { .. }
+        | Look::Tables { .. }
+        | Look::Schema { .. }
+        | Look::Streams { .. }
+        | Look::Extract { .. } => open_to_look(rt, file, notes),
     }
 }
 
@@ -123,26 +108,15 @@ fn print_or_write(
             extract_streams(rt, file, &looked.package, names, folder, notes)?;
             Ok(true)
         }
-        _ => {
-            print_parts(rt.alloc(), style, file, &looked.package, look, output)?;
+        Look::Schema { names, form } => {
+            let (alloc, package) = (rt.alloc(), &looked.package);
+            print_schema(alloc, style, file, package, names, form, output)?;
             Ok(true)
         }
-    }
-}
-
-fn print_parts(
-    alloc: Global,
-    style: Style,
-    file: &str,
-    package: &Package<Opened>,
-    look: Look<'_, '_>,
-    output: &mut Output,
-) -> Result<(), Failure> {
-    match look {
-        Look::Schema { names, form } => {
-            print_schema(alloc, style, file, package, names, form, output)
+        Look::Summary { is_json } => {
+            let summary = looked.package.summary_info();
+            print_summary(rt.alloc(), style, file, summary, is_json, output);
+            Ok(true)
         }
-        Look::Query { text, format } => print_query(alloc, style, package, text, format, output),
-        _ => Ok(()),
     }
 }

@@ -22,6 +22,6 @@ pub use msipkg_system::{Carrier, Identity, Opened, Origin, Output, System, Syste
 pub use nulls::NullCells;
 pub use pages::Pages;
 pub use properties::PROPERTIES;
-pub use rows::{RowFormat, write_rows};
+pub use rows::{RowFormat, RowPrinting, write_rows};
 pub use texts::{TimeText, push_key, stream_name, stream_name_by};
 pub use values::{value_width, write_value};

@@ -3,7 +3,7 @@
 use crate::failure::Failure;
 use crate::json_rows::JsonRow;
 use crate::nulls::NullCells;
-use crate::repeated::{has_repeated, member_names, write_named};
+use crate::repeated::{FILE, Members, has_repeated, member_names, write_named};
 use crate::values::{STREAM, write_value};
 use csv::Writer;
 use msi_table::{Column, Row, Rows, Value};
@@ -25,12 +25,42 @@ pub enum RowFormat {
     Lines,
 }
 
+/// How rows are printed.
+#[derive(Clone, Copy)]
+pub struct RowPrinting<'a> {
+    pub style: Style,
+    pub format: RowFormat,
+    /// The path of the file that the rows are of, if it is printed in front of each.
+    pub file: Option<&'a str>,
+    /// Whether CSV begins with the names of the columns.
+    pub has_names: bool,
+    /// Whether texts in CSV that a spreadsheet would run as formulas have an apostrophe in front.
+    pub for_spreadsheets: bool,
+}
+
+impl<'a> RowPrinting<'a> {
+    /// Returns how the rows of one file are printed.
+    pub fn of(style: Style, format: RowFormat) -> RowPrinting<'a> {
+        RowPrinting {
+            style,
+            format,
+            file: None,
+            has_names: true,
+            for_spreadsheets: false,
+        }
+    }
+
+    /// Returns whether a row in CSV has its own values as they are, and nothing else.
+    fn is_bare(self) -> bool {
+        self.file.is_none() && !self.for_spreadsheets && !self.style.escapes_hidden()
+    }
+}
+
 /// How values are printed.
 #[derive(Clone, Copy)]
 struct Printer<'a> {
     alloc: Global,
-    style: Style,
-    format: RowFormat,
+    printing: RowPrinting<'a>,
     nulls: &'a NullCells,
 }
 
@@ -42,19 +72,17 @@ struct Printer<'a> {
 /// Fails for CSV and JSON as reading a row does, and if memory is refused.
 pub fn write_rows(
     alloc: Global,
-    style: Style,
-    format: RowFormat,
+    printing: RowPrinting<'_>,
     rows: Rows<'_>,
     nulls: &NullCells,
     output: &mut Output,
 ) -> Result<(), Failure> {
     let printer = Printer {
         alloc,
-        style,
-        format,
+        printing,
         nulls,
     };
-    match format {
+    match printing.format {
         RowFormat::Csv => write_csv(&printer, rows, output),
         RowFormat::Json => write_json(&printer, rows, output),
         RowFormat::Tabs | RowFormat::Lines => {
@@ -75,7 +103,9 @@ fn write_records(
     rows: Rows<'_>,
     writer: &mut Writer<&mut Output>,
 ) -> Result<(), Failure> {
-    write_names(printer, rows.columns(), writer)?;
+    if printer.printing.has_names {
+        write_names(printer, rows.columns(), writer)?;
+    }
     let mut number = 0usize;
     for row in rows {
         write_record(printer, &row?, number, writer)?;
@@ -89,6 +119,9 @@ fn write_names(
     columns: &[Column],
     writer: &mut Writer<&mut Output>,
 ) -> Result<(), Failure> {
+    if printer.printing.file.is_some() {
+        write_field(printer, FILE, writer)?;
+    }
     for column in columns {
         write_field(printer, column.name(), writer)?;
     }
@@ -101,10 +134,10 @@ fn write_record(
     number: usize,
     writer: &mut Writer<&mut Output>,
 ) -> Result<(), Failure> {
-    if printer.style.escapes_hidden() || !printer.nulls.is_empty() {
-        write_shown(printer, row, number, writer)
-    } else {
+    if printer.printing.is_bare() && printer.nulls.is_empty() {
         done(printer, write_csv_row(writer, row))
+    } else {
+        write_shown(printer, row, number, writer)
     }
 }
 
@@ -114,6 +147,9 @@ fn write_shown(
     number: usize,
     writer: &mut Writer<&mut Output>,
 ) -> Result<(), Failure> {
+    if let Some(file) = printer.printing.file {
+        write_field(printer, file, writer)?;
+    }
     for i in 0..row.len() {
         if printer.nulls.has(number, i) {
             write_field(printer, "", writer)?;
@@ -135,9 +171,22 @@ fn write_value_field(
             let text = number.to_string(printer.alloc)?;
             write_field(printer, text.as_str(), writer)
         }
-        Value::Str(text) => write_field(printer, text.as_str(), writer),
+        Value::Str(text) => write_text_field(printer, text.as_str(), writer),
         Value::Binary => write_field(printer, STREAM, writer),
     }
+}
+
+/// A spreadsheet takes a text for a formula by its first character.
+fn write_text_field(
+    printer: &Printer<'_>,
+    text: &str,
+    writer: &mut Writer<&mut Output>,
+) -> Result<(), Failure> {
+    if printer.printing.for_spreadsheets && text.starts_with(&['=', '+', '-', '@', '\t', '\r']) {
+        let marked = format!(in printer.alloc; "'{text}")?;
+        return write_field(printer, marked.as_str(), writer);
+    }
+    write_field(printer, text, writer)
 }
 
 fn write_field(
@@ -145,7 +194,7 @@ fn write_field(
     text: &str,
     writer: &mut Writer<&mut Output>,
 ) -> Result<(), Failure> {
-    let text = printer.style.show(text).to_string(printer.alloc)?;
+    let text = printer.printing.style.show(text).to_string(printer.alloc)?;
     done(printer, writer.write_field(text.as_bytes()))
 }
 
@@ -158,7 +207,8 @@ fn done(printer: &Printer<'_>, returned: Result<(), csv::Error>) -> Result<(), F
 
 fn write_json(printer: &Printer<'_>, rows: Rows<'_>, output: &mut Output) -> Result<(), Failure> {
     output.push_str("[");
-    if has_repeated(rows.columns()) || !printer.nulls.is_empty() {
+    let has_file = printer.printing.file.is_some();
+    if has_file || has_repeated(rows.columns()) || !printer.nulls.is_empty() {
         write_repeated(printer, rows, output)?;
     } else {
         write_objects(printer, rows, output)?;
@@ -167,17 +217,21 @@ fn write_json(printer: &Printer<'_>, rows: Rows<'_>, output: &mut Output) -> Res
     Ok(())
 }
 
-/// Writes rows as objects, where several columns have the same name, or cells of streams are null.
+/// Writes rows as objects, where several columns have the same name, cells of streams are null, or each has its file.
 fn write_repeated(
     printer: &Printer<'_>,
     rows: Rows<'_>,
     output: &mut Output,
 ) -> Result<(), Failure> {
-    let names = member_names(printer.alloc, rows.columns())?;
+    let has_file = printer.printing.file.is_some();
+    let names = Members {
+        file: printer.printing.file,
+        names: member_names(printer.alloc, has_file, rows.columns())?,
+    };
     write_named(
         printer.alloc,
-        printer.style,
-        names.as_slice(),
+        printer.printing.style,
+        &names,
         rows,
         printer.nulls,
         output,
@@ -196,7 +250,7 @@ fn write_objects(
         json = json.object(&row?)?;
         output.push_bytes(before);
         before = b",\n";
-        json.print(printer.style, output);
+        json.print(printer.printing.style, output);
     }
     Ok(())
 }
@@ -210,18 +264,32 @@ fn write_each(printer: &Printer<'_>, mut rows: Rows<'_>, output: &mut Output) {
 
 /// Writes the next row, with its values on lines, behind an empty line unless it is the first, or separated by tabs.
 fn write_row(printer: &Printer<'_>, number: usize, rows: &Rows<'_>, output: &mut Output) {
-    let has_lines = matches!(printer.format, RowFormat::Lines);
+    let has_lines = matches!(printer.printing.format, RowFormat::Lines);
     let between = if has_lines { "\n" } else { "\t" };
-    let mut before = if has_lines && number > 0 { "\n" } else { "" };
+    if has_lines && number > 0 {
+        output.push_str("\n");
+    }
+    write_file(printer, has_lines, between, output);
     for (place, column) in rows.columns().iter().enumerate() {
-        output.push_str(before);
-        before = between;
+        if place > 0 {
+            output.push_str(between);
+        }
         if has_lines {
-            printer.style.print(column.name(), output);
+            printer.printing.style.print(column.name(), output);
             output.push_str(" = ");
         }
         let value = printer.nulls.value_in(rows, number, place);
-        write_value(printer.style, value, output);
+        write_value(printer.printing.style, value, output);
     }
     output.push_str("\n");
+}
+
+fn write_file(printer: &Printer<'_>, has_lines: bool, between: &str, output: &mut Output) {
+    if let Some(file) = printer.printing.file {
+        if has_lines {
+            output.push_str("file = ");
+        }
+        printer.printing.style.print(file, output);
+        output.push_str(between);
+    }
 }

@@ -124,6 +124,15 @@ const NO_VERIFY: Argument = Argument {
     help: "Replaces the file without opening its new bytes first",
 };
 
+const FOR_SPREADSHEETS: Argument = Argument {
+    id: "for-spreadsheets",
+    form: Form::Flag,
+    help: "Puts an apostrophe in front of texts in CSV that a spreadsheet would run as formulas",
+};
+
+/// How `query` is called: its files and its text are one argument, so that options may be anywhere between them.
+pub const QUERY_USAGE: &str = "msipkg query [OPTIONS] <FILE>... <TEXT>";
+
 const FORCE: Argument = Argument {
     id: "force",
     form: Form::Flag,
@@ -168,13 +177,12 @@ static TABLE_COMMANDS: [Row; 4] = [
     Row {
         verb: Verb::Query,
         name: "query",
-        about: "Prints the rows that a query selects",
+        about: "Prints the rows that a query, the last word, selects",
         arguments: &[
-            FILE,
             Argument {
-                id: "TEXT",
-                form: Form::Word,
-                help: "The query, as SELECT Value FROM Property WHERE Property = 'ProductName'",
+                id: "FILE",
+                form: Form::Words,
+                help: "The packages, and then the query, as SELECT Value FROM Property WHERE Property = 'ProductName'",
             },
             Argument {
                 id: "format",
@@ -186,6 +194,7 @@ static TABLE_COMMANDS: [Row; 4] = [
                 form: Form::Instead(&["escape"]),
                 help: "Prints tabs and line feeds in values as they are, but for a terminal",
             },
+            FOR_SPREADSHEETS,
             PAGE,
             ESCAPE,
         ],
@@ -514,6 +523,9 @@ fn program<'a>(alloc: Global) -> Result<Command<'a>, AllocError> {
 
 fn command_of<'a>(alloc: Global, row: &Row) -> Result<Command<'a>, AllocError> {
     let mut command = Command::new(alloc, row.name).about(row.about);
+    if matches!(row.verb, Verb::Query) {
+        command = command.override_usage(QUERY_USAGE);
+    }
     for argument in row.arguments {
         command = command.arg(arg_of(alloc, argument)?)?;
     }
