@@ -42,8 +42,8 @@ pub enum Look<'a, 'b> {
 }
 
 /// Prints what is looked at in the package of a file, or writes it to files, and returns whether all of it can be read.
-/// What can't be read, and what isn't as it is asked for, as texts that are recoded or a file with another name than its
-/// stream, has a line in `notes`.
+/// What can't be read, and what isn't as it is asked for, as texts that are recoded or a file with another name than
+/// its stream, has a line in `notes`.
 ///
 /// # Errors
 /// Fails as `open_to_look` does, and for the summary as `open_package`; if a table or a stream that is named isn't

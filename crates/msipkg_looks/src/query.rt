@@ -99,8 +99,8 @@ pub fn check_query(alloc: Global, text: &str) -> Result<(), Failure> {
     }
 }
 
-/// Prints the rows that a query selects in the package of a file, and returns whether all of the package can be read. Of
-/// several files in CSV the names of columns are printed once, and again where they differ.
+/// Prints the rows that a query selects in the package of a file, and returns whether all of the package can be read.
+/// Of several files in CSV the names of columns are printed once, and again where they differ.
 ///
 /// # Errors
 /// Fails as `open_to_look` does and as selecting does.

@@ -38,8 +38,8 @@ fn is_among(columns: &[Column], name: &str) -> bool {
     columns.iter().any(|column| column.name() == name)
 }
 
-/// Returns the names of columns as members of an object, which all differ: a repeated one, and that of a file where there
-/// is one, has a number behind it, as `Name_2`.
+/// Returns the names of columns as members of an object, which all differ: a repeated one, and that of a file where
+/// there is one, has a number behind it, as `Name_2`.
 pub(crate) fn member_names(
     alloc: Global,
     has_file: bool,

@@ -1,5 +1,5 @@
-//! The streams that a compound file's directory lists. Of a file only the sectors are read that lead there, since it may
-//! be large, and its package is open already.
+//! The streams that a compound file's directory lists. Of a file only the sectors are read that lead there, since it
+//! may be large, and its package is open already.
 
 use msi::Error;
 use msi::compound::Name;
@@ -134,8 +134,8 @@ impl Sectors {
         Ok(bytes)
     }
 
-    /// Reads the list of the sectors with the table: in the header, and as far as the table's length needs it in sectors
-    /// that each end with the number of the next one.
+    /// Reads the list of the sectors with the table: in the header, and as far as the table's length needs it in
+    /// sectors that each end with the number of the next one.
     fn read_table(&mut self, header: &[u8]) -> io::Result<()> {
         let many = usize::try_from(number_at(header, TABLE_LENGTH)).unwrap_or(usize::MAX);
         add_numbers(header.get(LIST..).unwrap_or(&[]), &mut self.table)?;
