@@ -2,7 +2,6 @@
 //! as texts.
 #![tactic(auto)]
 
-mod directory;
 pub mod file_bytes;
 pub mod null_streams;
 pub mod opening;
