@@ -3,13 +3,13 @@
 
 use crate::importing::rows::{columns_of, package_row};
 use msipkg_packages::has_null_streams;
-use msipkg_packages::msi::{Column, Error, Package, Value, ValueView};
+use msipkg_packages::msi::{Column, ColumnType, Error, Package, Value, ValueView};
 use msipkg_packages::output::{Failure, Opened, push_key};
 use msipkg_reading::GivenTable;
 use std::alloc::{AllocError, Global};
 
 /// Removes the streams of rows for which tables give null. A row for which a table gives a stream in another column
-/// keeps its stream, and so does one of a table without such columns.
+/// keeps its stream, and so do all rows of a table with a column of streams that doesn't take null.
 pub(crate) fn remove_null_streams(
     alloc: Global,
     package: &mut Package<Opened>,
@@ -33,7 +33,7 @@ fn remove_all(package: &mut Package<Opened>, names: &[String]) -> Result<(), Err
 
 fn null_names(alloc: Global, columns: &[Column], table: &GivenTable) -> Result<Vec<String>, Error> {
     let mut names = Vec::new(alloc);
-    if !columns.iter().any(|column| has_null_streams(column)) {
+    if !may_lack_streams(columns) {
         return Ok(names);
     }
     for row in &table.rows {
@@ -43,6 +43,17 @@ fn null_names(alloc: Global, columns: &[Column], table: &GivenTable) -> Result<V
         }
     }
     Ok(names)
+}
+
+/// Returns whether there are columns of streams, all of which take null.
+fn may_lack_streams(columns: &[Column]) -> bool {
+    let mut streams = columns
+        .iter()
+        .filter(|column| matches!(column.coltype(), ColumnType::Binary));
+    match streams.next() {
+        Some(first) => has_null_streams(first) && streams.all(|column| has_null_streams(column)),
+        None => false,
+    }
 }
 
 /// Returns whether a table gives null for the stream of a row.
