@@ -89,9 +89,9 @@ fn changed_package(
     notes: &mut Output,
 ) -> Result<(Package<Opened>, FileState), Failure> {
     let (mut package, state) = open_to_change(rt, file, notes)?;
-    let before = Before::of(rt, file.path, &package)?;
+    let before = Before::of(rt.alloc(), &package)?;
     apply(rt, file.path, &mut package, change, manner, outcome, notes)?;
-    if let Some(added) = before.added(rt.alloc(), &package)? {
+    if let Some(added) = before.added(rt, file.path, &package)? {
         outcome.add_validation(added);
     }
     recode(&mut package, file.purpose, manner, outcome)?;

@@ -4,9 +4,9 @@
 use crate::streams::fill_stream;
 use msipkg_packages::msi::{Column, Error, Insert, Package, Row, Table, Value};
 use msipkg_packages::output::{Failure, Opened, Output, System};
-use msipkg_packages::{is_list, new_package, rows_of, unlisted_table};
+use msipkg_packages::{TableNames, is_list, new_package, rows_of};
 use msipkg_texts::Shown;
-use std::alloc::Global;
+use std::alloc::{AllocError, Global};
 use std::mem;
 
 /// The table that describes columns further.
@@ -14,56 +14,52 @@ pub(crate) const VALIDATION: &str = "_Validation";
 
 /// What a package had before it was changed.
 pub(crate) struct Before {
-    has_validation: bool,
     is_signed: bool,
-    /// A table that the package didn't list, if it lacked `_Validation`.
-    unlisted: Option<String>,
+    /// The tables that it listed, if `_Validation` wasn't among them.
+    listed: Option<TableNames>,
 }
 
 /// Written out, so that a function that owns one calls one drop, and its proof doesn't go through those of the parts.
 impl Drop for Before {
     fn drop(self) {
         let Before {
-            has_validation: _,
             is_signed: _,
-            unlisted: _,
+            listed: _,
         } = self;
     }
 }
 
 impl Before {
-    /// Returns what the package of a file has. Fails as `unlisted_table` does.
-    pub(crate) fn of(
-        rt: &System,
-        file: &str,
-        package: &Package<Opened>,
-    ) -> Result<Before, Failure> {
-        let has_validation = package.has_table(VALIDATION);
-        let unlisted = if has_validation {
+    pub(crate) fn of(alloc: Global, package: &Package<Opened>) -> Result<Before, AllocError> {
+        let listed = if package.has_table(VALIDATION) {
             None
         } else {
-            unlisted_table(rt, file, package)?
+            Some(TableNames::listed(alloc, package)?)
         };
         Ok(Before {
-            has_validation,
             is_signed: package.has_digital_signature(),
-            unlisted,
+            listed,
         })
     }
 
-    /// Returns what adding `_Validation` did to the package, if it was added. Fails at a table that the package didn't
-    /// list: a package made anew doesn't have its rows.
+    /// Returns what adding `_Validation` did to the package of a file, if it was added. Fails at a table of which the
+    /// file has rows and that the package didn't list: a package made anew doesn't have them.
     pub(crate) fn added(
         &self,
-        alloc: Global,
+        rt: &System,
+        file: &str,
         package: &Package<Opened>,
     ) -> Result<Option<Added>, Failure> {
-        if self.has_validation || !package.has_table(VALIDATION) {
+        let Some(listed) = &self.listed else {
+            return Ok(None);
+        };
+        if !package.has_table(VALIDATION) {
             return Ok(None);
         }
-        if let Some(table) = &self.unlisted {
+        let stored = TableNames::stored(rt, file)?;
+        if let Some(table) = stored.first_beside(listed) {
             let failure = Failure::rule("_Tables doesn't list it, so its rows would be lost");
-            return Err(failure.at(alloc, "_Validation can't be added, table", table.as_str()));
+            return Err(failure.at(rt.alloc(), "_Validation can't be added, table", table));
         }
         Ok(Some(Added {
             lost_signature: self.is_signed,

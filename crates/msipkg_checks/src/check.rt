@@ -9,8 +9,9 @@ use crate::validation::check_validation;
 use crate::values::check_values;
 use msipkg_packages::msi::Package;
 use msipkg_packages::output::{Failure, Opened, Output, System};
-use msipkg_packages::{Looked, PackageFile, open_to_look};
+use msipkg_packages::{Looked, PackageFile, TableNames, open_to_look};
 use msipkg_texts::Style;
+use std::alloc::Global;
 
 /// How findings are printed.
 #[derive(Clone, Copy)]
@@ -36,23 +37,25 @@ pub fn check_file(
     output: &mut Output,
     notes: &mut Output,
 ) -> Result<bool, Failure> {
+    let stored = TableNames::stored(rt, file.path)?;
     let mut looked = open_to_look(rt, file, notes)?;
-    print_check(rt, options, file.path, &mut looked, output)
+    print_check(rt.alloc(), options, file.path, &stored, &mut looked, output)
 }
 
 fn print_check(
-    rt: &System,
+    alloc: Global,
     options: CheckOptions,
     file: &str,
+    stored: &TableNames,
     looked: &mut Looked,
     output: &mut Output,
 ) -> Result<bool, Failure> {
-    let mut report = Report::new(rt.alloc(), options, file, output);
+    let mut report = Report::new(alloc, options, file, output);
     report.begin();
     if !looked.has_summary {
         report.add(Place::Summary, &"it can't be read");
     }
-    let found = find_errors(rt, file, &mut looked.package, &mut report);
+    let found = find_errors(alloc, stored, &mut looked.package, &mut report);
     report.end(found.as_ref().err());
     match found {
         Ok(()) => Ok(report.is_well()),
@@ -63,13 +66,12 @@ fn print_check(
 
 /// Finds the errors in a package. The counts come last, since counting anew changes the package in memory.
 fn find_errors(
-    rt: &System,
-    file: &str,
+    alloc: Global,
+    stored: &TableNames,
     package: &mut Package<Opened>,
     report: &mut Report<'_>,
 ) -> Result<(), Failure> {
-    let alloc = rt.alloc();
-    check_unlisted(rt, file, package, report)?;
+    check_unlisted(alloc, stored, package, report)?;
     check_values(alloc, package, report)?;
     check_references(alloc, package, report)?;
     check_validation(alloc, package, report)?;

@@ -1,20 +1,22 @@
 //! Tables whose rows a file has, although `_Tables` doesn't list them.
 
 use crate::report::{Place, Report};
+use msipkg_packages::TableNames;
 use msipkg_packages::msi::Package;
-use msipkg_packages::output::{Failure, Opened, System};
-use msipkg_packages::unlisted_table;
+use msipkg_packages::output::{Failure, Opened};
+use std::alloc::Global;
 
-/// Finds the first table that a package doesn't list.
+/// Finds the first of the tables that are stored and that the package doesn't list.
 pub(crate) fn check_unlisted(
-    rt: &System,
-    file: &str,
+    alloc: Global,
+    stored: &TableNames,
     package: &Package<Opened>,
     report: &mut Report<'_>,
 ) -> Result<(), Failure> {
-    if let Some(table) = unlisted_table(rt, file, package)? {
+    let listed = TableNames::listed(alloc, package)?;
+    if let Some(table) = stored.first_beside(&listed) {
         report.warn(
-            Place::Table(table.as_str()),
+            Place::Table(table),
             &"_Tables doesn't list it, so no query reads its rows",
         );
     }

@@ -8,7 +8,8 @@ use crate::table_archives::print_archive;
 use msipkg_packages::msi::{Package, Table};
 use msipkg_packages::output::{Failure, Opened, Output, System, at_file};
 use msipkg_packages::{
-    Folder, PackageFile, is_list, open_output, open_package, open_to_look, rows_of, table_named,
+    Folder, Looked, PackageFile, TableNames, is_list, open_output, open_package, open_to_look,
+    rows_of, table_named,
 };
 use msipkg_texts::{Escapes, Shown, Style};
 use std::alloc::Global;
@@ -77,16 +78,37 @@ pub fn export(
     output: &mut Output,
     notes: &mut Output,
 ) -> Result<bool, Failure> {
-    if names.is_empty() && !matches!(target.format, FileFormat::Csv) {
-        let package = open_package(rt, file, notes)?;
-        return export_package(rt, file.path, &package, names, target, output, notes);
+    if !names.is_empty() {
+        let looked = open_to_look(rt, file, notes)?;
+        let package = &looked.package;
+        let is_well = export_tables(rt, file.path, package, names, target, output, notes)?;
+        return Ok(is_well && looked.has_summary);
     }
-    let looked = open_to_look(rt, file, notes)?;
-    let is_well = export_package(rt, file.path, &looked.package, names, target, output, notes)?;
-    Ok(is_well && looked.has_summary)
+    let stored = TableNames::stored(rt, file.path)?;
+    let looked = open_whole(rt, file, target.format, notes)?;
+    let package = &looked.package;
+    let is_well = export_tables(rt, file.path, package, names, target, output, notes)?;
+    let is_lost = note_unlisted(rt.alloc(), file.path, &stored, package, notes)?;
+    Ok(is_well && looked.has_summary && (target.is_lossy || !is_lost))
 }
 
-fn export_package(
+/// CSV has no summary, so one that can't be read matters to the other formats alone.
+fn open_whole(
+    rt: &System,
+    file: &PackageFile<'_>,
+    format: FileFormat,
+    notes: &mut Output,
+) -> Result<Looked, Failure> {
+    match format {
+        FileFormat::Csv => open_to_look(rt, file, notes),
+        FileFormat::Json | FileFormat::Idt => Ok(Looked {
+            package: open_package(rt, file, notes)?,
+            has_summary: true,
+        }),
+    }
+}
+
+fn export_tables(
     rt: &System,
     file: &str,
     package: &Package<Opened>,
@@ -102,7 +124,7 @@ fn export_package(
     if names.is_empty() && !matches!(target.format, FileFormat::Csv) {
         note_hidden(file, package, notes)?;
     }
-    let is_lost = note_losses(rt, file, package, names, target.format, notes)?;
+    let is_lost = note_losses(rt.alloc(), file, package, names, target.format, notes)?;
     Ok(target.is_lossy || !is_lost)
 }
 
@@ -217,10 +239,11 @@ pub fn export_line(
     output: &mut Output,
     notes: &mut Output,
 ) -> Result<bool, Failure> {
+    let stored = TableNames::stored(rt, file.path)?;
     let package = open_package(rt, file, notes)?;
     write_line(rt.alloc(), style, file.path, &package, output)?;
     note_hidden(file.path, &package, notes)?;
-    let is_lost = note_unlisted(rt, file.path, &package, notes)?;
+    let is_lost = note_unlisted(rt.alloc(), file.path, &stored, &package, notes)?;
     Ok(is_lossy || !is_lost)
 }
 

@@ -2,37 +2,36 @@
 
 use crate::exporting::FileFormat;
 use msipkg_packages::msi::{Column, ColumnType, Package, Table};
-use msipkg_packages::output::{Failure, Opened, Output, System};
-use msipkg_packages::{chosen_tables, unlisted_table};
+use msipkg_packages::output::{Failure, Opened, Output};
+use msipkg_packages::{TableNames, chosen_tables};
 use msipkg_texts::Shown;
+use std::alloc::Global;
 
-/// Writes a line for each column of the exported tables of which a text archive doesn't say that it is localizable, and
-/// of a whole package one for a table that it doesn't list. Returns whether there is such a line.
+/// Writes a line for each column of the exported tables of which a text archive doesn't say that it is localizable.
+/// Returns whether there is such a line.
 pub(crate) fn note_losses(
-    rt: &System,
+    alloc: Global,
     file: &str,
     package: &Package<Opened>,
     names: &[&str],
     format: FileFormat,
     notes: &mut Output,
 ) -> Result<bool, Failure> {
-    let is_column_lost = match format {
-        FileFormat::Idt => note_tables(rt, file, package, names, notes)?,
-        FileFormat::Json | FileFormat::Csv => false,
-    };
-    let is_table_lost = names.is_empty() && note_unlisted(rt, file, package, notes)?;
-    Ok(is_column_lost || is_table_lost)
+    match format {
+        FileFormat::Idt => note_tables(alloc, file, package, names, notes),
+        FileFormat::Json | FileFormat::Csv => Ok(false),
+    }
 }
 
 fn note_tables(
-    rt: &System,
+    alloc: Global,
     file: &str,
     package: &Package<Opened>,
     names: &[&str],
     notes: &mut Output,
 ) -> Result<bool, Failure> {
     let mut is_lost = false;
-    for table in chosen_tables(rt.alloc(), package, names, false)? {
+    for table in chosen_tables(alloc, package, names, false)? {
         is_lost |= note_columns(file, table, notes);
     }
     Ok(is_lost)
@@ -63,17 +62,20 @@ pub(crate) fn has_localizable_type(column: &Column) -> bool {
     matches!(column.coltype(), ColumnType::Str(_))
 }
 
-/// Writes a line for a table whose rows a file has, and its package doesn't list. Returns whether there is one.
+/// Writes a line for the first of the tables that are stored and that the package doesn't list. Returns whether there
+/// is one.
 pub(crate) fn note_unlisted(
-    rt: &System,
+    alloc: Global,
     file: &str,
+    stored: &TableNames,
     package: &Package<Opened>,
     notes: &mut Output,
 ) -> Result<bool, Failure> {
-    let Some(table) = unlisted_table(rt, file, package)? else {
+    let listed = TableNames::listed(alloc, package)?;
+    let Some(table) = stored.first_beside(&listed) else {
         return Ok(false);
     };
-    let (file, table) = (Shown::escaped(file), Shown::escaped(table.as_str()));
+    let (file, table) = (Shown::escaped(file), Shown::escaped(table));
     writeln!(
         notes,
         "msipkg: {file}: table {table}: it isn't exported, since _Tables doesn't list it"

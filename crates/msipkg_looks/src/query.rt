@@ -52,8 +52,9 @@ pub struct Query<'a> {
     pub for_spreadsheets: bool,
 }
 
-/// The names of columns that were printed last, as CSV.
+/// The names of the columns of the rows that were printed last.
 pub struct LastNames {
+    /// Each with a line feed behind it; empty if no rows were printed.
     text: String,
 }
 
@@ -70,6 +71,10 @@ impl LastNames {
         LastNames {
             text: String::new(alloc),
         }
+    }
+
+    fn is_empty(&self) -> bool {
+        self.text.is_empty()
     }
 
     /// Takes the names of columns in the place of the last ones, and returns whether they differ.
@@ -133,6 +138,7 @@ fn write_selected(
         Format::Rows(format) => {
             let printing = RowPrinting {
                 file: if query.has_files { Some(file) } else { None },
+                is_first: names.is_empty(),
                 has_names: names.replace(alloc, rows.columns())?,
                 for_spreadsheets: query.for_spreadsheets,
                 ..RowPrinting::of(query.style, format)

@@ -32,6 +32,8 @@ pub struct RowPrinting<'a> {
     pub format: RowFormat,
     /// The path of the file that the rows are of, if it is printed in front of each.
     pub file: Option<&'a str>,
+    /// Whether no rows are printed in front of these.
+    pub is_first: bool,
     /// Whether CSV begins with the names of the columns.
     pub has_names: bool,
     /// Whether texts in CSV that a spreadsheet would run as formulas have an apostrophe in front.
@@ -45,6 +47,7 @@ impl<'a> RowPrinting<'a> {
             style,
             format,
             file: None,
+            is_first: true,
             has_names: true,
             for_spreadsheets: false,
         }
@@ -262,11 +265,11 @@ fn write_each(printer: &Printer<'_>, mut rows: Rows<'_>, output: &mut Output) {
     }
 }
 
-/// Writes the next row, with its values on lines, behind an empty line unless it is the first, or separated by tabs.
+/// Writes the next row, with its values on lines, behind an empty line unless it is the first of all, or separated by tabs.
 fn write_row(printer: &Printer<'_>, number: usize, rows: &Rows<'_>, output: &mut Output) {
     let has_lines = matches!(printer.printing.format, RowFormat::Lines);
     let between = if has_lines { "\n" } else { "\t" };
-    if has_lines && number > 0 {
+    if has_lines && (number > 0 || !printer.printing.is_first) {
         output.push_str("\n");
     }
     write_file(printer, has_lines, between, output);

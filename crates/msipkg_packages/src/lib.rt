@@ -27,4 +27,4 @@ pub use partial::{Looked, open_to_look};
 pub use stored::{StoredStreams, stored_streams, stream_bytes};
 pub use summary_texts::{property_text, uuid_text};
 pub use tables::{cell_text, chosen_tables, is_list, rows_of, table_named};
-pub use unlisted::unlisted_table;
+pub use unlisted::TableNames;

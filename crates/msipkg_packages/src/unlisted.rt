@@ -1,60 +1,91 @@
 //! Tables whose rows a file has in a stream, although `_Tables` doesn't list them.
 
 use msi::compound::{self, Sizes};
-use msi::{Package, streamname};
+use msi::{Error, ErrorKind, Package, streamname};
 use msipkg_files::output::{Failure, Opened, System};
-use std::alloc::Global;
+use std::alloc::{AllocError, Global};
+use std::collections::BTreeSet;
 use std::fs;
 
-/// Returns the name of a table whose rows a file has in a stream, but that the file's package doesn't list, if there is
-/// one: of several the first by the bytes of their names. The file is read again. A pipe or a device, which can't be
-/// read twice, has none.
-///
-/// # Errors
-/// Fails if the file can't be read or is no compound file, and if memory is refused.
-pub fn unlisted_table(
-    rt: &System,
-    path: &str,
-    package: &Package<Opened>,
-) -> Result<Option<String>, Failure> {
-    let alloc = rt.alloc();
-    if let Some(bytes) = rt.input_at(path) {
-        return first_unlisted(alloc, &compound::list(alloc, bytes)?.sizes, package);
-    }
-    if !fs::metadata(&rt.rt, path)?.is_file() {
-        return Ok(None);
-    }
-    let bytes = rt.read(path)?;
-    first_unlisted(
-        alloc,
-        &compound::list(alloc, bytes.as_slice())?.sizes,
-        package,
-    )
+/// The names of tables.
+pub struct TableNames {
+    names: BTreeSet<String>,
 }
 
-fn first_unlisted(
-    alloc: Global,
-    sizes: &Sizes,
-    package: &Package<Opened>,
-) -> Result<Option<String>, Failure> {
-    let mut first = None;
-    for (name, _) in sizes.iter() {
-        let (text, is_table) = streamname::decode(alloc, name.to_text(alloc)?.as_str())?;
-        if is_table && !is_pool(text.as_str()) && !package.has_table(text.as_str()) {
-            first = first_of(first, text);
+/// Written out, so that a function that owns one calls one drop, and its proof doesn't go through those of the parts.
+impl Drop for TableNames {
+    fn drop(self) {
+        let TableNames { names: _ } = self;
+    }
+}
+
+impl TableNames {
+    /// Returns the names of the tables that a package lists.
+    ///
+    /// # Errors
+    /// Fails if memory is refused.
+    pub fn listed(alloc: Global, package: &Package<Opened>) -> Result<TableNames, AllocError> {
+        let mut names = BTreeSet::new(alloc);
+        for table in package.tables() {
+            names.insert(String::from_str(alloc, table.name())?)?;
+        }
+        Ok(TableNames { names })
+    }
+
+    /// Returns the names of the tables of which a file has streams. The file is read for it, best before its package is
+    /// opened, since its bytes aren't kept. A pipe or a device, which can't be read twice, and a file that is no
+    /// package have none.
+    ///
+    /// # Errors
+    /// Fails if the file can't be read, and if memory is refused.
+    pub fn stored(rt: &System, path: &str) -> Result<TableNames, Failure> {
+        let alloc = rt.alloc();
+        if let Some(bytes) = rt.input_at(path) {
+            return Ok(stored_in(alloc, bytes)?);
+        }
+        match fs::metadata(&rt.rt, path) {
+            Ok(metadata) if metadata.is_file() => Ok(stored_in(alloc, rt.read(path)?.as_slice())?),
+            Ok(_) | Err(_) => Ok(none(alloc)),
         }
     }
-    Ok(first)
+
+    /// Returns the first of the names, by their bytes, that isn't among others.
+    pub fn first_beside(&self, others: &TableNames) -> Option<&str> {
+        for name in self.names.iter() {
+            if !others.names.contains(name) {
+                return Some(name.as_str());
+            }
+        }
+        None
+    }
+}
+
+fn none(alloc: Global) -> TableNames {
+    TableNames {
+        names: BTreeSet::new(alloc),
+    }
+}
+
+fn stored_in(alloc: Global, bytes: &[u8]) -> Result<TableNames, Error> {
+    match compound::list(alloc, bytes) {
+        Ok(listing) => tables_among(alloc, &listing.sizes),
+        Err(error) if matches!(error.kind(), ErrorKind::OutOfMemory) => Err(error),
+        Err(_) => Ok(none(alloc)),
+    }
+}
+
+fn tables_among(alloc: Global, sizes: &Sizes) -> Result<TableNames, Error> {
+    let mut names = BTreeSet::new(alloc);
+    for (name, _) in sizes.iter() {
+        let (text, is_table) = streamname::decode(alloc, name.to_text(alloc)?.as_str())?;
+        if is_table && !is_pool(text.as_str()) {
+            names.insert(text)?;
+        }
+    }
+    Ok(TableNames { names })
 }
 
 /// Whether a stream named as a table's holds texts and no rows.
 fn is_pool(name: &str) -> bool {
     matches!(name, "_StringData" | "_StringPool")
-}
-
-fn first_of(one: Option<String>, other: String) -> Option<String> {
-    match one {
-        Some(one) if one.as_str() < other.as_str() => Some(one),
-        Some(_) | None => Some(other),
-    }
 }
