@@ -1,9 +1,13 @@
 //! The bytes that a package's file is to have, and files that get them: no package is written in another way.
 
-ghost use Rattle.std.specs.Prelude.{◌≡◌, ◌||◌, IfErr, IfOk, IfSome, Ok, OnOk, is_some};
-ghost use Rattle.msi_text_base.specs.Refusals.{IsRefusal};
+ghost use Rattle.std.specs.Prelude.{◌≡◌, ◌⊎◌, ◌++◌, ◌||◌, Err, IfErr, IfOk, IfSome, IsErrOf, IsOk, Ok, OnOk};
+ghost use Rattle.std.specs.Prelude.{false, is_some, true};
+ghost use Rattle.msi_text_base.specs.Refusals.{AnswersFirst, IsRefusal};
+ghost use Rattle.msi_text_base.specs.declared.errors.ErrorKind.TheVariants.{InvalidInput, OutOfMemory};
+ghost use Rattle.msi.specs.Meaning.{OpensTo};
 ghost use Rattle.msi.specs.Runs.{TextsAreWritable};
-ghost use Rattle.msi.specs.Steps.{image_of};
+ghost use Rattle.msi.specs.State.{State, parts_of};
+ghost use Rattle.msi.specs.Steps.{image_of, storage_refusal, text_refusals};
 
 use crate::reasons;
 use msi::{Error, ErrorKind, Memory, Package};
@@ -35,7 +39,10 @@ impl FileBytes {
     pub fn of(whole: &Package<Opened>) -> Result<FileBytes, Error>
         ensures ok { IfOk result (λ bytes. image_of whole.now.state 0 ≡ Ok bytes) }
         ensures texts { OnOk result (TextsAreWritable whole.now.state) }
+        ensures lost { ¬ TextsAreWritable whole.now.state → IsErrOf result InvalidInput }
         ensures kind { TextsAreWritable whole.now.state → IfErr result (IsRefusal (image_of whole.now.state 0)) }
+        ensures early { let s = whole.now.state in
+            TextsAreWritable s → AnswersFirst (storage_refusal (parts_of s) ++ text_refusals s) result }
     {
         if !whole.is_writable() {
             return Err(Error::new(ErrorKind::InvalidInput, reasons::LOST_TEXT));
@@ -51,6 +58,8 @@ impl FileBytes {
     /// Fails as `Package::open` does.
     pub fn opened_again(self, alloc: Global) -> Result<FileBytes, Error>
         ensures same { IfOk result (λ bytes. bytes ≡ self) }
+        ensures opens { OnOk result ((state : State) × OpensTo self (Ok state)) }
+        ensures kind { IfErr result (λ kind. (kind ≡ OutOfMemory) ⊎ OpensTo self (Err kind)) }
     {
         let FileBytes { bytes } = self;
         let opened = Package::open(alloc, Memory::from_vec(bytes))?;
@@ -71,6 +80,13 @@ pub fn bytes_to_write(whole: &Package<Opened>, is_recoded: bool) -> Result<Optio
     ensures bytes { let s = whole.now.state in IfOk result (λ bytes. IfSome bytes (λ file. image_of s 0 ≡ Ok file)) }
     ensures texts { let s = whole.now.state in
         IfOk result (λ bytes. IfSome bytes (λ _. TextsAreWritable s)) }
+    ensures nothing { let s = whole.now.state in (s.is_unwritten || is_recoded) ≡ false → IsOk result }
+    ensures lost { let s = whole.now.state in
+        (s.is_unwritten || is_recoded) ≡ true → ¬ TextsAreWritable s → IsErrOf result InvalidInput }
+    ensures kind { let s = whole.now.state in
+        TextsAreWritable s → IfErr result (IsRefusal (image_of s 0)) }
+    ensures early { let s = whole.now.state in (s.is_unwritten || is_recoded) ≡ true → TextsAreWritable s
+        → AnswersFirst (storage_refusal (parts_of s) ++ text_refusals s) result }
 {
     if !whole.is_unwritten() && !is_recoded {
         return Ok(None);
@@ -82,7 +98,10 @@ pub fn bytes_to_write(whole: &Package<Opened>, is_recoded: bool) -> Result<Optio
 ///
 /// # Errors
 /// Fails if they don't open, and if memory is refused.
-pub fn verified(alloc: Global, bytes: FileBytes) -> Result<FileBytes, Failure> {
+pub fn verified(alloc: Global, bytes: FileBytes) -> Result<FileBytes, Failure>
+    ensures same { IfOk result (λ verified. verified ≡ bytes) }
+    ensures opens { OnOk result ((state : State) × OpensTo bytes (Ok state)) }
+{
     match bytes.opened_again(alloc) {
         Ok(bytes) => Ok(bytes),
         Err(error) => Err(unopened(error)),
