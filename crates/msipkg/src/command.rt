@@ -237,6 +237,7 @@ fn target_of<'a>(asked: &Asked<'a, '_>) -> Target<'a> {
         is_forced: asked.has("force"),
         style: asked.style,
         is_lossy: asked.has("lossy"),
+        for_spreadsheets: asked.has("for-spreadsheets"),
     }
 }
 

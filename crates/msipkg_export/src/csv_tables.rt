@@ -1,13 +1,12 @@
 //! Tables as comma-separated values: the names of the columns, and then a line for each row.
 
-use crate::exporting::BARE;
 use crate::folders::make_folder;
 use msipkg_packages::msi::{Package, Rows, Table};
 use msipkg_packages::output::{
-    Failure, NullCells, Opened, Output, RowFormat, RowPrinting, System, at_file, write_rows,
+    Failure, NullCells, Opened, Output, RowPrinting, System, at_file, write_rows,
 };
 use msipkg_packages::{Folder, chosen_tables, null_cells_of, open_new, rows_of};
-use msipkg_texts::{Ending, SafeName, SafeNames, Style};
+use msipkg_texts::{Ending, SafeName, SafeNames};
 use std::alloc::{AllocError, Global};
 
 /// Writes each table to a file of a folder, which is made if it doesn't exist. Nothing is written if a table doesn't
@@ -16,23 +15,25 @@ pub(crate) fn export_csv(
     rt: &System,
     package: &Package<Opened>,
     names: &[&str],
+    printing: RowPrinting<'_>,
     folder: &Folder<'_>,
 ) -> Result<(), Failure> {
     let tables = chosen_tables(rt.alloc(), package, names, false)?;
-    export_tables(rt, package, tables.as_slice(), folder)
+    export_tables(rt, package, tables.as_slice(), printing, folder)
 }
 
 fn export_tables(
     rt: &System,
     package: &Package<Opened>,
     tables: &[&Table],
+    printing: RowPrinting<'_>,
     folder: &Folder<'_>,
 ) -> Result<(), Failure> {
     check_files(rt, tables, folder)?;
     make_folder(rt, folder.path)?;
     let mut given = SafeNames::new(rt.alloc());
     for table in tables {
-        export_table(rt, package, table, folder, &mut given)?;
+        export_table(rt, package, table, printing, folder, &mut given)?;
     }
     Ok(())
 }
@@ -49,13 +50,14 @@ fn export_table(
     rt: &System,
     package: &Package<Opened>,
     table: &Table,
+    printing: RowPrinting<'_>,
     folder: &Folder<'_>,
     given: &mut SafeNames,
 ) -> Result<(), Failure> {
     let rows = rows_of(rt.alloc(), package, table.name())?;
     let nulls = null_cells_of(rt.alloc(), package, table)?;
     let path = folder.path_of(rt.alloc(), &file_name(table, given)?)?;
-    let written = write_file(rt, path.as_str(), folder.is_forced, rows, &nulls);
+    let written = write_file(rt, path.as_str(), folder.is_forced, printing, rows, &nulls);
     at_file(rt.alloc(), path.as_str(), written)
 }
 
@@ -67,45 +69,35 @@ fn write_file(
     rt: &System,
     path: &str,
     is_forced: bool,
+    printing: RowPrinting<'_>,
     rows: Rows<'_>,
     nulls: &NullCells,
 ) -> Result<(), Failure> {
     let (new, bytes) = open_new(rt, path, is_forced)?;
     let mut output = Output::to_file(rt.alloc(), bytes);
-    let written = write_synced(rt.alloc(), rows, nulls, &mut output);
+    let written = write_synced(rt.alloc(), printing, rows, nulls, &mut output);
     new.settle(rt, written)
 }
 
 fn write_synced(
     alloc: Global,
+    printing: RowPrinting<'_>,
     rows: Rows<'_>,
     nulls: &NullCells,
     output: &mut Output,
 ) -> Result<(), Failure> {
-    write_rows(
-        alloc,
-        RowPrinting::of(BARE, RowFormat::Csv),
-        rows,
-        nulls,
-        output,
-    )?;
+    write_rows(alloc, printing, rows, nulls, output)?;
     Ok(output.end_synced()?)
 }
 
 pub(crate) fn write_csv(
     alloc: Global,
-    style: Style,
     package: &Package<Opened>,
     table: &Table,
+    printing: RowPrinting<'_>,
     output: &mut Output,
 ) -> Result<(), Failure> {
     let rows = rows_of(alloc, package, table.name())?;
     let nulls = null_cells_of(alloc, package, table)?;
-    write_rows(
-        alloc,
-        RowPrinting::of(style, RowFormat::Csv),
-        rows,
-        &nulls,
-        output,
-    )
+    write_rows(alloc, printing, rows, &nulls, output)
 }

@@ -6,7 +6,7 @@ use crate::json_packages::write_package;
 use crate::losses::{note_losses, note_unlisted};
 use crate::table_archives::print_archive;
 use msipkg_packages::msi::{Package, Table};
-use msipkg_packages::output::{Failure, Opened, Output, System, at_file};
+use msipkg_packages::output::{Failure, Opened, Output, RowFormat, RowPrinting, System, at_file};
 use msipkg_packages::{
     Folder, Looked, PackageFile, TableNames, is_list, open_output, open_package, open_to_look,
     rows_of, table_named,
@@ -59,6 +59,8 @@ pub struct Target<'a> {
     pub style: Style,
     /// Whether it is well if something is lost that the format can't hold.
     pub is_lossy: bool,
+    /// Whether texts in CSV that a spreadsheet would run as formulas have an apostrophe in front.
+    pub for_spreadsheets: bool,
 }
 
 /// Writes tables of a file's package, or the whole package where none is named, to files or to the output. Where a
@@ -141,12 +143,19 @@ fn print_package(
         FileFormat::Json => write_package(alloc, style, file, package, names, output),
         FileFormat::Csv => {
             let table = one_table(alloc, package, names)?;
-            write_csv(alloc, style, package, table, output)
+            write_csv(alloc, package, table, csv_printing(style, target), output)
         }
         FileFormat::Idt => {
             let table = one_table(alloc, package, names)?;
             print_archive(alloc, style, package, table, output)
         }
+    }
+}
+
+fn csv_printing<'a>(style: Style, target: &Target<'_>) -> RowPrinting<'a> {
+    RowPrinting {
+        for_spreadsheets: target.for_spreadsheets,
+        ..RowPrinting::of(style, RowFormat::Csv)
     }
 }
 
@@ -177,7 +186,7 @@ fn write_files(
             path,
             write_json(rt, file, package, names, &folder),
         ),
-        FileFormat::Csv => export_csv(rt, package, names, &folder),
+        FileFormat::Csv => { export_csv(rt, package, names, csv_printing(BARE, target), &folder) }
         FileFormat::Idt => export_archives(rt, package, names, &folder),
     }
 }

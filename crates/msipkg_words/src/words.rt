@@ -400,6 +400,7 @@ static EXCHANGE_COMMANDS: [Row; 4] = [
                 form: Form::Flag,
                 help: "Succeeds even if something is lost, which standard error names",
             },
+            FOR_SPREADSHEETS,
         ],
     },
     Row {
