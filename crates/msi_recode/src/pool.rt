@@ -44,7 +44,7 @@ pub struct RecodedPool {
 /// Fails with `InvalidData` if the first stream doesn't have its form or names an unknown page, if there are more than
 /// 16777215 places, if the second stream ends before a text does, if the page has no text for its bytes, or if the text
 /// of a free place would have more than 65535 bytes, or another one 2^32. The last three name the place of the text,
-/// the first that they are true of. Otherwise fails with `OutOfMemory`.
+/// the first that they are true of. Otherwise fails with `OutOfMemory`, which names none.
 pub fn recode_pool(
     alloc: Global,
     given: Option<TextPage>,

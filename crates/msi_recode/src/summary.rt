@@ -39,8 +39,8 @@ pub(crate) const PAGE: u32 = 1;
 /// Fails with `InvalidData` if the bytes list no values, if property 1 names no known page, or at the first value that
 /// isn't there, isn't read in the page or is listed twice, which is named. Fails with `InvalidInput` at the first value
 /// with which the new stream would have more than four times the bytes of the old one and 64 KiB, which happens only if
-/// values overlap, or more than 2^31 bytes, the most that a file holds. Fails otherwise with `OutOfMemory`. What is
-/// refused is refused before any value is kept.
+/// values overlap, or more than 2^31 bytes, the most that a file holds. Fails otherwise with `OutOfMemory`, at no
+/// value. What is refused is refused before any value is kept.
 pub fn recode_summary(
     alloc: Global,
     given: Option<TextPage>,
