@@ -2,9 +2,9 @@
 use Rattle.std.proofs.Common.{◌≡◌, ℕ, Bool, true, false, Option, Some, None, Result, Ok, Err, refl, sym, ap, subst, ◌∙◌, inl, inr, length}
 use Rattle.std.specs.Prelude.{IsTrue}
 use Rattle.std.proofs.lemmas.Bool.{true≢false}
-use Rattle.msi_text_base.specs.declared.errors.ErrorKind.{ErrorKind}
-use Rattle.msi_text_base.specs.declared.errors.ErrorKind.TheVariants.{OutOfMemory}
-use Rattle.msi_text_base.specs.Refusals.{AnswersWith, Refusals, IsRefusal, first_refusal, unless, unless_refused}
+use Rattle.msi_base.specs.declared.errors.ErrorKind.{ErrorKind}
+use Rattle.msi_base.specs.declared.errors.ErrorKind.TheVariants.{OutOfMemory}
+use Rattle.msi_base.specs.Refusals.{AnswersWith, Refusals, IsRefusal, first_refusal, unless, unless_refused}
 use Rattle.msi_database_changes.specs.Changes.{Change}
 use Rattle.msi_database_changes.proofs.RefusedLemmas.{unless_err}
 use Rattle.msi.specs.State.{State}

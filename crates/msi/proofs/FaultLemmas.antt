@@ -1,10 +1,10 @@
 -- Which errors are no faults of a source or a device.
 use Rattle.std.proofs.Common.{◌≡◌, false, Option, Result, Ok, Err, refl, ap, ◌∙◌, inl, inr}
 use Rattle.std.specs.Prelude.{IfErr, IsErrAnd}
-use Rattle.msi_text_base.specs.declared.errors.ErrorKind.{ErrorKind}
-use Rattle.msi_text_base.specs.declared.errors.ErrorKind.TheVariants.{AlreadyExists, InvalidData, InvalidInput, Io, NotFound, OutOfMemory}
+use Rattle.msi_base.specs.declared.errors.ErrorKind.{ErrorKind}
+use Rattle.msi_base.specs.declared.errors.ErrorKind.TheVariants.{AlreadyExists, InvalidData, InvalidInput, Io, NotFound, OutOfMemory}
 use Rattle.msi_container_device.specs.Faults.{is_io}
-use Rattle.msi_text_base.specs.Refusals.{IsRefusal, or_refused}
+use Rattle.msi_base.specs.Refusals.{IsRefusal, or_refused}
 use Rattle.msi_database_storage.specs.Streams.{Streams}
 use Rattle.msi.specs.Flushing.{is_fault}
 use Rattle.msi.proofs.FlushStepLemmas.{only_input}

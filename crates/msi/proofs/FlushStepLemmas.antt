@@ -2,9 +2,9 @@
 use Rattle.std.proofs.Common.{◌≡◌, ℕ, Bool, true, false, List, [], ◌∷◌, length, Option, Some, None, Result, Ok, Err, refl, sym, ap, subst, ◌∙◌, inl, inr}
 use Rattle.std.specs.Prelude.{◌&&◌, IfSome, MatchBool, OnOk, if◌then◌else◌, not, option_map}
 use Rattle.std.proofs.lemmas.Bool.{true≢false}
-use Rattle.msi_text_base.specs.declared.errors.ErrorKind.{ErrorKind}
-use Rattle.msi_text_base.specs.declared.errors.ErrorKind.TheVariants.{AlreadyExists, InvalidData, InvalidInput, Io, NotFound, OutOfMemory}
-use Rattle.msi_text_base.specs.Refusals.{AnswersFirst, AnswersWith, IsRefusal, first_refusal, or_refused, unless_refused, ◌>>=◌}
+use Rattle.msi_base.specs.declared.errors.ErrorKind.{ErrorKind}
+use Rattle.msi_base.specs.declared.errors.ErrorKind.TheVariants.{AlreadyExists, InvalidData, InvalidInput, Io, NotFound, OutOfMemory}
+use Rattle.msi_base.specs.Refusals.{AnswersFirst, AnswersWith, IsRefusal, first_refusal, or_refused, unless_refused, ◌>>=◌}
 use Rattle.msi_container_device.specs.Held.{Held, bytes_told}
 use Rattle.msi_container_format.specs.declared.contents.Contents.{Contents}
 use Rattle.msi_container_write.specs.Layout.{layout, refuses}
@@ -17,7 +17,7 @@ use Rattle.msi.specs.Calls as calls
 use Rattle.msi.specs.Steps.{Step, as_written, contents_of, flush_outcome, flushed, image_of, image_refusals, streams_written, text_refusals, written_for}
 use Rattle.msi.specs.Runs.{FlushLeaves, SessionStep, SameDevice, result_or}
 use Rattle.msi.specs.Whole.{Whole}
-use Rattle.msi_streams.specs.Renewing.{with_renewed}
+use Rattle.msi.specs.Renewing.{with_renewed}
 use Rattle.msi.specs.Flushing.{FlushStep, FlushTells, LeavesBytes, LeavesCleared, Overwrites, Told, Writes, begun_over, flush_answer, left_by, over_device, session_of, told, told_by}
 use Rattle.msi.proofs.OverwritingLemmas.{told_len, told_len_is}
 use Rattle.msi.proofs.TextRefusalLemmas.{texts_of_flush, written_first}

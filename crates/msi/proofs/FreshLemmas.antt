@@ -2,8 +2,8 @@
 use Rattle.std.proofs.Common.{◌≡◌, true, false, List, [], Some, is_some, map, refl, ap, ◌∙◌}
 use Rattle.std.specs.List.{AllByRecursion}
 use Rattle.std.proofs.lemmas.Bool.{true≢false}
-use Rattle.msi_text_base.specs.Lists.{has_pair}
-use Rattle.msi_text_base.proofs.OptionLemmas.{some_there}
+use Rattle.msi_base.specs.Lists.{has_pair}
+use Rattle.msi_base.proofs.OptionLemmas.{some_there}
 use Rattle.msi_table_values.specs.declared.value.Value.{Value}
 use Rattle.msi_table_cells.specs.CellValues.{row_values}
 use Rattle.msi_container_write.specs.LayoutLaw.{IsName}

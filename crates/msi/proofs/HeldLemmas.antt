@@ -8,7 +8,7 @@ use Rattle.std.specs.FinMap.{put, empty, entries, from_entries, entries-insert, 
 use Rattle.std.specs.FinMap.Entries.{by_order}
 use Rattle.std.proofs.lemmas.List.FromFn.{length-map-range_with_len}
 use Rattle.std.proofs.lemmas.List.{nil_from_length}
-use Rattle.msi_text_base.proofs.ListLemmas.{all_mapped, all_kept}
+use Rattle.msi_base.proofs.ListLemmas.{all_mapped, all_kept}
 use Rattle.msi_container_format.specs.declared.contents.Contents.{Contents}
 use Rattle.msi_container_format.specs.Bytes.{number16}
 use Rattle.msi_container_format.specs.Chains.{AreBelow}

@@ -2,15 +2,15 @@
 use Rattle.std.proofs.Common.{◌≡◌, ℕ, ◌+◌, ◌*◌, ◌^◌, Bool, true, false, ◌||◌, List, [], ◌∷◌, Option, Some, None, Result, Ok, Err, ◌++◌, refl, sym, ap, subst, ◌∙◌, ◌⊎◌, inl, inr}
 use Rattle.std.specs.Prelude.{IfErr, IfOk, IsErrOf, IsTrue, ◌↔◌, if◌then◌else◌, nat_lt}
 use Rattle.std.specs.FinMap.{entries}
-use Rattle.msi_text_base.specs.declared.errors.ErrorKind.{ErrorKind}
-use Rattle.msi_text_base.specs.declared.errors.ErrorKind.TheVariants.{InvalidInput, OutOfMemory}
-use Rattle.msi_text_base.specs.Refusals.{AnswersFirst, IsRefusal, or_refused, unless_refused, ◌>>=◌}
+use Rattle.msi_base.specs.declared.errors.ErrorKind.{ErrorKind}
+use Rattle.msi_base.specs.declared.errors.ErrorKind.TheVariants.{InvalidInput, OutOfMemory}
+use Rattle.msi_base.specs.Refusals.{AnswersFirst, IsRefusal, or_refused, unless_refused, ◌>>=◌}
 use Rattle.msi_container_format.specs.Streams as maps
 use Rattle.msi_container_format.specs.declared.contents.Contents.{Contents}
 use Rattle.msi_container_write.specs.Layout.{layout, refuses, total}
 use Rattle.msi_container_write.proofs.LayoutLemmas.{not_true}
 use Rattle.msi_database_storage.specs.Streams.{Streams}
-use Rattle.msi_streams.specs.Renewing.{with_renewed}
+use Rattle.msi.specs.Renewing.{with_renewed}
 use Rattle.msi.specs.State.{State, parts_of}
 use Rattle.msi.specs.Steps.{contents_of, image_of, storage_refusal, streams_written, text_refusals}
 use Rattle.msi.specs.Whole.{Whole}

@@ -16,9 +16,9 @@ use Rattle.msi_container_format.proofs.PackedNamesLemmas.{encoded_scalars, low_s
 use Rattle.msi_container_format.proofs.AcceptedNamesLemmas.{accepted_is}
 use Rattle.msi_container_format.proofs.EncodedUnitsLemmas.{some_units}
 use Rattle.msi_container_format.proofs.Utf16Lemmas.{is_text_of_chars}
-use Rattle.msi_text_categories.specs.CategoryRules.{is_identifier}
-use Rattle.msi_database_system.specs.Keys.{is_table_name, is_stream_name, table_key, stream_key, summary_key, string_pool_name, string_data_name}
-use Rattle.msi_database_system.proofs.KeyLemmas.{identifier_chars, identifier_ascii}
+use Rattle.msi_categories.specs.CategoryRules.{is_identifier}
+use Rattle.msi_database_schema.specs.Keys.{is_table_name, is_stream_name, table_key, stream_key, summary_key, string_pool_name, string_data_name}
+use Rattle.msi_database_schema.proofs.KeyLemmas.{identifier_chars, identifier_ascii}
 
 -- units of characters have 16 bits
 abbrev is_unit : ℕ → Bool

@@ -1,7 +1,7 @@
 -- The laws of calls on streams, of flushes, and of answers.
 use Rattle.std.proofs.Common.{◌≡◌, ap, ◌∙◌, inl, inr}
 use Rattle.std.proofs.lemmas.Bool.{MatchBool-at_false}
-use Rattle.msi_database_system.specs.Keys.{stream_key, signature_key, signature_ex_key}
+use Rattle.msi_database_schema.specs.Keys.{stream_key, signature_key, signature_ex_key}
 use Rattle.msi_database_storage.specs.Streams.{Streams, without_stream}
 use Rattle.msi.specs.State.{names_of, parts_of}
 use Rattle.msi.specs.Steps.{LendsOrRefuses, outcome}

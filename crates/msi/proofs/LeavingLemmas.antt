@@ -2,9 +2,9 @@
 use Rattle.std.proofs.Common.{◌≡◌, ℕ, Bool, true, false, List, [], Option, Some, None, Result, Ok, Err, ◌⊎◌, refl, sym, ap, subst, ◌∙◌, inl, inr}
 use Rattle.std.specs.Prelude.{MatchBool}
 use Rattle.std.proofs.lemmas.Bool.{true≢false}
-use Rattle.msi_text_base.specs.declared.errors.ErrorKind.{ErrorKind}
+use Rattle.msi_base.specs.declared.errors.ErrorKind.{ErrorKind}
 use Rattle.msi_database_changes.specs.Changes.{Change}
-use Rattle.msi_database_system.specs.Keys.{stream_key}
+use Rattle.msi_database_schema.specs.Keys.{stream_key}
 use Rattle.msi.specs.State.{State, parts_of}
 use Rattle.msi_database_storage.specs.Streams.{with_stream}
 use Rattle.msi_database_changes.specs.Insert.{insert_rows}

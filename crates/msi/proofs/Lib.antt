@@ -1,4 +1,10 @@
 -- The lemmas of this crate.
+pub mod CursorLemmas
+pub mod NameLemmas
+pub mod CursorRows
+pub mod ListingRows
+pub mod RenewingLemmas
+pub mod CopyingLemmas
 pub mod PackageRows
 pub mod CallRows
 pub mod SchemaRows

@@ -2,12 +2,12 @@
 use Rattle.std.proofs.Common.{◌≡◌, ◌≢◌, ℕ, false, List, [], ◌∷◌, map, Option, Some, IfSome, sym, subst}
 use Rattle.std.specs.List.{AllByRecursion}
 use Rattle.msi_container_format.specs.StreamNames.{is_marked}
-use Rattle.msi_database_system.specs.Keys.{table_key, stream_key}
-use Rattle.msi_database_system.specs.System.{columns_name, tables_name, validation_name}
+use Rattle.msi_database_schema.specs.Keys.{table_key, stream_key}
+use Rattle.msi_database_schema.specs.System.{columns_name, tables_name, validation_name}
 use Rattle.msi_database_changes.specs.Database.{Database}
 use Rattle.msi_database_storage.specs.Kept.{Kept}
 use Rattle.msi_database.specs.Others.{IsOther}
-use Rattle.msi_database_system.proofs.KeyLemmas.{unmarked≢table_key, stream_key_unmarked}
+use Rattle.msi_database_schema.proofs.KeyLemmas.{unmarked≢table_key, stream_key_unmarked}
 use Rattle.msi.specs.Whole.{IsOpen}
 
 apart : (key : List ℕ) (tables : List (List ℕ)) → is_marked key ≡ false → AllByRecursion (λ t. key ≢ table_key t) tables

@@ -4,20 +4,20 @@ use Rattle.std.proofs.Common.{inl, inr}
 use Rattle.std.specs.Prelude.{◌⊎◌, IfErr, IfOk, IfSome, IsErrAnd, IsSome, IsSomeAnd}
 use Rattle.std.specs.List.{AllByRecursion}
 use Rattle.std.specs.FinMap.{entries, get, get-entries}
-use Rattle.msi_text_base.specs.declared.errors.ErrorKind.{ErrorKind}
-use Rattle.msi_text_base.specs.declared.errors.ErrorKind.TheVariants.{InvalidData, NotFound, OutOfMemory}
-use Rattle.msi_text_pool_base.specs.Pool.{IndexedPool, Pool, PoolStream, Entry, IsPool, IsPoolStream, SpellsPool, SpellsTexts, newly_indexed, pool_with, unindexed}
-use Rattle.msi_text_pool_base.specs.Pool as pools
-use Rattle.msi_text_base.specs.Results.{FailsAs, Gives, IsUnlessMemory}
-use Rattle.msi_text_base.proofs.OptionLemmas.{is_some_by, none_not, some_of}
+use Rattle.msi_base.specs.declared.errors.ErrorKind.{ErrorKind}
+use Rattle.msi_base.specs.declared.errors.ErrorKind.TheVariants.{InvalidData, NotFound, OutOfMemory}
+use Rattle.msi_pool_places.specs.Pool.{IndexedPool, Pool, PoolStream, Entry, IsPool, IsPoolStream, SpellsPool, SpellsTexts, newly_indexed, pool_with, unindexed}
+use Rattle.msi_pool_places.specs.Pool as pools
+use Rattle.msi_base.specs.Results.{FailsAs, Gives, IsUnlessMemory}
+use Rattle.msi_base.proofs.OptionLemmas.{is_some_by, none_not, some_of}
 use Rattle.msi_container_device.specs.Held.{Held, all_bytes}
 use Rattle.msi_summary_properties.specs.Properties.{Properties}
 use Rattle.msi_summary.specs.Summary.{SpellsSummary}
 use Rattle.msi_container_format.specs.declared.contents.Contents.{Contents}
 use Rattle.msi_container_format.specs.Container.{Holds}
 use Rattle.msi_container_format.specs.Streams as maps
-use Rattle.msi_text_base.specs.Refusals.{IsRefusal, or_refused}
-use Rattle.msi_database_system.specs.Keys.{table_key, summary_key, string_pool_name, string_data_name}
+use Rattle.msi_base.specs.Refusals.{IsRefusal, or_refused}
+use Rattle.msi_database_schema.specs.Keys.{table_key, summary_key, string_pool_name, string_data_name}
 use Rattle.msi_database_storage.specs.Streams.{stream_at}
 use Rattle.msi_database_storage.specs.Agreement.{schema_in}
 use Rattle.msi.specs.declared.kinds.PackageType.{PackageType}

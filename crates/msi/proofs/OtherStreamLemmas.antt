@@ -9,11 +9,11 @@ use Rattle.msi_container_format.specs.Names.{name_cmp}
 use Rattle.msi_container_format.specs.StreamNames.{is_marked}
 use Rattle.msi_container_format.proofs.NamesLemmas.{names_total, exact_names}
 use Rattle.msi_container_write.specs.LayoutLaw.{IsName, HaveNames}
-use Rattle.msi_database_system.specs.Keys.{is_stream_name, table_key, stream_key, summary_key, signature_key, string_pool_name, string_data_name}
-use Rattle.msi_database_system.specs.System.{validation_name}
+use Rattle.msi_database_schema.specs.Keys.{is_stream_name, table_key, stream_key, summary_key, signature_key, string_pool_name, string_data_name}
+use Rattle.msi_database_schema.specs.System.{validation_name}
 use Rattle.msi_database_changes.specs.Database.{Database}
 use Rattle.msi_database_storage.specs.Streams.{Streams, with_stream, without_stream}
-use Rattle.msi_database_system.proofs.KeyLemmas.{unmarked≢table_key, stream_key_unmarked, stream_key≢summary_key, signature≢summary}
+use Rattle.msi_database_schema.proofs.KeyLemmas.{unmarked≢table_key, stream_key_unmarked, stream_key≢summary_key, signature≢summary}
 use Rattle.msi_database_storage.proofs.MapLemmas as maps
 use Rattle.msi_database_storage.proofs.StreamLemmas.{AreSorted}
 use Rattle.msi.specs.State.{is_other_name, names_of, others_among}

@@ -3,16 +3,16 @@ use Rattle.std.proofs.Common.{◌≡◌, ◌≢◌, ℕ, ◌≤◌, true, false,
 use Rattle.std.specs.Str.{IsUtf8}
 use Rattle.std.proofs.lemmas.Bool.{true≢false, or_parts, and_from, lt-ltb, le-leb, leb-true, not-false}
 use Rattle.std.proofs.lemmas.Bool.Decides.{nat_tests}
-use Rattle.msi_text_pool_base.specs.FirstFit.{most_places}
-use Rattle.msi_text_base.specs.declared.codepage.CodePage.{CodePage}
-use Rattle.msi_text_base.specs.declared.errors.ErrorKind.TheVariants.{InvalidData}
-use Rattle.msi_text_pool_base.specs.Pool as pools
+use Rattle.msi_pool_places.specs.FirstFit.{most_places}
+use Rattle.msi_base.specs.declared.codepage.CodePage.{CodePage}
+use Rattle.msi_base.specs.declared.errors.ErrorKind.TheVariants.{InvalidData}
+use Rattle.msi_pool_places.specs.Pool as pools
 use Rattle.msi_summary_properties.specs.Properties.{Properties}
 use Rattle.msi_container_format.specs.Names.{is_name_length}
 use Rattle.msi_container_format.specs.StreamNames.{is_marked}
 use Rattle.msi_container_write.specs.LayoutLaw.{IsName, HaveNames}
-use Rattle.msi_database_system.specs.Keys.{is_stream_name, table_key, stream_key, summary_key, signature_key, signature_ex_key, string_pool_name, string_data_name}
-use Rattle.msi_database_system.specs.System.{validation_name}
+use Rattle.msi_database_schema.specs.Keys.{is_stream_name, table_key, stream_key, summary_key, signature_key, signature_ex_key, string_pool_name, string_data_name}
+use Rattle.msi_database_schema.specs.System.{validation_name}
 use Rattle.msi_database_changes.specs.Database.{Database, is_sound}
 use Rattle.msi_database_changes.specs.Changes.{Change}
 use Rattle.msi_database_changes.specs.Laws.{IsChange, IsTableChange}
@@ -28,7 +28,7 @@ use Rattle.msi_database_storage.specs.Kept.{Kept, base_of, kept_widened}
 use Rattle.msi_database_storage.specs.Streams.{Streams, stored_streams, stream_at, with_stream, without_stream}
 use Rattle.msi_database_storage.specs.StreamNames as databases
 use Rattle.msi_database.specs.Keeping.{IsKeptDatabase}
-use Rattle.msi_database_system.proofs.KeyLemmas.{unmarked≢table_key, stream_key_unmarked, stream_key≢summary_key, signature≢summary, signature_ex≢summary}
+use Rattle.msi_database_schema.proofs.KeyLemmas.{unmarked≢table_key, stream_key_unmarked, stream_key≢summary_key, signature≢summary, signature_ex≢summary}
 use Rattle.msi_database_storage.proofs.StreamLemmas.{AreSorted, sorted_put, sorted_removed, stream_at_other_put, stream_at_other_removed}
 use Rattle.msi_database_storage.proofs.StoredLemmas.{AreNames, all_names, summary_stays, pool_stays}
 use Rattle.msi_database.proofs.ComesLemmas.{are_names}

@@ -1,7 +1,7 @@
 -- Worked examples, by computation.
 use Rattle.std.specs.Prelude.{◌≡◌, true, [], ◌∷◌, ◌++◌, Some, refl, codes, map, length, sum_by, take, option_map, ◌+◌}
-use Rattle.msi_text_pool_base.specs.Pool.{pool_stream, data_stream}
-use Rattle.msi_database_system.specs.Keys.{table_key, summary_key}
+use Rattle.msi_pool_places.specs.Pool.{pool_stream, data_stream}
+use Rattle.msi_database_schema.specs.Keys.{table_key, summary_key}
 use Rattle.msi_database_changes.specs.Database.{is_sound, columns_by_name}
 use Rattle.msi.specs.declared.kinds.PackageType.TheVariants as kind
 use Rattle.msi.specs.State.{State}
@@ -9,7 +9,7 @@ use Rattle.msi_database_storage.specs.Streams.{stream_at}
 use Rattle.msi.specs.Runs.{fresh}
 use Rattle.msi_database_storage.specs.Agreement.{schema_in}
 use Rattle.std.specs.List.{flat_map}
-use Rattle.msi_text_base.specs.Lists.{numbers_below}
+use Rattle.msi_base.specs.Lists.{numbers_below}
 
 abbrev new : State
 new = fresh kind.Installer

@@ -3,7 +3,7 @@ use Rattle.std.proofs.Common.{◌≡◌, ℕ, Bool, false, List, [], ◌∷◌, 
 use Rattle.std.specs.Prelude.{IsSome}
 use Rattle.std.specs.FinMap.{entries}
 use Rattle.std.proofs.lemmas.Bool.{true≢false}
-use Rattle.msi_text_pool_base.specs.Pool.{Pool}
+use Rattle.msi_pool_places.specs.Pool.{Pool}
 use Rattle.msi_summary_properties.specs.Properties.{Properties}
 use Rattle.msi_table_values.specs.Columns.{ColumnDef}
 use Rattle.msi_table.specs.Tables.{TableDef}

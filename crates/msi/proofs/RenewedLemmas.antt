@@ -8,17 +8,17 @@ use Rattle.msi_container_format.specs.declared.contents.Contents.{Contents}
 use Rattle.msi_container_format.proofs.NamesLemmas.{names_total}
 use Rattle.msi_container_format.proofs.StreamsLemmas.{put_back_same}
 use Rattle.msi_container_format.specs.Names.{named}
-use Rattle.msi_database_system.specs.Keys.{is_table_name, string_data_name, string_pool_name, summary_key, table_key}
-use Rattle.msi_database_system.specs.System.{columns_name, tables_name, validation_name}
+use Rattle.msi_database_schema.specs.Keys.{is_table_name, string_data_name, string_pool_name, summary_key, table_key}
+use Rattle.msi_database_schema.specs.System.{columns_name, tables_name, validation_name}
 use Rattle.msi_database_changes.specs.Database.{Database, Tables, is_sound}
 use Rattle.msi_database_storage.specs.Kept.{Kept}
 use Rattle.msi_database_storage.specs.Streams.{Streams, stream_at, with_stream, with_stream_or_none}
 use Rattle.msi_database.specs.Others.{IsOther, with_streams}
 use Rattle.msi_database.proofs.EntriesLemmas.{entries_either}
-use Rattle.msi_database_system.proofs.KeyLemmas.{columns_accepted, table_key≢pool, tables_accepted, validation_accepted}
+use Rattle.msi_database_schema.proofs.KeyLemmas.{columns_accepted, table_key≢pool, tables_accepted, validation_accepted}
 use Rattle.msi_database.proofs.SoundLemmas.{sound_names}
 use Rattle.msi_database_storage.proofs.StreamLemmas.{AreSorted}
-use Rattle.msi_streams.specs.Renewing.{keys_in, renewed_keys}
+use Rattle.msi.specs.Renewing.{keys_in, renewed_keys}
 use Rattle.msi.specs.declared.kinds.PackageType.{PackageType}
 use Rattle.msi.specs.Kinds.{clsid_of}
 use Rattle.msi.specs.Flushing.{AreOthers, root_contents}

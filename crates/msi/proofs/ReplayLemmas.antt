@@ -2,9 +2,9 @@
 use Rattle.std.proofs.Common.{◌≡◌, ℕ, ◌+◌, ◌*◌, ◌^◌, Bool, false, ◌||◌, nat_lt, List, [], ◌∷◌, length, Option, Some, Result, Ok, refl, ap, subst, ◌∙◌}
 use Rattle.std.specs.FinMap.{entries-from_sorted}
 use Rattle.std.specs.List.{AllByRecursion}
-use Rattle.msi_text_base.specs.declared.errors.ErrorKind.{ErrorKind}
-use Rattle.msi_text_base.specs.declared.errors.ErrorKind.TheVariants.{InvalidInput}
-use Rattle.msi_text_base.specs.Refusals.{unless_refused, or_refused, ◌>>=◌}
+use Rattle.msi_base.specs.declared.errors.ErrorKind.{ErrorKind}
+use Rattle.msi_base.specs.declared.errors.ErrorKind.TheVariants.{InvalidInput}
+use Rattle.msi_base.specs.Refusals.{unless_refused, or_refused, ◌>>=◌}
 use Rattle.msi_container_format.specs.Names.{name_cmp}
 use Rattle.msi_container_write.specs.Image.{least_total}
 use Rattle.msi_container_write.specs.Layout.{refuses, taken_by}

@@ -1,8 +1,8 @@
 -- What steps and runs keep: packages, soundness, exact counts and distinct keys.
 use Rattle.std.proofs.Common.{◌≡◌, true, [], ◌∷◌, length, Result, sym, ap, subst, ◌∙◌, inl, inr}
-use Rattle.msi_text_base.specs.declared.codepage.CodePage.{CodePage}
-use Rattle.msi_text_base.specs.declared.errors.ErrorKind.{ErrorKind}
-use Rattle.msi_text_pool_base.proofs.TakenLemmas.{taken_takes}
+use Rattle.msi_base.specs.declared.codepage.CodePage.{CodePage}
+use Rattle.msi_base.specs.declared.errors.ErrorKind.{ErrorKind}
+use Rattle.msi_pool_places.proofs.TakenLemmas.{taken_takes}
 use Rattle.msi_database_changes.specs.Database.{Database, CountsAreExact, is_sound, is_well_formed}
 use Rattle.msi_database_changes.specs.Changes.{Change}
 use Rattle.msi_database_changes.specs.Laws as databases

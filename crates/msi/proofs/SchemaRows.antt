@@ -1,8 +1,8 @@
 -- Worked examples, by computation: what the streams describe is what the calls made, also for columns at the edges of their rules.
 use Rattle.std.specs.Prelude.{◌≡◌, ℕ, ℤ, Bool, true, false, not, bytes_eq, zip, ◌==◌, ◌&&◌, List, [], ◌∷◌, Option, Some, None, refl, codes, length, pos, negsuc}
-use Rattle.msi_text_categories.specs.declared.category.Category.{Category}
-use Rattle.msi_text_categories.specs.declared.category.Category.TheVariants as category
-use Rattle.msi_text_categories.specs.Categories.{all_categories, category_name}
+use Rattle.msi_categories.specs.declared.category.Category.{Category}
+use Rattle.msi_categories.specs.declared.category.Category.TheVariants as category
+use Rattle.msi_categories.specs.Categories.{all_categories, category_name}
 use Rattle.std.specs.List.{list_all}
 use Rattle.std.specs.Option.{option_map_or}
 use Rattle.std.specs.Ordering.{int_cmp, is_eq}
@@ -12,7 +12,7 @@ use Rattle.msi_table_values.specs.declared.column.ColumnType.TheVariants as colt
 use Rattle.msi_table_values.specs.Columns.{ColumnDef, type_bits}
 use Rattle.msi_database_changes.specs.Database.{has_table, columns_by_name}
 use Rattle.msi.specs.declared.kinds.PackageType.TheVariants as kind
-use Rattle.msi_database_system.specs.System.{plain_column, key, nullable, one_of, in_range, of_category}
+use Rattle.msi_database_schema.specs.System.{plain_column, key, nullable, one_of, in_range, of_category}
 use Rattle.msi.specs.State.{State}
 use Rattle.msi.specs.Calls.{Call, Answer}
 use Rattle.msi.specs.Calls as calls

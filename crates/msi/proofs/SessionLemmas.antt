@@ -2,9 +2,9 @@
 use Rattle.std.proofs.Common.{◌≡◌, ℕ, Bool, true, false, List, [], ◌∷◌, length, Result, Ok, Err, refl, sym, ap, subst, ◌∙◌, inl, inr}
 use Rattle.std.specs.Prelude.{MatchBool, if◌then◌else◌}
 use Rattle.std.proofs.lemmas.Bool.{true≢false}
-use Rattle.msi_text_base.specs.declared.errors.ErrorKind.{ErrorKind}
-use Rattle.msi_text_base.specs.declared.errors.ErrorKind.TheVariants.{InvalidInput}
-use Rattle.msi_text_base.specs.Refusals.{unless_refused, or_refused, ◌>>=◌}
+use Rattle.msi_base.specs.declared.errors.ErrorKind.{ErrorKind}
+use Rattle.msi_base.specs.declared.errors.ErrorKind.TheVariants.{InvalidInput}
+use Rattle.msi_base.specs.Refusals.{unless_refused, or_refused, ◌>>=◌}
 use Rattle.msi_database_changes.proofs.RefusedLemmas.{not_refused, first_fails}
 use Rattle.msi_container_write.specs.Layout.{layout, refuses}
 use Rattle.msi_database_changes.proofs.ShownLemmas.{ok_first}

@@ -4,11 +4,11 @@ use Rattle.std.specs.Prelude.{MatchBool, if◌then◌else◌}
 use Rattle.std.specs.List.{AllByRecursion}
 use Rattle.std.specs.Str.{IsUtf8}
 use Rattle.std.proofs.lemmas.Bool.{true≢false}
-use Rattle.msi_text_base.specs.declared.codepage.CodePage.{CodePage}
-use Rattle.msi_text_base.specs.declared.errors.ErrorKind.{ErrorKind}
-use Rattle.msi_text_base.specs.declared.errors.ErrorKind.TheVariants.{InvalidInput, InvalidData, NotFound}
-use Rattle.msi_text_base.specs.Refusals.{Refusals, first_refusal, unless, unless_refused, or_refused}
-use Rattle.msi_database_system.specs.Keys.{is_stream_name, stream_key}
+use Rattle.msi_base.specs.declared.codepage.CodePage.{CodePage}
+use Rattle.msi_base.specs.declared.errors.ErrorKind.{ErrorKind}
+use Rattle.msi_base.specs.declared.errors.ErrorKind.TheVariants.{InvalidInput, InvalidData, NotFound}
+use Rattle.msi_base.specs.Refusals.{Refusals, first_refusal, unless, unless_refused, or_refused}
+use Rattle.msi_database_schema.specs.Keys.{is_stream_name, stream_key}
 use Rattle.msi_database_changes.specs.Database.{Database, is_sound}
 use Rattle.msi_database_changes.specs.Changes.{Change, sound_refusal}
 use Rattle.msi_database_changes.specs.Insert.{insert_rows}

@@ -8,13 +8,13 @@ use Rattle.std.proofs.lemmas.Option.{same_Some}
 use Rattle.msi_container_format.specs.Names.{name_cmp}
 use Rattle.msi_container_format.specs.Streams as maps
 use Rattle.msi_container_format.proofs.NamesLemmas.{names_total, exact_names}
-use Rattle.msi_database_system.specs.Keys.{is_stream_name, signature_key, stream_key}
+use Rattle.msi_database_schema.specs.Keys.{is_stream_name, signature_key, stream_key}
 use Rattle.msi_database_storage.specs.Kept.{Kept}
 use Rattle.msi_database_storage.specs.Streams.{Streams, has_stream_at, stream_at}
 use Rattle.msi_database_storage.proofs.MapLemmas as lookups
 use Rattle.msi.specs.State.{State, is_other_name, names_of, other_streams, parts_of}
 use Rattle.msi.specs.Steps.{bytes_of_stream, has_stream}
-use Rattle.msi_streams.specs.Renewing.{opened}
+use Rattle.msi.specs.Renewing.{opened}
 use Rattle.msi.specs.Whole.{IsOpen}
 use Rattle.msi.proofs.OtherStreamLemmas.{signature_is_other, stream_key_is_other}
 

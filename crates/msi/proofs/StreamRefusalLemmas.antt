@@ -1,10 +1,10 @@
 -- In which order calls on streams are refused.
 use Rattle.std.proofs.Common.{◌≡◌, ℕ, Bool, true, false, not, List, [], ◌∷◌, Option, Some, None, is_some, refl, sym, ap, subst, ◌∙◌}
 use Rattle.std.specs.Prelude.{Result, Ok, Err, unwrap_or}
-use Rattle.msi_text_base.specs.declared.errors.ErrorKind.{ErrorKind}
-use Rattle.msi_text_base.specs.declared.errors.ErrorKind.TheVariants.{InvalidInput, NotFound}
-use Rattle.msi_text_base.specs.Refusals.{Refusals, first_refusal, unless, unless_refused}
-use Rattle.msi_database_system.specs.Keys.{is_stream_name, stream_key}
+use Rattle.msi_base.specs.declared.errors.ErrorKind.{ErrorKind}
+use Rattle.msi_base.specs.declared.errors.ErrorKind.TheVariants.{InvalidInput, NotFound}
+use Rattle.msi_base.specs.Refusals.{Refusals, first_refusal, unless, unless_refused}
+use Rattle.msi_database_schema.specs.Keys.{is_stream_name, stream_key}
 use Rattle.msi_database_storage.specs.Streams.{has_stream_at, stream_at}
 use Rattle.msi.specs.State.{State, parts_of}
 use Rattle.msi.specs.Steps.{bytes_of_stream, has_stream, name_refusals, storage_refusal}

@@ -2,15 +2,15 @@
 use Rattle.std.proofs.Common.{◌≡◌, ℕ, Bool, true, cond, List, Some, sym, ap, subst, ◌∙◌, ◌⊎◌, inl}
 use Rattle.std.specs.FinMap.Entries.{find, find-put, same_entries}
 use Rattle.std.specs.Ordering.{eq_by_cmp}
-use Rattle.msi_text_base.proofs.BoolLemmas.{cond_twice}
+use Rattle.msi_base.proofs.BoolLemmas.{cond_twice}
 use Rattle.msi_container_format.specs.Names.{name_cmp}
 use Rattle.msi_container_format.proofs.NamesLemmas.{names_total, exact_names}
-use Rattle.msi_database_system.specs.Keys.{is_stream_name, stream_key}
+use Rattle.msi_database_schema.specs.Keys.{is_stream_name, stream_key}
 use Rattle.msi_database_changes.specs.Database.{Database, is_sound}
 use Rattle.msi_database_storage.specs.Kept.{Kept}
 use Rattle.msi_database_storage.specs.Streams.{Streams, has_stream_at, with_stream}
 use Rattle.msi_database.specs.Others.{IsOther, with_streams}
-use Rattle.msi_database_system.proofs.KeyLemmas.{stream_key_unmarked}
+use Rattle.msi_database_schema.proofs.KeyLemmas.{stream_key_unmarked}
 use Rattle.msi_database_storage.proofs.StreamLemmas.{AreSorted, sorted_put}
 use Rattle.msi.specs.Steps as steps
 use Rattle.msi.specs.Whole.{IsHeld, Whole, with_open, with_state}

@@ -2,15 +2,15 @@
 use Rattle.std.proofs.Common.{◌≡◌, ℕ, Bool, true, false, ◌&&◌, List, [], ◌∷◌, Option, Some, None, Result, Err, refl, subst}
 use Rattle.std.specs.Prelude.{IfSome, if◌then◌else◌, option_and_then, option_map}
 use Rattle.std.proofs.lemmas.Bool.{true≢false}
-use Rattle.msi_text_base.specs.declared.errors.ErrorKind.{ErrorKind}
-use Rattle.msi_text_base.specs.declared.errors.ErrorKind.TheVariants.{InvalidInput}
-use Rattle.msi_text_base.specs.Refusals.{AnswersFirst, AnswersWith, Refusals, first_refusal}
-use Rattle.msi_text_base.proofs.RefusalLemmas.{none_answered}
-use Rattle.msi_text_pool_base.specs.Pool.{Pool, data_stream, pool_stream}
-use Rattle.msi_text_pool.specs.PoolWriting as pool_writing
+use Rattle.msi_base.specs.declared.errors.ErrorKind.{ErrorKind}
+use Rattle.msi_base.specs.declared.errors.ErrorKind.TheVariants.{InvalidInput}
+use Rattle.msi_base.specs.Refusals.{AnswersFirst, AnswersWith, Refusals, first_refusal}
+use Rattle.msi_base.proofs.RefusalLemmas.{none_answered}
+use Rattle.msi_pool_places.specs.Pool.{Pool, data_stream, pool_stream}
+use Rattle.msi_pool.specs.PoolWriting as pool_writing
 use Rattle.msi_summary_properties.specs.PropertyStream.{property_stream}
 use Rattle.msi_summary_properties.specs.PropertyWriting as property_writing
-use Rattle.msi_database_system.specs.Keys.{string_data_name, string_pool_name, summary_key, table_key}
+use Rattle.msi_database_schema.specs.Keys.{string_data_name, string_pool_name, summary_key, table_key}
 use Rattle.msi_database_storage.specs.Kept.{Kept}
 use Rattle.msi_database_storage.specs.Streams.{Streams, with_stream}
 use Rattle.msi.specs.State.{State}

@@ -3,11 +3,11 @@ use Rattle.std.proofs.Common.{◌≡◌, ◌<◌, ℕ, Bool, ◌&&◌, List, [],
 use Rattle.std.specs.Prelude.{◌↔◌, IsTrue}
 use Rattle.std.specs.List.{AllByRecursion}
 use Rattle.std.proofs.lemmas.Bool.{and_parts, and_from}
-use Rattle.msi_text_base.specs.declared.codepage.CodePage.{CodePage}
-use Rattle.msi_text_base.specs.declared.codepage.CodePage.TheVariants.{Utf8}
-use Rattle.msi_text_base.specs.Pages.{IsWritable}
-use Rattle.msi_text_base.proofs.PagesLemmas.{utf8_texts_come_back}
-use Rattle.msi_text_pool_base.specs.Pool as pools
+use Rattle.msi_base.specs.declared.codepage.CodePage.{CodePage}
+use Rattle.msi_base.specs.declared.codepage.CodePage.TheVariants.{Utf8}
+use Rattle.msi_base.specs.Pages.{IsWritable}
+use Rattle.msi_base.proofs.PagesLemmas.{utf8_texts_come_back}
+use Rattle.msi_pool_places.specs.Pool as pools
 use Rattle.msi_summary_properties.specs.declared.propset.PropertyValue.{PropertyValue}
 use Rattle.msi_summary_properties.specs.declared.propset.PropertyValue.TheVariants.{LpStr}
 use Rattle.msi_summary_properties.specs.Properties.{Properties, page_of}

@@ -1,7 +1,7 @@
 -- The calls on a package, as values, and what they answer.
 use Rattle.std.specs.Prelude.{ℕ, Bool, List, Option, ℤ, Result}
-use Rattle.msi_text_base.specs.declared.codepage.CodePage.{CodePage}
-use Rattle.msi_text_base.specs.declared.errors.ErrorKind.{ErrorKind}
+use Rattle.msi_base.specs.declared.codepage.CodePage.{CodePage}
+use Rattle.msi_base.specs.declared.errors.ErrorKind.{ErrorKind}
 use Rattle.msi_summary.specs.Summary.{TextProperty, NumberProperty, TimeProperty}
 use Rattle.msi_table_values.specs.declared.value.Value.{Value}
 use Rattle.msi_table.specs.Tables.{TableDef}

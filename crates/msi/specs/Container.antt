@@ -14,10 +14,10 @@ pub use Rattle.msi_container_format.specs.Lending
 pub use Rattle.msi_container_format.specs.Container
 pub use Rattle.msi_container_format.specs.StreamNames
 pub use Rattle.msi_container_format.specs.StreamNameLaws
-pub use Rattle.msi_container_chains.specs.Claims
-pub use Rattle.msi_container_chains.specs.Walks
-pub use Rattle.msi_container_chains.specs.Outcomes
-pub use Rattle.msi_container_chains.specs.Counts
+pub use Rattle.msi_container_read.specs.Claims
+pub use Rattle.msi_container_read.specs.Walks
+pub use Rattle.msi_container_read.specs.Outcomes
+pub use Rattle.msi_container_read.specs.Counts
 pub use Rattle.msi_container_read.specs.Reading
 pub use Rattle.msi_container_read.specs.Steps
 pub use Rattle.msi_container_read.specs.Listings

@@ -12,11 +12,11 @@ pub use Rattle.msi_database_storage.specs.FreshParts
 pub use Rattle.msi_database_storage.specs.Reading
 pub use Rattle.msi_database.specs.Creating
 pub use Rattle.msi_database.specs.Recounting
-pub use Rattle.msi_database_system.specs.Keys
-pub use Rattle.msi_database_system.specs.System
+pub use Rattle.msi_database_schema.specs.Keys
+pub use Rattle.msi_database_schema.specs.System
 pub use Rattle.msi_database_schema.specs.Schema
 pub use Rattle.msi_database_schema.specs.RowOrders
-pub use Rattle.msi_database_system.specs.Description
+pub use Rattle.msi_database_schema.specs.Description
 pub use Rattle.msi_database.specs.Texts
 pub use Rattle.msi_database.specs.KeySets
 pub use Rattle.msi_database.specs.Setting

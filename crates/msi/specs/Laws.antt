@@ -1,11 +1,11 @@
 -- What holds of every step, of runs, and of what bytes mean: statements that public contracts name.
 use Rattle.std.specs.Prelude.{◌≡◌, ℕ, ◌<◌, ◌^◌, ◌⊎◌, true, false, List, ◌∷◌, ◌++◌, length, Some, Result, Ok, Err}
 use Rattle.std.specs.List.{AllByRecursion}
-use Rattle.msi_text_base.specs.declared.errors.ErrorKind.{ErrorKind}
-use Rattle.msi_text_base.specs.declared.errors.ErrorKind.TheVariants.{Io, OutOfMemory}
-use Rattle.msi_text_base.specs.Refusals.{AnswersWith}
+use Rattle.msi_base.specs.declared.errors.ErrorKind.{ErrorKind}
+use Rattle.msi_base.specs.declared.errors.ErrorKind.TheVariants.{Io, OutOfMemory}
+use Rattle.msi_base.specs.Refusals.{AnswersWith}
 use Rattle.msi_container_format.specs.declared.contents.Contents.{Contents}
-use Rattle.msi_database_system.specs.Keys.{is_stream_name, stream_key}
+use Rattle.msi_database_schema.specs.Keys.{is_stream_name, stream_key}
 use Rattle.msi_database_changes.specs.Database.{Database, CountsAreExact, is_sound}
 use Rattle.msi_database_changes.specs.Laws.{KeysAreDistinct}
 use Rattle.msi_database_storage.specs.Streams.{Streams, with_stream, without_stream}

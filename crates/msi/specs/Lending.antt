@@ -1,14 +1,14 @@
 -- What a package ends as, once a borrow of its parts is over.
 use Rattle.std.specs.Prelude.{ℕ, List, Result}
 use Rattle.std.specs.Borrow.{Fml, LendsIfOk, MutBor, RattleType}
-use Rattle.msi_text_base.specs.declared.errors.ErrorKind.{ErrorKind}
+use Rattle.msi_base.specs.declared.errors.ErrorKind.{ErrorKind}
 use Rattle.msi_container_device.specs.declared.source.Source.{Ghosts}
-use Rattle.msi_database_system.specs.Keys.{stream_key}
+use Rattle.msi_database_schema.specs.Keys.{stream_key}
 use Rattle.msi_summary_properties.specs.Properties.{Properties}
 use Rattle.msi_summary.specs.contracts.summary.SummaryInfo as summary
 use Rattle.msi_database_storage.specs.Streams.{with_stream}
-use Rattle.msi_streams.specs.Cursor.{Cursor}
-use Rattle.msi_streams.specs.contracts.writer.OpenStream as stream
+use Rattle.msi.specs.Cursor.{Cursor}
+use Rattle.msi.specs.contracts.writer.OpenStream as stream
 use Rattle.msi.specs.Steps.{with_lent_summary, with_streams, with_summary_calls}
 use Rattle.msi.specs.Whole.{Whole, with_state}
 use Rattle.msi.specs.contracts.package.Package as whole

@@ -3,8 +3,8 @@ use Rattle.std.specs.Prelude.{◌≡◌, ℕ, ◌+◌, ◌^◌, ◌<◌, ◌⊎�
 use Rattle.std.specs.Prelude.{◌&&◌, if◌then◌else◌, IsTrue, ℤ, pos, ◌+ℤ◌, int_le, nat_abs, Result, Ok, Err}
 use Rattle.std.specs.Int.{w32}
 use Rattle.std.specs.Int.RustNames.{FitsSigned}
-use Rattle.msi_text_base.specs.declared.errors.ErrorKind.{ErrorKind}
-use Rattle.msi_text_base.specs.declared.errors.ErrorKind.TheVariants.{InvalidInput, OutOfMemory}
+use Rattle.msi_base.specs.declared.errors.ErrorKind.{ErrorKind}
+use Rattle.msi_base.specs.declared.errors.ErrorKind.TheVariants.{InvalidInput, OutOfMemory}
 use Rattle.msi_summary_properties.specs.Properties.{Properties, without_value, with_page, page_of}
 use Rattle.msi_summary.specs.Summary as summary
 use Rattle.msi.specs.Calls.{SummaryQuestion, Clearing, SummaryCall, SummaryAnswer, ReaderCall, WriterCall, StreamAnswer}

@@ -1,4 +1,8 @@
 -- The words of this crate.
+pub mod Cursor
+pub mod Refusals
+pub mod Listing
+pub mod Renewing
 pub mod Kinds
 pub mod State
 pub mod Meaning
@@ -12,7 +16,6 @@ pub mod Writable
 pub mod Lending
 pub mod Flushing
 pub mod Opening
--- The words of the families below, which public clauses cite.
 pub mod Text
 pub mod Container
 pub mod Summary

@@ -1,12 +1,12 @@
 -- What opening answers where memory may be refused, and over a source.
 use Rattle.std.specs.Prelude.{◌≡◌, ℕ, ◌⊎◌, List, Option, Result, Err, IfSome, IsSomeAnd}
 use Rattle.std.specs.FinMap.{entries}
-use Rattle.msi_text_base.specs.declared.errors.ErrorKind.{ErrorKind}
-use Rattle.msi_text_base.specs.declared.errors.ErrorKind.TheVariants.{OutOfMemory}
-use Rattle.msi_text_pool_base.specs.Pool.{PoolStream, IsPoolStream}
+use Rattle.msi_base.specs.declared.errors.ErrorKind.{ErrorKind}
+use Rattle.msi_base.specs.declared.errors.ErrorKind.TheVariants.{OutOfMemory}
+use Rattle.msi_pool_places.specs.Pool.{PoolStream, IsPoolStream}
 use Rattle.msi_container_format.specs.declared.contents.Contents.{Contents}
 use Rattle.msi_container_device.specs.Held.{Held, all_bytes}
-use Rattle.msi_database_system.specs.Keys.{table_key, string_pool_name}
+use Rattle.msi_database_schema.specs.Keys.{table_key, string_pool_name}
 use Rattle.msi_database_storage.specs.Streams.{Streams, stream_at}
 use Rattle.msi.specs.State.{State, parts_of}
 use Rattle.msi.specs.Meaning.{ContentsMean, OpenStep, FailsFirst, OpensTo, as_opened}

@@ -22,6 +22,6 @@ pub use Rattle.msi_query.specs.RowFilters
 pub use Rattle.msi_query.specs.Printing
 pub use Rattle.msi_query.specs.Vocabulary
 pub use Rattle.msi_query.specs.Utf8Expressions
-pub use Rattle.msi_text_base.specs.Refusals
+pub use Rattle.msi_base.specs.Refusals
 pub use Rattle.msi_database.specs.Selection
 pub use Rattle.msi_database.specs.SelectedRows as Rows

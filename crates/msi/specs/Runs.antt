@@ -3,10 +3,10 @@ use Rattle.std.specs.Prelude.{◌≡◌, ℕ, ◌⊎◌, Bool, true, false, List
 use Rattle.std.specs.Prelude.{Result, Ok, Err, MatchBool}
 use Rattle.std.specs.List.{AllByRecursion}
 use Rattle.std.specs.Str.{IsUtf8}
-use Rattle.msi_text_base.specs.Refusals.{◌>>=◌}
-use Rattle.msi_text_base.specs.declared.errors.ErrorKind.{ErrorKind}
-use Rattle.msi_text_base.specs.declared.errors.ErrorKind.TheVariants.{Io, OutOfMemory}
-use Rattle.msi_text_pool_base.specs.Pool as pools
+use Rattle.msi_base.specs.Refusals.{◌>>=◌}
+use Rattle.msi_base.specs.declared.errors.ErrorKind.{ErrorKind}
+use Rattle.msi_base.specs.declared.errors.ErrorKind.TheVariants.{Io, OutOfMemory}
+use Rattle.msi_pool_places.specs.Pool as pools
 use Rattle.msi_summary.specs.Summary.{new_summary}
 use Rattle.msi_summary_properties.specs.PropertyStream as properties
 use Rattle.msi_container_write.specs.Layout.{layout}

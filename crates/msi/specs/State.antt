@@ -2,8 +2,8 @@
 use Rattle.std.specs.Prelude.{ℕ, Bool, not, List, map, filter, ◌||◌, bytes_eq}
 use Rattle.std.specs.List.{list_any}
 use Rattle.msi_summary_properties.specs.Properties.{Properties}
-use Rattle.msi_database_system.specs.Keys.{table_key, summary_key, string_pool_name, string_data_name}
-use Rattle.msi_database_system.specs.System.{validation_name}
+use Rattle.msi_database_schema.specs.Keys.{table_key, summary_key, string_pool_name, string_data_name}
+use Rattle.msi_database_schema.specs.System.{validation_name}
 use Rattle.msi_database_changes.specs.Database.{Database}
 use Rattle.msi_database_storage.specs.Streams.{Streams}
 use Rattle.msi_database_storage.specs.Kept.{Kept}

@@ -3,16 +3,16 @@ use Rattle.std.specs.Prelude.{◌≡◌, ℕ, ◌⊎◌, Bool, true, false, not,
 use Rattle.std.specs.Prelude.{option_and_then, unwrap_or, ◌&&◌, ◌||◌, if◌then◌else◌, IsTrue, Result, Ok}
 use Rattle.std.specs.Prelude.{Err, MatchBool, nat_lt}
 use Rattle.std.specs.FinMap.{from_sorted}
-use Rattle.msi_text_base.specs.declared.codepage.CodePage.{CodePage}
-use Rattle.msi_text_base.specs.declared.errors.ErrorKind.{ErrorKind}
-use Rattle.msi_text_base.specs.declared.errors.ErrorKind.TheVariants.{InvalidInput, NotFound, Io, OutOfMemory}
+use Rattle.msi_base.specs.declared.codepage.CodePage.{CodePage}
+use Rattle.msi_base.specs.declared.errors.ErrorKind.{ErrorKind}
+use Rattle.msi_base.specs.declared.errors.ErrorKind.TheVariants.{InvalidInput, NotFound, Io, OutOfMemory}
 use Rattle.msi_summary_properties.specs.Properties.{Properties}
 use Rattle.msi_container_format.specs.declared.contents.Contents.{Contents}
 use Rattle.msi_container_write.specs.Layout.{layout, refuses}
-use Rattle.msi_text_base.specs.Refusals.{AnswersWith, Refusals, first_refusal, unless_refused, or_refused, ◌>>=◌}
+use Rattle.msi_base.specs.Refusals.{AnswersWith, Refusals, first_refusal, unless_refused, or_refused, ◌>>=◌}
 use Rattle.msi_query.specs.Rows.{columns_read}
 use Rattle.msi_query.specs.Selection.{early_refusal, relation_of}
-use Rattle.msi_database_system.specs.Keys.{is_stream_name, stream_key, signature_key, signature_ex_key}
+use Rattle.msi_database_schema.specs.Keys.{is_stream_name, stream_key, signature_key, signature_ex_key}
 use Rattle.msi_database_changes.specs.Database.{Database, has_table, table_at, values_of}
 use Rattle.msi_database_changes.specs.Changes.{Change, sound_refusal}
 use Rattle.msi_database_changes.specs.Insert.{early_insert_refusals, insert_rows}
@@ -27,9 +27,9 @@ use Rattle.msi_database.specs.Creating.{create_refusals}
 use Rattle.msi_database.specs.Listed.{table_def_at, tables_listed}
 use Rattle.msi_database.specs.Listed as listed
 use Rattle.msi_database.specs.Recounting as recounts
-use Rattle.msi_streams.specs.Listing.{is_listed, text_of_key}
-use Rattle.msi_streams.specs.Renewing.{pool_over, summary_over}
-use Rattle.msi_streams.specs.Renewing as renewals
+use Rattle.msi.specs.Listing.{is_listed, text_of_key}
+use Rattle.msi.specs.Renewing.{pool_over, summary_over}
+use Rattle.msi.specs.Renewing as renewals
 use Rattle.msi.specs.Kinds.{clsid_of}
 use Rattle.msi.specs.State.{Parts, State, parts_of}
 use Rattle.msi.specs.Calls.{Call, Answer}

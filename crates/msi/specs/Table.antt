@@ -6,7 +6,7 @@ pub use Rattle.msi_table.specs.Tables
 pub use Rattle.msi_table.specs.Rows
 pub use Rattle.msi_table_cells.specs.SortedRows
 pub use Rattle.msi_table.specs.Utf8Tables
-pub use Rattle.msi_table_rows.specs.Row
+pub use Rattle.msi_table_values.specs.Row
 pub use Rattle.msi_table_values.specs.declared.column.ColumnType
 pub use Rattle.msi_table_values.specs.declared.value.Value
 pub use Rattle.msi_table_cells.specs.declared.cell.ValueRef

@@ -1,7 +1,7 @@
 //! Changes of a package's tables.
 
 ghost use Rattle.std.specs.Prelude.{◌≡◌, ◌++◌, IfErr, OnErr, OnOk};
-ghost use Rattle.msi_text_base.specs.Refusals.{AnswersFirst, IsRefusal, unless_refused};
+ghost use Rattle.msi_base.specs.Refusals.{AnswersFirst, IsRefusal, unless_refused};
 ghost use Rattle.msi_database_changes.specs.Changes.{sound_refusal};
 ghost use Rattle.msi_database_changes.specs.Create as creates;
 ghost use Rattle.msi_database_changes.specs.Delete as deletes;
@@ -18,12 +18,12 @@ ghost use Rattle.msi.specs.Steps.{changing, storage_refusal, with_page};
 ghost use Rattle.msi.specs.Whole.{Leaves, with_state};
 
 use crate::package::{Package, settle};
+use msi_base::codepage::CodePage;
+use msi_base::errors::Error;
+use msi_base::text::Items;
 use msi_container_device::Source;
 use msi_query::{Delete, Insert, Update};
 use msi_table_values::column::Column;
-use msi_text_base::codepage::CodePage;
-use msi_text_base::errors::Error;
-use msi_text_base::text::Items;
 use std::convert::AsStr;
 
 impl<F: Source> Package<F> {

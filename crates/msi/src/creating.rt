@@ -1,20 +1,20 @@
 //! Creating packages, and turning them back into their devices.
 
 ghost use Rattle.std.specs.Prelude.{◌≡◌, ◌&&◌, IfErr, IfOk, IfSome, IsErrAnd, false, not};
-ghost use Rattle.msi_text_base.specs.Refusals.{first_refusal};
+ghost use Rattle.msi_base.specs.Refusals.{first_refusal};
 ghost use Rattle.msi_container_device.specs.Faults.{is_io};
 ghost use Rattle.msi.specs.Runs.{fresh};
 ghost use Rattle.msi.specs.Flushing.{FlushStep, IsCreateRefused, IsCreated, flush_answer, is_fault, told};
 ghost use Rattle.msi.specs.Steps.{flush_refusals};
 ghost use Rattle.msi.specs.Whole.{Whole};
 
+use crate::OpenStream;
 use crate::kinds::PackageType;
 use crate::package::Package;
+use msi_base::errors::Error;
 use msi_container_device::Device;
 use msi_database::Database;
-use msi_streams::OpenStream;
 use msi_summary::parts::new_summary;
-use msi_text_base::errors::Error;
 use std::alloc::Global;
 
 impl<F: Device + Drop> Package<F> {

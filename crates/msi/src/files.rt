@@ -1,12 +1,12 @@
 //! Opening packages in files.
 
 ghost use Rattle.std.specs.Prelude.{◌≡◌, ◌⊎◌, Err, IfErr, IfOk, None, Ok};
-ghost use Rattle.msi_text_base.specs.declared.errors.ErrorKind.TheVariants.{Io, OutOfMemory};
+ghost use Rattle.msi_base.specs.declared.errors.ErrorKind.TheVariants.{Io, OutOfMemory};
 ghost use Rattle.msi.specs.Opening.{OpensSource};
 
 use crate::package::Package;
+use msi_base::errors::Error;
 use msi_container_device::{Buffered, Metered};
-use msi_text_base::errors::Error;
 use std::fs::{self, OpenOptions};
 use std::io::{Read, Seek, Write};
 use std::path::AsPath;

@@ -2,18 +2,20 @@
 
 ghost use Rattle.std.specs.Prelude.{◌≡◌, ◌&&◌, OnErr, OnOk, false, not, true};
 ghost use Rattle.std.specs.Vec.Iter.{into_iter_items};
-ghost use Rattle.msi_text_base.specs.Refusals.{AnswersFirst};
+ghost use Rattle.msi_base.specs.Refusals.{AnswersFirst};
 ghost use Rattle.msi_container_device.specs.Faults.{is_io};
 ghost use Rattle.msi_container_write.specs.Borrowed.{contents_of};
 ghost use Rattle.msi_database_changes.specs.Database.{is_sound};
 ghost use Rattle.msi_database.specs.Others.{with_streams};
-ghost use Rattle.msi_streams.specs.Renewing.{with_renewed};
+ghost use Rattle.msi.specs.Renewing.{with_renewed};
 ghost use Rattle.msi.specs.Flushing.{AreOthers, FlushStep, Overwrites, flush_answer, left_by, over_device};
 ghost use Rattle.msi.specs.Flushing.{root_contents, told, unwritten_of};
 ghost use Rattle.msi.specs.Steps.{flush_refusals, text_refusals};
 
 use crate::kinds::PackageType;
 use crate::package::{Package, settle};
+use crate::parts::{contents_under, renewed_streams};
+use msi_base::errors::Error;
 use msi_container_device::Device;
 use msi_container_device::parts::{go_to_start, hand_on};
 use msi_container_format::contents::Bytes;
@@ -21,9 +23,7 @@ use msi_container_format::name::Name;
 use msi_container_write::parts::{BorrowedContents, image_to};
 use msi_database::Database;
 use msi_database::parts::{put_back_stream, replace_stream};
-use msi_streams::parts::{contents_under, renewed_streams};
 use msi_summary::SummaryInfo;
-use msi_text_base::errors::Error;
 use std::alloc::Global;
 use std::vec::IntoIter;
 

@@ -1,15 +1,15 @@
 //! The bytes that a flush would write.
 
 ghost use Rattle.std.specs.Prelude.{◌≡◌, ◌++◌, IfErr, IfOk, Ok};
-ghost use Rattle.msi_text_base.specs.Refusals.{AnswersFirst, IsRefusal};
+ghost use Rattle.msi_base.specs.Refusals.{AnswersFirst, IsRefusal};
 ghost use Rattle.msi.specs.State.{parts_of};
 ghost use Rattle.msi.specs.Steps.{image_of as image_of_state, storage_refusal, text_refusals};
 
 use crate::package::Package;
+use crate::parts::{contents_under, put_all, renewed_streams, settled_copy};
+use msi_base::errors::Error;
 use msi_container_device::Source;
 use msi_container_write::parts::image_of;
-use msi_streams::parts::{contents_under, put_all, renewed_streams, settled_copy};
-use msi_text_base::errors::Error;
 
 impl<F: Source> Package<F> {
     /// Returns the bytes that a flush would write over `earlier_len` bytes. It copies the streams, and changes

@@ -5,36 +5,46 @@
 #![tactic(auto)]
 
 pub mod changes;
+pub mod compound;
 mod creating;
+pub mod faults;
 pub mod files;
 mod flushing;
 mod imaging;
+mod keys;
 pub mod kinds;
 pub mod laws;
 pub mod listing;
+pub mod names;
 mod opening;
 pub mod package;
+pub mod parts;
+pub mod reader;
 mod reasons;
 pub mod recounting;
+mod renewing;
+mod seeking;
 pub mod streams;
 pub mod uuids;
 mod writable;
+pub mod writer;
 
 pub use files::{open, open_rw};
 pub use kinds::PackageType;
 pub use listing::Tables;
-pub use msi_container::{compound, streamname};
+pub use msi_base::{CodePage, Error, ErrorKind, IntoText, Items, Text};
+pub use msi_categories::{Category, LanguageId, Timestamp};
 pub use msi_container_device::{Buffered, Device, Memory, Metered, Source};
+pub use msi_container_format::streamname;
+pub use msi_pool::{StringPool, StringPoolBuilder, StringRef, pool_streams};
 pub use msi_query::{Delete, Expr, Insert, Select, Update};
 pub use msi_query_parse::{Expected, Parse, ParseError, Refused, Statement};
-pub use msi_streams::{StreamReader, StreamWriter, Streams};
 pub use msi_summary::{OperatingSystem, PropertySet, PropertyText, PropertyValue, SummaryInfo};
 pub use msi_table::{
     Column, ColumnBuilder, ColumnType, Row, Rows, Table, Value, ValueRef, ValueView,
 };
-pub use msi_text::{
-    Category, CodePage, Error, ErrorKind, IntoText, Items, LanguageId, StringPool,
-    StringPoolBuilder, StringRef, Text, Timestamp, pool_streams,
-};
+pub use names::Streams;
 pub use package::Package;
+pub use reader::StreamReader;
 pub use uuids::{FromUuid, HasUuid};
+pub use writer::{OpenStream, StreamWriter};

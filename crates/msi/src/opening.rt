@@ -2,9 +2,9 @@
 
 ghost use Rattle.std.specs.Prelude.{◌≡◌, ◌⊎◌, ◌∷◌, [], Err, IfErr, IfOk, None, Ok, Some, false};
 ghost use Rattle.std.specs.FinMap.{entries};
-ghost use Rattle.msi_text_base.specs.declared.errors.ErrorKind.TheVariants.{InvalidData, Io, NotFound, OutOfMemory};
-ghost use Rattle.msi_text_pool_base.specs.Pool.{Pool, PoolStream, newly_indexed, unindexed};
-ghost use Rattle.msi_text_base.specs.Results.{IsUnlessMemory};
+ghost use Rattle.msi_base.specs.declared.errors.ErrorKind.TheVariants.{InvalidData, Io, NotFound, OutOfMemory};
+ghost use Rattle.msi_pool_places.specs.Pool.{Pool, PoolStream, newly_indexed, unindexed};
+ghost use Rattle.msi_base.specs.Results.{IsUnlessMemory};
 ghost use Rattle.msi_container_device.specs.Faults.{is_io};
 ghost use Rattle.msi_container_device.specs.Held.{bytes_told};
 ghost use Rattle.msi_database_storage.specs.Streams.{stream_at};
@@ -16,7 +16,8 @@ ghost use Rattle.msi.specs.Opening.{IsOpenRefusal, IsOpened, OpensSource, PoolSt
 
 use crate::kinds::PackageType;
 use crate::package::Package;
-use crate::reasons;
+use crate::{OpenStream, reasons};
+use msi_base::errors::{Error, ErrorKind, Reason};
 use msi_container_device::Source;
 use msi_container_device::parts::read_all;
 use msi_container_format::contents::{Bytes, Contents, StreamMap};
@@ -24,13 +25,11 @@ use msi_container_format::name::Name;
 use msi_container_format::parts::shared_part;
 use msi_container_read::read_shared;
 use msi_database::Database;
-use msi_database_system::names::{string_data_key, string_pool_key, summary_key};
-use msi_streams::OpenStream;
+use msi_database_schema::names::{string_data_key, string_pool_key, summary_key};
+use msi_pool::parts::{pool_builder_of, pool_of};
+use msi_pool::stringpool::{StringPool, StringPoolBuilder};
 use msi_summary::SummaryInfo;
 use msi_summary::parts::summary_of;
-use msi_text_base::errors::{Error, ErrorKind, Reason};
-use msi_text_pool::parts::{pool_builder_of, pool_of};
-use msi_text_pool::stringpool::{StringPool, StringPoolBuilder};
 use std::alloc::Global;
 use std::marker::Model;
 use std::rc::Rc;

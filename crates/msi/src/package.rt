@@ -3,7 +3,7 @@
 ghost use Rattle.std.specs.Prelude.{◌≡◌, ◌||◌, IfErr, IfOk, IfSome, None, OnOk, Some, true};
 ghost use Rattle.std.specs.Borrow.{sem};
 ghost use Rattle.std.specs.Option.{option_copied};
-ghost use Rattle.msi_text_base.specs.Refusals.{AnswersWith, IsRefusal, first_refusal, unless_refused};
+ghost use Rattle.msi_base.specs.Refusals.{AnswersWith, IsRefusal, first_refusal, unless_refused};
 ghost use Rattle.msi_query.specs.Rows.{columns_read};
 ghost use Rattle.msi_query.specs.Selection.{early_refusal, relation_of};
 ghost use Rattle.msi_database_changes.specs.Database.{has_table as has_one, is_sound, table_at, values_of};
@@ -17,17 +17,16 @@ ghost use Rattle.msi.specs.Whole.{IsOpen, with_open, with_state};
 
 use crate::kinds::PackageType;
 use crate::listing::Tables;
-use crate::reasons;
+use crate::{OpenStream, reasons};
+use msi_base::codepage::CodePage;
+use msi_base::errors::{Error, ErrorKind};
 use msi_container_device::Source;
 use msi_container_format::name::Name;
 use msi_database::Database;
 use msi_database::parts::put_back_stream;
 use msi_query::Select;
-use msi_streams::OpenStream;
 use msi_summary::SummaryInfo;
 use msi_table::{Rows, Table};
-use msi_text_base::codepage::CodePage;
-use msi_text_base::errors::{Error, ErrorKind};
 use std::alloc::Global;
 use std::marker::Model;
 

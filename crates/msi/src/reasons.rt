@@ -1,6 +1,6 @@
 //! Why a call is refused: a sentence for each rule.
 
-use msi_text_base::errors::Reason;
+use msi_base::errors::Reason;
 
 pub(crate) const STORAGES: Reason = Reason(
     "the package has storages below its root, and is only read",
@@ -13,3 +13,7 @@ pub(crate) const NO_KIND: Reason = Reason("the root's CLSID is that of no packag
 pub(crate) const NO_SUMMARY: Reason = Reason("the summary's stream is missing");
 
 pub(crate) const NO_POOL: Reason = Reason("a stream of the string pool is missing");
+
+pub(crate) const OUTSIDE: &str = "a seek before a stream's first byte, or past its end";
+
+pub(crate) const STREAM_NAME: Reason = Reason("no stream may have this name");

@@ -1,15 +1,15 @@
 //! Counting anew, for packages whose counts are wrong.
 
 ghost use Rattle.std.specs.Prelude.{◌≡◌, ◌++◌, IfErr, IfOk, Ok, OnErr, OnOk};
-ghost use Rattle.msi_text_base.specs.Refusals.{AnswersFirst, IsRefusal};
+ghost use Rattle.msi_base.specs.Refusals.{AnswersFirst, IsRefusal};
 ghost use Rattle.msi_database_changes.specs.Recounting.{early_recount_refusals};
 ghost use Rattle.msi.specs.State.{parts_of};
 ghost use Rattle.msi.specs.Steps.{after_recount, recounting, storage_refusal};
 ghost use Rattle.msi.specs.Whole.{with_state};
 
 use crate::package::{Package, settle};
+use msi_base::errors::Error;
 use msi_container_device::Source;
-use msi_text_base::errors::Error;
 
 impl<F: Source> Package<F> {
     /// Sets the count of each text of the string pool to the number of the cells that refer to it, and returns how

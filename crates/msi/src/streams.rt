@@ -4,11 +4,11 @@ ghost use Rattle.std.specs.Prelude.{◌≡◌, ◌⊎◌, ◌∷◌, ◌++◌, [
 ghost use Rattle.std.specs.Borrow.{sem};
 ghost use Rattle.std.specs.FinMap as finite;
 ghost use Rattle.std.specs.Option.{option_copied};
-ghost use Rattle.msi_text_base.specs.declared.errors.ErrorKind.TheVariants.{InvalidInput, NotFound, OutOfMemory};
-ghost use Rattle.msi_text_base.specs.Refusals.{AnswersFirst, first_refusal, unless_refused};
-ghost use Rattle.msi_database_system.specs.Keys.{is_stream_name, signature_key as signature_of, stream_key};
+ghost use Rattle.msi_base.specs.declared.errors.ErrorKind.TheVariants.{InvalidInput, NotFound, OutOfMemory};
+ghost use Rattle.msi_base.specs.Refusals.{AnswersFirst, first_refusal, unless_refused};
+ghost use Rattle.msi_database_schema.specs.Keys.{is_stream_name, signature_key as signature_of, stream_key};
 ghost use Rattle.msi_database_storage.specs.Streams.{has_stream_at, stream_at, without_stream};
-ghost use Rattle.msi_streams.specs.Cursor.{at_start};
+ghost use Rattle.msi.specs.Cursor.{at_start};
 ghost use Rattle.msi.specs.Lending.{LendsStream};
 ghost use Rattle.msi.specs.State.{parts_of};
 ghost use Rattle.msi.specs.Steps.{bytes_of_stream, has_stream as has_one, name_refusals, storage_refusal, stream_names};
@@ -16,15 +16,14 @@ ghost use Rattle.msi.specs.Steps.{with_streams, without_signature};
 ghost use Rattle.msi.specs.Whole.{with_state};
 
 use crate::package::{Package, settle};
-use crate::reasons;
+use crate::parts::{accepted_key, checked_key};
+use crate::{OpenStream, StreamReader, StreamWriter, Streams, reasons};
+use msi_base::errors::{Error, ErrorKind};
 use msi_container_device::Source;
 use msi_container_format::contents::{Bytes, StreamMap};
 use msi_container_format::name::Name;
 use msi_database::parts::{remove_stream, replace_stream};
-use msi_database_system::names::{signature_ex_key, signature_key};
-use msi_streams::parts::{accepted_key, checked_key};
-use msi_streams::{OpenStream, StreamReader, StreamWriter, Streams};
-use msi_text_base::errors::{Error, ErrorKind};
+use msi_database_schema::names::{signature_ex_key, signature_key};
 
 impl<F: Source> Package<F> {
     /// Returns whether there is a stream of this name. It takes no memory.

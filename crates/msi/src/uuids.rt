@@ -1,17 +1,17 @@
 //! UUIDs (RFC 9562) as values of tables, and the one that identifies a package.
 
 ghost use Rattle.std.specs.Prelude.{◌≡◌, IfOk, OnErr, OnOk};
-ghost use Rattle.msi_text_base.specs.Results.{OnlyMemory};
-ghost use Rattle.msi_text_categories.specs.Spellings.{braced_uuid_text};
+ghost use Rattle.msi_base.specs.Results.{OnlyMemory};
+ghost use Rattle.msi_categories.specs.Spellings.{braced_uuid_text};
 ghost use Rattle.msi_summary.specs.Summary.{uuid_of, with_uuid};
 ghost use Rattle.msi_table_values.specs.declared.value.Value.TheVariants.{Str};
 ghost use Rattle.uuid.specs.Text.{parsed};
 
+use msi_base::errors::Error;
+use msi_categories::parts::braced_uuid;
 use msi_summary::SummaryInfo;
 use msi_summary::parts::{set_uuid_text, uuid_text, without_braces};
 use msi_table_values::value::Value;
-use msi_text_base::errors::Error;
-use msi_text_categories::parts::braced_uuid;
 use std::alloc::Global;
 use uuid::Uuid;
 

@@ -1,8 +1,8 @@
 //! Whether each text of a package reads back as it was.
 
 ghost use Rattle.std.specs.Prelude.{◌≡◌, ◌↔◌, IsTrue};
-ghost use Rattle.msi_text_base.specs.declared.codepage.CodePage.TheVariants.{Utf8};
-ghost use Rattle.msi_text_pool_base.specs.Pool as pools;
+ghost use Rattle.msi_base.specs.declared.codepage.CodePage.TheVariants.{Utf8};
+ghost use Rattle.msi_pool_places.specs.Pool as pools;
 ghost use Rattle.msi_summary_properties.specs.Properties.{page_of};
 ghost use Rattle.msi_summary_properties.specs.PropertyStream as properties;
 ghost use Rattle.msi.specs.Runs.{TextsAreWritable};
@@ -10,8 +10,8 @@ ghost use Rattle.msi.specs.Writable.{HasUtf8Pages, HasUtf8Texts};
 
 use crate::package::Package;
 use msi_container_device::Source;
+use msi_pool::stringpool::StringPool;
 use msi_summary::SummaryInfo;
-use msi_text_pool::stringpool::StringPool;
 
 impl<F: Source> Package<F> {
     /// Returns whether each text of the database and of the summary reads back as it was, once it is written in its

@@ -1,7 +1,7 @@
 -- Which calls of a source or a device are faults.
 use Rattle.std.specs.Prelude.{ℕ, ◌==◌, ◌&&◌, nat_lt, Bool, true, false, List, length, Result, Ok, Err}
-use Rattle.msi_text_base.specs.declared.errors.ErrorKind.{ErrorKind}
-use Rattle.msi_text_base.specs.declared.errors.ErrorKind.TheVariants.{Io}
+use Rattle.msi_base.specs.declared.errors.ErrorKind.{ErrorKind}
+use Rattle.msi_base.specs.declared.errors.ErrorKind.TheVariants.{Io}
 
 -- whether a write is a fault: it fails, or takes no byte of a piece that has some
 abbrev pub is_write_fault : {E : Type 0} → List ℕ → Result ℕ E → Bool

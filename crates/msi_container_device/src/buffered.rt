@@ -4,14 +4,14 @@ ghost use Rattle.std.specs.Prelude.{◌≡◌, ◌≤◌, ◌||◌, [], IfErr, I
 ghost use Rattle.std.specs.Prelude.{true};
 ghost use Rattle.std.specs.Io.KnownBytes.{Keeps, ReadConsumes, WriteAppends};
 ghost use Rattle.std.specs.Io.Seek.{MovesTo, SeekMoves};
-ghost use Rattle.msi_text_base.specs.declared.errors.ErrorKind.TheVariants.{Io, OutOfMemory};
+ghost use Rattle.msi_base.specs.declared.errors.ErrorKind.TheVariants.{Io, OutOfMemory};
 ghost use Rattle.msi_container_device.specs.Buffering.{written};
 ghost use Rattle.msi_container_device.specs.Faults.{is_write_fault};
 
 use crate::device::Device;
 use crate::faults::fault;
 use crate::source::Source;
-use msi_text_base::Error;
+use msi_base::Error;
 use std::alloc::Global;
 use std::io;
 use std::io::{BufWriter, Read, Seek, SeekFrom, Write};

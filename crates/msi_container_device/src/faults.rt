@@ -1,10 +1,10 @@
 //! Failures of a source or a device as errors.
 
 ghost use Rattle.std.specs.Prelude.{◌≡◌};
-ghost use Rattle.msi_text_base.specs.declared.errors.ErrorKind.TheVariants.{Io};
+ghost use Rattle.msi_base.specs.declared.errors.ErrorKind.TheVariants.{Io};
 
 use crate::reasons;
-use msi_text_base::{Error, ErrorKind};
+use msi_base::{Error, ErrorKind};
 use std::io;
 
 /// Returns the error that a failed call of a source or a device becomes: `Io`, also if `std` reports that memory ran

@@ -3,11 +3,11 @@
 ghost use Rattle.std.specs.Prelude.{◌≡◌, ◌||◌, IfErr, IfOk, IfSome, OnOk, false, is_err, length, option_map};
 ghost use Rattle.msi_container_device.specs.Faults.{is_io};
 ghost use Rattle.msi_container_device.specs.Held.{at_start, bytes_told};
-ghost use Rattle.msi_text_base.specs.declared.errors.ErrorKind.TheVariants.{Io};
+ghost use Rattle.msi_base.specs.declared.errors.ErrorKind.TheVariants.{Io};
 
 use crate::device::Device;
 use crate::faults::fault;
-use msi_text_base::Error;
+use msi_base::Error;
 
 /// Clears a device's flag, goes to its first byte, and returns how many bytes there are.
 ///

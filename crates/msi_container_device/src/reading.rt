@@ -3,11 +3,11 @@
 ghost use Rattle.std.specs.Prelude.{◌≡◌, ◌⊎◌, ◌||◌, false, option_map, IfErr, IfOk, IfSome, OnOk};
 ghost use Rattle.msi_container_device.specs.Faults.{is_io};
 ghost use Rattle.msi_container_device.specs.Held.{all_bytes, at_end, bytes_told};
-ghost use Rattle.msi_text_base.specs.declared.errors.ErrorKind.TheVariants.{Io, OutOfMemory};
+ghost use Rattle.msi_base.specs.declared.errors.ErrorKind.TheVariants.{Io, OutOfMemory};
 
 use crate::faults::fault;
 use crate::source::Source;
-use msi_text_base::Error;
+use msi_base::Error;
 use std::alloc::Global;
 
 /// How many bytes are asked for in a read: 64 KiB. With that many the calls take little time beside the bytes.

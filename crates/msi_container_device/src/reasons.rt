@@ -1,6 +1,6 @@
 //! Why reading and writing fail: a sentence for each rule.
 
-use msi_text_base::Reason;
+use msi_base::Reason;
 
 pub const FAULT: Reason = Reason("a call of the reader or the device failed");
 

@@ -2,12 +2,12 @@
 
 ghost use Rattle.std.specs.Prelude.{◌≡◌, ◌||◌, false, is_err, option_map, IfErr, IsOk, OnErr, OnOk};
 ghost use Rattle.msi_container_device.specs.Held.{StandsInPart, with_piece};
-ghost use Rattle.msi_text_base.specs.declared.errors.ErrorKind.TheVariants.{Io};
+ghost use Rattle.msi_base.specs.declared.errors.ErrorKind.TheVariants.{Io};
 
 use crate::device::Device;
 use crate::faults::fault;
 use crate::reasons;
-use msi_text_base::{Error, ErrorKind};
+use msi_base::{Error, ErrorKind};
 
 /// Writes the whole piece over the bytes from the position on and past the end, and moves behind it. If it fails, a
 /// prefix of the piece may have been written.

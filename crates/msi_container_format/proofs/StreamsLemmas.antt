@@ -8,7 +8,7 @@ use Rattle.std.specs.declared.cmp.Ordering.TheVariants.{Equal}
 use Rattle.std.specs.FinMap.{contains_key, from_entries, get, get-insert, get-remove, insert, same_map}
 use Rattle.std.specs.Option.{option_copied_mut}
 use Rattle.std.specs.Ordering.{eq_by_cmp, is_eq}
-use Rattle.msi_text_base.proofs.BoolLemmas.{cond_twice}
+use Rattle.msi_base.proofs.BoolLemmas.{cond_twice}
 use Rattle.msi_container_format.specs.Names.{name_cmp}
 use Rattle.msi_container_format.specs.Streams.{Streams, with_or_without}
 use Rattle.msi_container_format.proofs.NamesLemmas.{exact_names, from_entries_updated, names_total}

@@ -8,7 +8,7 @@ ghost use Rattle.msi_container_format.specs.Lending.{LendsStream};
 ghost use Rattle.msi_container_format.specs.Streams.{with_or_without};
 
 use crate::name::Name;
-use msi_text_base::parts::Part;
+use msi_base::parts::Part;
 use std::alloc::{AllocFailed, Global};
 use std::collections::{BTreeMap, btree_map};
 use std::fmt;

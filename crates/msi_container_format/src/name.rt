@@ -8,12 +8,12 @@ ghost use Rattle.std.specs.Cmp.{partial_order_from_own_ties};
 ghost use Rattle.std.specs.Cmp.Rules.{comparing};
 ghost use Rattle.std.specs.Char.Utf16.{is_high_surrogate, is_low_surrogate};
 ghost use Rattle.std.proofs.Common.{rules};
-ghost use Rattle.msi_text_base.specs.declared.errors.ErrorKind.TheVariants.{InvalidInput, OutOfMemory};
+ghost use Rattle.msi_base.specs.declared.errors.ErrorKind.TheVariants.{InvalidInput, OutOfMemory};
 ghost use Rattle.msi_container_format.specs.Names.{name_cmp, capital, capitals, is_text, is_name_length, units_of};
 
 use crate::format::MAX_UNITS;
 use crate::reasons;
-use msi_text_base::{Error, ErrorKind};
+use msi_base::{Error, ErrorKind};
 use std::alloc::Global;
 use std::cmp::Ordering;
 use std::marker::Model;

@@ -9,7 +9,7 @@ pub use crate::bytes::{byte, number16, number32, number64, place, push_bytes};
 use crate::contents::{Bytes, StreamMap};
 use crate::name::Name;
 pub use crate::packing::packed_name;
-use msi_text_base::parts::Part;
+use msi_base::parts::Part;
 use std::rc::Rc;
 
 /// Returns a stream that has so many of these bytes, from a position on. It shares them, and copies none.

@@ -6,13 +6,13 @@
 ghost use Rattle.std.specs.Prelude.{◌≡◌, ◌++◌, ◌<◌, IfOk, OnOk, encode_utf8_all, IsErr, IsErrOf, IsTrue, chars, length};
 ghost use Rattle.std.specs.Prelude.{string_bytes};
 ghost use Rattle.std.specs.List.{flat_map, list_any};
-ghost use Rattle.msi_text_base.specs.declared.errors.ErrorKind.TheVariants.{OutOfMemory};
+ghost use Rattle.msi_base.specs.declared.errors.ErrorKind.TheVariants.{OutOfMemory};
 ghost use Rattle.msi_container_format.specs.Names.{is_name_length, utf16_units};
 ghost use Rattle.msi_container_format.specs.StreamNames.{character_with, decoded_name, encoded_name, is_forbidden};
 ghost use Rattle.msi_container_format.specs.StreamNames.{is_marked, is_valid_name, unpacked};
 
 use crate::packing::{TABLE_MARK, next_packed, packed_units};
-use msi_text_base::Error;
+use msi_base::Error;
 use std::alloc::Global;
 
 /// The stream of a package's digital signature. It isn't packed.

@@ -21,7 +21,7 @@ use Rattle.msi_container_format.specs.declared.contents.Contents.{Contents}
 use Rattle.msi_container_format.specs.Container.{Plan, IsPlan, IsSector, Holds, IsMembers, version, sector_size, size, start_sector, successor, is_mini, name, stream_bytes, sectors_in, mini_sectors_in, all_sectors, all_mini_sectors, named_bytes, contents_of, stream_entries, sectors_used, sectors_of_streams, mini_sectors_of_streams}
 use Rattle.msi_container_format.proofs.NamesLemmas.{names_total}
 use Rattle.msi_container_read.specs.Reading.{mini_limit}
-use Rattle.msi_container_chains.specs.Counts.{sectors_inside}
+use Rattle.msi_container_read.specs.Counts.{sectors_inside}
 use Rattle.msi_container_read.specs.Steps.{bytes_kept, rounded_length}
 use Rattle.msi_container_read.proofs.ListingLemmas.{some_size}
 use Rattle.msi_container_read.proofs.PlanPartsLemmas.{mini_below}

@@ -1,4 +1,11 @@
 -- The lemmas of this crate.
+pub mod ChainPassedLemmas
+pub mod ClaimLemmas
+pub mod ChainStepLemmas
+pub mod ChainLemmas
+pub mod WholeChainLemmas
+pub mod FatLemmas
+pub mod CountRows
 pub mod OwnNameLemmas
 pub mod PassedLemmas
 pub mod TreeLemmas

@@ -5,7 +5,7 @@ use Rattle.msi_container_format.specs.Chains.{AreBelow, AreDistinct}
 use Rattle.msi_container_format.specs.Format.{MAX_REGULAR_SECTOR}
 use Rattle.msi_container_format.specs.Trees.{Tree, members}
 use Rattle.msi_container_format.specs.Container.{Plan, IsPlan, IsSector, IsDirectoryTree, kind, child, clsid, entry_count, has_storage, streams_among, stream_entries}
-use Rattle.msi_container_chains.specs.Counts.{links, sectors_inside}
+use Rattle.msi_container_read.specs.Counts.{links, sectors_inside}
 use Rattle.msi_container_read.specs.Reading.{AreOfKinds, IsStart, IsNamelessListing, IsMini, AreChained, IsOutline, HaveNamesApart, storages_among, mini_limit}
 use Rattle.msi_container_read.specs.Steps.{steps_of, IsWithinSectors}
 use Rattle.msi_container_read.proofs.ListingLemmas.{some_entries}

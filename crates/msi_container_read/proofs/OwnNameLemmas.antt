@@ -8,7 +8,7 @@ use Rattle.std.proofs.lemmas.Cmp.{eq_by_cmp_equiv, tied_itself}
 use Rattle.std.proofs.lemmas.List.{map_more, get_or-map, get_or-take, length-map, length-take-le, take_all}
 use Rattle.std.proofs.lemmas.List.Folds.{list_any-append, list_any_at, Any-from_list_any}
 use Rattle.std.proofs.lemmas.Map.Views.{tells_apart}
-use Rattle.msi_text_base.proofs.BoolLemmas.{first_or_second}
+use Rattle.msi_base.proofs.BoolLemmas.{first_or_second}
 use Rattle.msi_container_format.specs.Names.{name_cmp}
 use Rattle.msi_container_format.proofs.NamesLemmas.{names_total, exact_names}
 

@@ -1,9 +1,9 @@
 -- An error that is passed on keeps its kind.
 use Rattle.std.proofs.Common.{◌≡◌, ◌∙◌, ap, Result, Ok, Err, ◌⊎◌, inl, inr}
 use Rattle.std.specs.Prelude.{IsErrAnd}
-use Rattle.msi_text_base.specs.declared.errors.ErrorKind.{ErrorKind}
-use Rattle.msi_text_base.specs.declared.errors.ErrorKind.TheVariants.{InvalidData, OutOfMemory}
-use Rattle.msi_container_chains.specs.Outcomes.{ViewIsUnlessMemory, FailsByData}
+use Rattle.msi_base.specs.declared.errors.ErrorKind.{ErrorKind}
+use Rattle.msi_base.specs.declared.errors.ErrorKind.TheVariants.{InvalidData, OutOfMemory}
+use Rattle.msi_container_read.specs.Outcomes.{ViewIsUnlessMemory, FailsByData}
 
 -- it is for the bytes or for memory, as it was
 pub kind_passed : {X : Type 0} (r : Result X ErrorKind) (kind : ErrorKind) → IsErrAnd r (λ e. e ≡ kind) → (kind ≡ InvalidData) ⊎ (kind ≡ OutOfMemory) → FailsByData r

@@ -4,15 +4,15 @@ use Rattle.std.specs.List.{count_by}
 use Rattle.std.proofs.lemmas.List.Sums.{count_by-le-length}
 use Rattle.std.proofs.lemmas.Bool.{cases_lt}
 use Rattle.std.proofs.lemmas.List.{append_assoc, length-append, get_or_append_left, get_or-append_right, get_or-append-add}
-use Rattle.msi_text_base.specs.declared.errors.ErrorKind.{ErrorKind}
-use Rattle.msi_text_base.specs.declared.errors.ErrorKind.TheVariants.{InvalidData, OutOfMemory}
+use Rattle.msi_base.specs.declared.errors.ErrorKind.{ErrorKind}
+use Rattle.msi_base.specs.declared.errors.ErrorKind.TheVariants.{InvalidData, OutOfMemory}
 use Rattle.msi_container_format.specs.Chains.{AreDistinct, AreBelow}
-use Rattle.msi_container_chains.specs.Claims.{CanClaim, MarkedAre}
-use Rattle.msi_container_chains.specs.Outcomes.{FailsByData}
+use Rattle.msi_container_read.specs.Claims.{CanClaim, MarkedAre}
+use Rattle.msi_container_read.specs.Outcomes.{FailsByData}
 use Rattle.msi_container_format.specs.Trees.{Tree, members}
 use Rattle.msi_container_format.specs.Container.{Plan, IsPlan, IsSector, version, sector_size, streams_among, sectors_of_streams, all_sectors, IsListing}
 use Rattle.msi_container_read.specs.Reading.{mini_limit, IsStart, IsMini, AreChained}
-use Rattle.msi_container_chains.proofs.ClaimLemmas.{below_marked}
+use Rattle.msi_container_read.proofs.ClaimLemmas.{below_marked}
 
 -- WHAT CAN BE CLAIMED
 

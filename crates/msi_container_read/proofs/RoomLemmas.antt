@@ -1,7 +1,7 @@
 -- How many sectors are in use, and how many steps are left, over plain numbers and vectors.
 use Rattle.std.proofs.Common.{◌≡◌, ℕ, ◌+◌, ◌-◌, ◌*◌, ◌<◌, ◌≤◌, ◌^◌, Bool, List, [], ◌∷◌, ◌++◌, length, ap, arith, Vec, Global, vec_len}
 use Rattle.std.specs.List.{count_by}
-use Rattle.msi_container_chains.proofs.StepLemmas.{used_more, used_one_more}
+use Rattle.msi_container_read.proofs.ChainStepLemmas.{used_more, used_one_more}
 use Rattle.msi_container_read.proofs.PlanPartsLemmas.{few_claimed}
 
 -- what was taken into use in two calls is no more than there are marks

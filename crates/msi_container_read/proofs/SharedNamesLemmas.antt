@@ -1,8 +1,8 @@
 -- Names of storages and of streams: each has its own exactly where no two storages, no two streams, and no storage and stream share one.
 use Rattle.std.proofs.Common.{◌≡◌, ◌≢◌, ℕ, zero, suc, ◌<◌, Bool, true, false, cond, eqb, List, [], ◌∷◌, length, get_or, filter, ◌⊎◌, inl, inr, sym, ap, arith, refl, Result, Err}
 use Rattle.std.proofs.lemmas.Bool.{eq-eqb, eqb-true, false≢true}
-use Rattle.msi_text_base.specs.declared.errors.ErrorKind.{ErrorKind}
-use Rattle.msi_text_base.specs.declared.errors.ErrorKind.TheVariants.{InvalidData}
+use Rattle.msi_base.specs.declared.errors.ErrorKind.{ErrorKind}
+use Rattle.msi_base.specs.declared.errors.ErrorKind.TheVariants.{InvalidData}
 use Rattle.msi_container_format.specs.Trees.{Tree, members}
 use Rattle.msi_container_format.specs.Container.{kind, name, HasName, AreEntries, HaveOwnNames, IsListing, Plan, IsPlan, stream_entries, streams_among}
 use Rattle.msi_container_format.proofs.PlanOnceLemmas.{Each}

@@ -3,7 +3,7 @@ use Rattle.std.proofs.Common.{◌≡◌, ◌≢◌, ℕ, ◌<◌, List, [], ◌�
 use Rattle.std.specs.List.{AllZip}
 use Rattle.std.proofs.lemmas.List.{append_assoc, append-nil, get_or_at, get_or_append_left, length-append}
 use Rattle.msi_container_format.specs.Chains.{AreDistinct}
-use Rattle.msi_container_chains.specs.Claims.{IsFree}
+use Rattle.msi_container_read.specs.Claims.{IsFree}
 use Rattle.msi_container_format.specs.Trees.{Tree, Leaf, Node, members, IsSpelled}
 use Rattle.msi_container_format.specs.Format.{NO_ENTRY}
 

@@ -1,4 +1,8 @@
 -- The words of this crate.
+pub mod Claims
+pub mod Walks
+pub mod Outcomes
+pub mod Counts
 pub mod Reading
 pub mod Steps
 pub mod Listings

@@ -12,7 +12,7 @@ use Rattle.msi_container_format.specs.Container.{IsMembers, is_mini, all_sectors
 use Rattle.msi_container_format.specs.Container.{kind, child, name, HasName, HaveOwnNames, IsDirectoryTree, Plan, clsid}
 use Rattle.msi_container_format.specs.Container.{has_storage, stream_entries}
 use Rattle.msi_container_format.specs.Trees.{Tree, members}
-use Rattle.msi_container_chains.specs.Claims.{CanClaim}
+use Rattle.msi_container_read.specs.Claims.{CanClaim}
 
 -- the sectors of the DIFAT, the FAT and the directory
 pub record IsStart (bytes : List ℕ) (limit : ℕ) (difat fat directory : List ℕ) : Type 0 where

@@ -3,23 +3,23 @@
 ghost use Rattle.std.specs.Prelude.{◌≡◌, ℕ, List, [], ◌+◌, ◌*◌, ◌<◌, ◌≤◌, ◌^◌, ◌++◌, length, take, map, IfOk, OnOk};
 ghost use Rattle.std.specs.Prelude.{OnErr, IsErrOf};
 ghost use Rattle.std.specs.List.{range_with_len};
-ghost use Rattle.msi_text_base.specs.declared.errors.ErrorKind.TheVariants.{InvalidData};
+ghost use Rattle.msi_base.specs.declared.errors.ErrorKind.TheVariants.{InvalidData};
 ghost use Rattle.msi_container_format.specs.Bytes as spelled;
 ghost use Rattle.msi_container_format.specs.Chains.{AreBelow, AreDistinct};
-ghost use Rattle.msi_container_chains.specs.Outcomes.{ViewIsUnlessMemory, FailsByData};
+ghost use Rattle.msi_container_read.specs.Outcomes.{ViewIsUnlessMemory, FailsByData};
 ghost use Rattle.msi_container_format.specs.Container as container;
 ghost use Rattle.msi_container_read.specs.Reading as spec;
 ghost use Rattle.msi_container_format.specs.Trees.{Tree, members};
 
+use crate::parts::{Claimed, Claims, sector_size};
 use crate::reasons;
-use msi_container_chains::parts::{Claimed, Claims, sector_size};
+use msi_base::{Error, ErrorKind};
 use msi_container_format::format::{
     CHILD_AT, CLSID_AT, ENTRY_SIZE, KIND_AT, LEFT_AT, MAX_UNITS, NAME_SIZE_AT, NO_ENTRY, RIGHT_AT,
     SIZE_AT, START_AT, STORAGE, STREAM, VERSION_4, VERSION_AT,
 };
 use msi_container_format::name::Name;
 use msi_container_format::parts::{byte, number16, number32, number64, place};
-use msi_text_base::{Error, ErrorKind};
 use std::alloc::Global;
 
 /// The directory that stands in these sectors, 128 bytes for each entry.

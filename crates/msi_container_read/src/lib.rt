@@ -1,16 +1,22 @@
 //! Reads a compound file (MS-CFB): every file that the grammar accepts, and no other.
 #![tactic(auto)]
 
+mod claims;
 mod directory;
+mod fat;
+mod header;
 mod listing;
 mod names;
+pub mod parts;
 mod reading;
 mod reasons;
 mod runs;
 mod sizes;
 mod streams;
+mod table;
+mod walks;
 
 pub use listing::list;
-pub use msi_container_chains::parts::Steps;
+pub use parts::Steps;
 pub use reading::{read, read_counted, read_shared};
 pub use sizes::{Listing, Sizes};

@@ -2,21 +2,21 @@
 
 ghost use Rattle.std.specs.Prelude.{◌≡◌, IfOk, OnOk, IsErrOf};
 ghost use Rattle.std.specs.FinMap.{from_entries};
-ghost use Rattle.msi_text_base.specs.Results.{IsUnlessMemory};
-ghost use Rattle.msi_text_base.specs.declared.errors.ErrorKind.TheVariants.{InvalidData};
+ghost use Rattle.msi_base.specs.Results.{IsUnlessMemory};
+ghost use Rattle.msi_base.specs.declared.errors.ErrorKind.TheVariants.{InvalidData};
 ghost use Rattle.msi_container_format.specs.declared.contents.Contents as held;
 ghost use Rattle.msi_container_format.specs.Chains.{AreBelow};
 ghost use Rattle.msi_container_format.specs.Container as container;
 ghost use Rattle.msi_container_read.specs.Listings.{listing_of, named_sizes};
-ghost use Rattle.msi_container_chains.specs.Outcomes.{FailsByData};
+ghost use Rattle.msi_container_read.specs.Outcomes.{FailsByData};
 ghost use Rattle.msi_container_read.specs.Reading.{HaveNamesApart};
 
 use crate::directory::Directory;
 use crate::names::{insert_size, names_of, own_name};
+use crate::parts::Steps;
 use crate::reading::read_outline;
 use crate::sizes::{Listing, Sizes};
-use msi_container_chains::parts::Steps;
-use msi_text_base::Error;
+use msi_base::Error;
 use std::alloc::Global;
 
 /// Returns the names and sizes of the streams that `read` would return, and whether storages lie below the root. No

@@ -3,19 +3,19 @@
 ghost use Rattle.std.specs.Prelude.{◌≡◌, ℕ, List, ◌<◌, true, false, IfOk, OnOk, OnErr, IsErrOf};
 ghost use Rattle.std.specs.BTreeSet.{contains};
 ghost use Rattle.std.specs.FinMap as finite;
-ghost use Rattle.msi_text_base.specs.declared.errors.ErrorKind.TheVariants.{InvalidData};
+ghost use Rattle.msi_base.specs.declared.errors.ErrorKind.TheVariants.{InvalidData};
 ghost use Rattle.msi_container_format.specs.Chains.{AreBelow};
 ghost use Rattle.msi_container_format.specs.Container as container;
 ghost use Rattle.msi_container_format.specs.Names.{name_cmp};
-ghost use Rattle.msi_container_chains.specs.Outcomes.{FailsByData};
+ghost use Rattle.msi_container_read.specs.Outcomes.{FailsByData};
 ghost use Rattle.msi_container_read.specs.Reading.{AreNamed, has_name};
 
 use crate::directory::Directory;
 use crate::reasons;
 use crate::sizes::Sizes;
+use msi_base::{Error, ErrorKind};
 use msi_container_format::contents::{Bytes, StreamMap};
 use msi_container_format::name::Name;
-use msi_text_base::{Error, ErrorKind};
 use std::alloc::Global;
 use std::collections::BTreeSet;
 

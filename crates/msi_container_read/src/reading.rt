@@ -2,36 +2,36 @@
 
 ghost use Rattle.std.specs.Prelude.{◌≡◌, ℕ, List, [], ◌+◌, ◌-◌, ◌<◌, ◌≤◌, ◌^◌, ◌++◌, length, sum_by, vec_len, IfOk};
 ghost use Rattle.std.specs.Prelude.{IfSome, OnOk, OnErr, IsErrOf};
-ghost use Rattle.msi_text_base.specs.Results.{IsUnlessMemory};
-ghost use Rattle.msi_text_base.specs.declared.errors.ErrorKind.TheVariants.{InvalidData};
+ghost use Rattle.msi_base.specs.Results.{IsUnlessMemory};
+ghost use Rattle.msi_base.specs.declared.errors.ErrorKind.TheVariants.{InvalidData};
 ghost use Rattle.std.specs.List.{AllZip};
 ghost use Rattle.msi_container_format.specs.declared.contents.Contents as held;
 ghost use Rattle.msi_container_format.specs.Chains.{AreBelow};
-ghost use Rattle.msi_container_chains.specs.Claims.{CanClaim};
-ghost use Rattle.msi_container_chains.specs.Outcomes.{ViewIsUnlessMemory, FailsByData};
+ghost use Rattle.msi_container_read.specs.Claims.{CanClaim};
+ghost use Rattle.msi_container_read.specs.Outcomes.{ViewIsUnlessMemory, FailsByData};
 ghost use Rattle.msi_container_format.specs.Container as container;
 ghost use Rattle.msi_container_format.specs.Format as marks;
 ghost use Rattle.msi_container_format.specs.Container.{IsMiniFat};
 ghost use Rattle.msi_container_read.specs.Reading.{IsStart, IsNamelessListing, IsMini, AreChained, IsCovered};
 ghost use Rattle.msi_container_read.specs.Reading.{IsOutline, HaveNamesApart, storages_among, mini_limit, views};
 ghost use Rattle.msi_container_read.specs.Steps as counted;
-ghost use Rattle.msi_container_chains.specs.Counts.{links};
+ghost use Rattle.msi_container_read.specs.Counts.{links};
 ghost use Rattle.msi_container_format.specs.Trees.{Tree, members};
 
 use crate::directory::{Directory, check_kinds, reach};
-use crate::reasons;
-use crate::streams::{Tables, Uses, collect, has_storage, of_kind, walk_each};
-use msi_container_chains::parts::{
+use crate::parts::{
     AllocationTable, Claimed, Claims, Steps, check_header, read_difat, read_fat, sector_count,
     sector_size, walk, walk_to_end,
 };
+use crate::reasons;
+use crate::streams::{Tables, Uses, collect, has_storage, of_kind, walk_each};
+use msi_base::{Error, ErrorKind};
 use msi_container_format::contents::Contents;
 use msi_container_format::format::{
     DIRECTORY_START_AT, MAX_REGULAR_SECTOR, MINI_FAT_START_AT, MINI_SECTOR_SIZE, ROOT, STORAGE,
     STREAM,
 };
 use msi_container_format::parts::number32;
-use msi_text_base::{Error, ErrorKind};
 use std::alloc::Global;
 use std::rc::Rc;
 

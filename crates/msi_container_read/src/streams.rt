@@ -4,22 +4,22 @@ ghost use Rattle.std.specs.Prelude.{◌≡◌, ℕ, List, ◌+◌, ◌*◌, ◌<
 ghost use Rattle.std.specs.Prelude.{IfSome, OnOk, filter, ◌==◌, map, sum_by};
 ghost use Rattle.std.specs.List.{AllZip, range_with_len};
 ghost use Rattle.std.specs.FinMap.{from_entries};
-ghost use Rattle.msi_text_base.specs.declared.errors.ErrorKind.TheVariants.{InvalidData, OutOfMemory};
+ghost use Rattle.msi_base.specs.declared.errors.ErrorKind.TheVariants.{InvalidData, OutOfMemory};
 ghost use Rattle.msi_container_format.specs.Chains.{AreBelow};
-ghost use Rattle.msi_container_chains.specs.Claims.{CanClaim};
-ghost use Rattle.msi_container_chains.specs.Outcomes.{ViewIsUnlessMemory, FailsByData};
+ghost use Rattle.msi_container_read.specs.Claims.{CanClaim};
+ghost use Rattle.msi_container_read.specs.Outcomes.{ViewIsUnlessMemory, FailsByData};
 ghost use Rattle.msi_container_format.specs.Container as container;
 ghost use Rattle.msi_container_read.specs.Reading as spec;
-ghost use Rattle.msi_container_chains.specs.Counts.{links};
+ghost use Rattle.msi_container_read.specs.Counts.{links};
 
 use crate::directory::Directory;
 use crate::names::{insert_stream, names_of, own_name};
+use crate::parts::{AllocationTable, Claims, Steps, sector_size, walk};
 use crate::runs::run_start;
-use msi_container_chains::parts::{AllocationTable, Claims, Steps, sector_size, walk};
+use msi_base::Error;
 use msi_container_format::contents::{Bytes, StreamMap};
 use msi_container_format::format::{MINI_SECTOR_SIZE, MINI_STREAM_CUTOFF, STORAGE};
 use msi_container_format::parts::{part_of, place, push_bytes};
-use msi_text_base::Error;
 use std::alloc::Global;
 use std::rc::Rc;
 

@@ -12,7 +12,7 @@ use Rattle.std.proofs.lemmas.Bool.{cases_lt, false≢true}
 use Rattle.std.proofs.lemmas.List.{get_or-map, get_or_default, length-map}
 use Rattle.std.proofs.lemmas.Map.Keys.{IsDistinct-cons, IsDistinct-from_apart, apart_from_distinct}
 use Rattle.std.proofs.lemmas.Map.Views.{Contains-from_lookup, lookup-from_Contains, tells_apart}
-use Rattle.msi_text_base.proofs.BoolLemmas.{T_parts}
+use Rattle.msi_base.proofs.BoolLemmas.{T_parts}
 use Rattle.msi_container_format.specs.Names.{name_cmp}
 use Rattle.msi_container_write.proofs.BalanceLemmas.{Covers}
 use Rattle.msi_container_format.proofs.NamesLemmas.{exact_names, find_is_lookup, get_is_lookup, names_total}

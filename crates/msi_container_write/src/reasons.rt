@@ -1,6 +1,6 @@
 //! Why contents make no file.
 
-use msi_text_base::Reason;
+use msi_base::Reason;
 
 pub(crate) const STORAGES: Reason = Reason("storages lie below the root");
 

@@ -4,7 +4,7 @@ ghost use Rattle.std.specs.Prelude.{◌≡◌, ◌↔◌, ◌<◌, ◌≤◌, �
 ghost use Rattle.std.specs.Prelude.{IfErr, IfOk, IsErr, IsOk};
 ghost use Rattle.std.specs.Prelude.{IsErrOf, IsTrue, OnErr, OnOk, IfSome, IsNone, not};
 ghost use Rattle.std.specs.FinMap as finite;
-ghost use Rattle.msi_text_base.specs.declared.errors.ErrorKind.TheVariants.{InvalidInput, Io, OutOfMemory};
+ghost use Rattle.msi_base.specs.declared.errors.ErrorKind.TheVariants.{InvalidInput, Io, OutOfMemory};
 ghost use Rattle.msi_container_device.specs.Faults.{is_io};
 ghost use Rattle.msi_container_device.specs.Held.{StandsInPart, with_piece};
 ghost use Rattle.msi_container_format.specs.Container.{Holds};
@@ -22,11 +22,11 @@ use crate::reasons;
 use crate::totals::{
     MAX_SECTORS, directory_sectors, least_total, mini_fat_sectors, mini_stream_sectors,
 };
+use msi_base::{Error, ErrorKind};
 use msi_container_device::Device;
 use msi_container_device::parts::write_all;
 use msi_container_format::contents::{Contents, StreamMap};
 use msi_container_format::format::{MINI_SECTOR_SIZE, SECTOR_SIZE_3};
-use msi_text_base::{Error, ErrorKind};
 use std::alloc::{AllocError, Global};
 
 /// The most mini sectors whose mini stream is no longer than the greatest file.

@@ -3,14 +3,14 @@ use Rattle.std.proofs.Common.{◌≡◌, ℕ, Bool, true, false, not, ◌&&◌, 
 use Rattle.std.specs.Prelude.{if◌then◌else◌, nat_lt}
 use Rattle.std.proofs.lemmas.Bool.{true≢false}
 use Rattle.msi_container_format.specs.Names.{is_name_length}
-use Rattle.msi_text_pool_base.specs.Pool.{Pool}
+use Rattle.msi_pool_places.specs.Pool.{Pool}
 use Rattle.msi_table_cells.specs.declared.cell.ValueRef.{ValueRef}
 use Rattle.msi_table_values.specs.Columns.{ColumnDef, types_of}
 use Rattle.msi_table_cells.specs.Fitting.{FitsTable}
 use Rattle.msi_table.specs.Tables.{CanStore, TableDef, long_table_of}
-use Rattle.msi_database_system.specs.Keys.{table_key}
-use Rattle.msi_database_cells.specs.Texts.{UsedPool, settled, widens}
-use Rattle.msi_database_cells.specs.declared.storing.Stored.{Stored}
+use Rattle.msi_database_schema.specs.Keys.{table_key}
+use Rattle.msi_database_changes.specs.Texts.{UsedPool, settled, widens}
+use Rattle.msi_database_changes.specs.declared.storing.Stored.{Stored}
 use Rattle.msi_database_storage.specs.Kept.{Kept, kept_widened, with_table_kept}
 use Rattle.msi_database_storage.specs.Streams.{stream_of_rows}
 use Rattle.msi_database_changes.specs.Create.{SystemRows}

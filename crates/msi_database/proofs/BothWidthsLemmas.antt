@@ -3,23 +3,23 @@ use Rattle.std.proofs.Common.{◌≡◌, ℕ, ◌≤◌, Bool, true, false, not,
 use Rattle.std.specs.Prelude.{if◌then◌else◌}
 use Rattle.std.proofs.lemmas.Bool.{true≢false}
 use Rattle.std.proofs.lemmas.Bool.Decides.{nat_tests}
-use Rattle.msi_text_base.specs.declared.errors.ErrorKind.{ErrorKind}
-use Rattle.msi_text_pool_base.specs.FirstFit.{most_places}
-use Rattle.msi_text_pool_base.specs.Pool.{Pool}
+use Rattle.msi_base.specs.declared.errors.ErrorKind.{ErrorKind}
+use Rattle.msi_pool_places.specs.FirstFit.{most_places}
+use Rattle.msi_pool_places.specs.Pool.{Pool}
 use Rattle.msi_database.proofs.GivenBackLemmas.{given_back_gives}
-use Rattle.msi_text_pool_base.proofs.TakenLemmas.{taken_takes}
+use Rattle.msi_pool_places.proofs.TakenLemmas.{taken_takes}
 use Rattle.msi_table_cells.specs.declared.cell.ValueRef.{ValueRef}
 use Rattle.msi_table_values.specs.Columns.{ColumnDef, types_of}
 use Rattle.msi_table_cells.specs.Fitting.{FitsTable}
 use Rattle.msi_table.specs.Tables.{TableDef}
-use Rattle.msi_database_system.specs.Keys.{table_key}
-use Rattle.msi_database_cells.specs.Texts.{PoolInUse, UsedPool, in_use, settled}
+use Rattle.msi_database_schema.specs.Keys.{table_key}
+use Rattle.msi_database_changes.specs.Texts.{PoolInUse, UsedPool, in_use, settled}
 use Rattle.msi_database_changes.specs.Database.{Database, Tables, is_sound}
 use Rattle.msi_database_changes.specs.Changes.{Change, no_change, with_stored}
 use Rattle.msi_database_changes.specs.Widening.{needs_three_bytes, widened, widening}
 use Rattle.msi_database_changes.proofs.AtWidthLemmas.{IsChangeAtWidth, sound_widened}
 use Rattle.msi_database_changes.proofs.LawLemmas.{changes_keep_soundness}
-use Rattle.msi_database_cells.specs.declared.storing.Stored.{Stored}
+use Rattle.msi_database_changes.specs.declared.storing.Stored.{Stored}
 use Rattle.msi_database_storage.specs.Storing.{stored_in}
 use Rattle.msi_database_storage.specs.Streams.{stream_of_rows}
 use Rattle.msi_database_storage.specs.Kept.{AreAsLong, Kept, after_change, base_of, database_kept, kept_widened, schema_listed, with_change}

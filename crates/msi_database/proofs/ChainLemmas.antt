@@ -3,24 +3,24 @@ use Rattle.std.proofs.Common.{◌≡◌, ℕ, true, false, not, List, [], ◌∷
 use Rattle.std.specs.Prelude.{Result}
 use Rattle.std.specs.List.{fold}
 use Rattle.std.proofs.lemmas.Bool.{or_parts}
-use Rattle.msi_text_base.specs.declared.errors.ErrorKind.{ErrorKind}
-use Rattle.msi_text_base.specs.declared.errors.ErrorKind.TheVariants.{InvalidInput, NotFound}
-use Rattle.msi_text_pool_base.specs.Pool.{Place}
+use Rattle.msi_base.specs.declared.errors.ErrorKind.{ErrorKind}
+use Rattle.msi_base.specs.declared.errors.ErrorKind.TheVariants.{InvalidInput, NotFound}
+use Rattle.msi_pool_places.specs.Pool.{Place}
 use Rattle.msi_table_values.specs.declared.value.Value.{Value}
 use Rattle.msi_table_values.specs.declared.value.Value.TheVariants.{Str}
 use Rattle.msi_table_cells.specs.declared.cell.ValueRef.{ValueRef}
 use Rattle.msi_table_values.specs.Columns.{ColumnDef}
 use Rattle.msi_table_cells.specs.StoredOrder.{in_stored_order}
-use Rattle.msi_text_base.specs.Refusals.{first_refusal, or_refused, ◌>>=◌}
+use Rattle.msi_base.specs.Refusals.{first_refusal, or_refused, ◌>>=◌}
 use Rattle.msi_table_cells.specs.TableCells.{TableCells}
-use Rattle.msi_database_system.specs.Keys.{is_table_name}
-use Rattle.msi_database_system.specs.System.{is_schema_table, is_system_table, tables_name, columns_name, validation_name}
-use Rattle.msi_database_system.specs.Description.{column_rows, validation_rows}
+use Rattle.msi_database_schema.specs.Keys.{is_table_name}
+use Rattle.msi_database_schema.specs.System.{is_schema_table, is_system_table, tables_name, columns_name, validation_name}
+use Rattle.msi_database_schema.specs.Description.{column_rows, validation_rows}
 use Rattle.msi_database_schema.proofs.RowOrderLemmas.{names_total}
 use Rattle.msi_database_schema.proofs.FaultLemmas.{texts_flip}
 use Rattle.msi_database_changes.specs.Database.{Database, is_sound, table_at, rows_of}
 use Rattle.msi_database_changes.specs.Changes.{Change, no_change, pool_of, with_stored, sound_refusal}
-use Rattle.msi_database_cells.specs.Texts.{PoolInUse, rows_released}
+use Rattle.msi_database_changes.specs.Texts.{PoolInUse, rows_released}
 use Rattle.msi_database_changes.specs.Insert.{cells_added, rows_inserted, row_refusals}
 use Rattle.msi_database_changes.specs.Create.{create_at_width, table_refusals, with_new_table}
 use Rattle.msi_database_changes.specs.Drop.{drop_table, is_row_about, rows_forgotten, table_released}

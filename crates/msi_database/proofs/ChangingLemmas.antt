@@ -2,18 +2,18 @@
 use Rattle.std.proofs.Common.{◌≡◌, Bool, true, List, map, Option, Some, None, is_some, Result, Ok, Err, sym, ap, subst, ◌∙◌, option_map, inl, inr, IfErr}
 use Rattle.std.specs.FinMap.{entries}
 use Rattle.msi_container_format.specs.Streams as maps
-use Rattle.msi_text_base.specs.declared.errors.ErrorKind.{ErrorKind}
-use Rattle.msi_text_base.specs.declared.errors.ErrorKind.TheVariants.{InvalidData}
-use Rattle.msi_text_base.specs.Results.{OnlyMemory}
-use Rattle.msi_text_pool_base.specs.Pool.{Pool}
+use Rattle.msi_base.specs.declared.errors.ErrorKind.{ErrorKind}
+use Rattle.msi_base.specs.declared.errors.ErrorKind.TheVariants.{InvalidData}
+use Rattle.msi_base.specs.Results.{OnlyMemory}
+use Rattle.msi_pool_places.specs.Pool.{Pool}
 use Rattle.msi_table_cells.specs.declared.cell.ValueRef.{ValueRef}
 use Rattle.msi_table.specs.Tables.{TableDef}
-use Rattle.msi_text_base.specs.Refusals.{IsRefusal, or_refused}
+use Rattle.msi_base.specs.Refusals.{IsRefusal, or_refused}
 use Rattle.msi_database_changes.specs.Database.{is_sound, table_at}
 use Rattle.msi_database_changes.specs.Insert.{table_with}
 use Rattle.msi_database_storage.specs.Streams.{Streams, stored_rows}
-use Rattle.msi_database_cells.specs.declared.storing.Stored.{Stored}
-use Rattle.msi_database_cells.specs.Storing.{stored_all}
+use Rattle.msi_database_changes.specs.declared.storing.Stored.{Stored}
+use Rattle.msi_database_changes.specs.Storing.{stored_all}
 use Rattle.msi_database_storage.specs.Storing.{stored_in}
 use Rattle.msi_database_storage.specs.Kept.{Kept, kept_of, table_kept, table_kept_at, database_kept, AreAsLong}
 use Rattle.msi_database_storage.proofs.TableAtLemmas.{table_at_kept}

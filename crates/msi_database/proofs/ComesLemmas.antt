@@ -4,14 +4,14 @@ use Rattle.std.specs.Prelude.{MatchBool}
 use Rattle.std.specs.List.{list_any, list_all, AllByRecursion}
 use Rattle.std.specs.FinMap.{find}
 use Rattle.std.proofs.lemmas.Bool.{and_parts}
-use Rattle.msi_text_base.specs.Lists.{list_cmp}
+use Rattle.msi_base.specs.Lists.{list_cmp}
 use Rattle.msi_container_format.specs.Names.{is_name_length}
 use Rattle.msi_table_cells.specs.declared.cell.ValueRef.{ValueRef}
 use Rattle.msi_table_values.specs.Columns.{types_of}
 use Rattle.msi_table_cells.specs.Fitting.{FitsRow}
 use Rattle.msi_table_cells.specs.TableCells.{TableCells}
-use Rattle.msi_database_system.specs.Keys.{is_table_name}
-use Rattle.msi_database_system.specs.System.{validation_name, validation_columns}
+use Rattle.msi_database_schema.specs.Keys.{is_table_name}
+use Rattle.msi_database_schema.specs.System.{validation_name, validation_columns}
 use Rattle.msi_database_schema.specs.Schema.{schema_of}
 use Rattle.msi_database_schema.proofs.OrderlessLemmas.{HasKinds}
 use Rattle.msi_database_changes.specs.Database.{Database, Tables, has_table, is_sound, table_at}
@@ -26,7 +26,7 @@ use Rattle.msi_database_storage.specs.Streams.{Streams, stored_rows, stored_stre
 use Rattle.msi_database_storage.specs.Kept.{Kept, with_change}
 use Rattle.msi_database_storage.specs.Agreement.{TablesAre, UnlistedIs}
 use Rattle.msi_database.specs.Keeping.{IsKeptDatabase}
-use Rattle.msi_database_system.proofs.KeyLemmas.{validation_accepted, table_key_is_name}
+use Rattle.msi_database_schema.proofs.KeyLemmas.{validation_accepted, table_key_is_name}
 use Rattle.msi_database_storage.proofs.StreamLemmas.{tables_found}
 use Rattle.msi_database.proofs.SoundLemmas.{sound_names, sound_pool}
 use Rattle.msi_database_storage.proofs.StoredLemmas.{AreNames, IsStoredOrStays, tables_are, rows_stay, all_sorted, all_names}

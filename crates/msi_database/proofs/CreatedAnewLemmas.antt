@@ -3,23 +3,23 @@ use Rattle.std.proofs.Common.{◌≡◌, ℕ, ◌≤◌, Bool, true, false, List
 use Rattle.std.specs.Prelude.{IsSomeAnd}
 use Rattle.std.specs.Option.{option_map_or}
 use Rattle.std.proofs.lemmas.Bool.{leb-true}
-use Rattle.msi_text_base.specs.declared.errors.ErrorKind.{ErrorKind}
-use Rattle.msi_text_base.specs.declared.errors.ErrorKind.TheVariants.{InvalidData, InvalidInput, NotFound}
-use Rattle.msi_text_pool_base.specs.FirstFit.{most_places}
-use Rattle.msi_text_pool_base.specs.Pool.{Pool}
+use Rattle.msi_base.specs.declared.errors.ErrorKind.{ErrorKind}
+use Rattle.msi_base.specs.declared.errors.ErrorKind.TheVariants.{InvalidData, InvalidInput, NotFound}
+use Rattle.msi_pool_places.specs.FirstFit.{most_places}
+use Rattle.msi_pool_places.specs.Pool.{Pool}
 use Rattle.msi_table_values.specs.declared.value.Value.{Value}
 use Rattle.msi_table_cells.specs.declared.cell.ValueRef.{ValueRef}
 use Rattle.msi_table_values.specs.Columns.{ColumnDef, types_of}
 use Rattle.msi_table_cells.specs.Fitting.{FitsTable}
 use Rattle.msi_table_cells.specs.KeyOrder.{in_key_order}
 use Rattle.msi_table.specs.Tables.{TableDef}
-use Rattle.msi_text_base.specs.Refusals.{IsRefusal, Refusals, first_refusal, or_refused, unless, unless_refused, ◌>>=◌}
+use Rattle.msi_base.specs.Refusals.{IsRefusal, Refusals, first_refusal, or_refused, unless, unless_refused, ◌>>=◌}
 use Rattle.msi_table_cells.specs.TableCells.{TableCells}
-use Rattle.msi_database_system.specs.Description.{column_rows, tables_row, validation_rows}
-use Rattle.msi_database_system.specs.Keys.{table_key}
-use Rattle.msi_database_system.specs.System.{columns_name, tables_name, validation_name}
-use Rattle.msi_database_cells.specs.Texts.{PoolInUse, UsedPool, in_use, rows_put, settled}
-use Rattle.msi_database_cells.proofs.NarrowLemmas.{rows_put_grows}
+use Rattle.msi_database_schema.specs.Description.{column_rows, tables_row, validation_rows}
+use Rattle.msi_database_schema.specs.Keys.{table_key}
+use Rattle.msi_database_schema.specs.System.{columns_name, tables_name, validation_name}
+use Rattle.msi_database_changes.specs.Texts.{PoolInUse, UsedPool, in_use, rows_put, settled}
+use Rattle.msi_database_changes.proofs.NarrowLemmas.{rows_put_grows}
 use Rattle.msi_database_changes.specs.Database.{Database, is_sound, rows_of, table_at}
 use Rattle.msi_database_changes.specs.Changes.{no_change, pool_of}
 use Rattle.msi_database_changes.specs.Widening.{widened}
@@ -28,9 +28,9 @@ use Rattle.msi_database_changes.specs.Insert.{cells_added, row_refusals, table_w
 use Rattle.msi_database_changes.proofs.AtWidthLemmas.{created, sound_widened}
 use Rattle.msi_database_changes.proofs.RefusedLemmas.{bind_ok, not_refused, same_Ok, value_there}
 use Rattle.msi_database_changes.proofs.TurnLemmas.{map_some}
-use Rattle.msi_database_cells.specs.declared.storing.Stored.{Stored}
+use Rattle.msi_database_changes.specs.declared.storing.Stored.{Stored}
 use Rattle.msi_database_storage.specs.Kept.{Kept, kept_widened, with_table_kept}
-use Rattle.msi_database_cells.specs.Storing.{HaveOwnNames}
+use Rattle.msi_database_changes.specs.Storing.{HaveOwnNames}
 use Rattle.msi_database_storage.specs.Streams.{stream_of_rows}
 use Rattle.msi_database_changes.specs.Create.{SystemRows}
 use Rattle.msi_database_storage.specs.Storing.{stream_gone}

@@ -1,29 +1,29 @@
 -- Creating a table: the streams that a call makes one by one are what the change leaves, and what refuses them refuses the change.
 use Rattle.std.proofs.Common.{◌≡◌, ℕ, true, List, [], ◌∷◌, ◌++◌, Option, Some, None, Result, Ok, Err, refl, sym, ap, subst, ◌∙◌, inl, inr}
 use Rattle.std.specs.Prelude.{option_map, IfOk, OnOk}
-use Rattle.msi_text_base.specs.declared.errors.ErrorKind.{ErrorKind}
-use Rattle.msi_text_base.specs.declared.errors.ErrorKind.TheVariants.{InvalidInput, NotFound}
-use Rattle.msi_text_pool_base.specs.Pool.{Pool}
+use Rattle.msi_base.specs.declared.errors.ErrorKind.{ErrorKind}
+use Rattle.msi_base.specs.declared.errors.ErrorKind.TheVariants.{InvalidInput, NotFound}
+use Rattle.msi_pool_places.specs.Pool.{Pool}
 use Rattle.msi_table_values.specs.declared.value.Value.{Value}
 use Rattle.msi_table_cells.specs.declared.cell.ValueRef.{ValueRef}
 use Rattle.msi_table_values.specs.Columns.{ColumnDef}
 use Rattle.msi_table.specs.Tables.{TableDef}
-use Rattle.msi_text_base.specs.Refusals.{IsRefusal, first_refusal, or_refused, unless, unless_refused, ◌>>=◌}
+use Rattle.msi_base.specs.Refusals.{IsRefusal, first_refusal, or_refused, unless, unless_refused, ◌>>=◌}
 use Rattle.msi_table_cells.specs.TableCells.{TableCells}
-use Rattle.msi_database_system.specs.Description.{column_rows, tables_row, validation_rows}
-use Rattle.msi_database_system.specs.Keys.{table_key}
-use Rattle.msi_database_system.specs.System.{tables_name, columns_name, validation_name}
+use Rattle.msi_database_schema.specs.Description.{column_rows, tables_row, validation_rows}
+use Rattle.msi_database_schema.specs.Keys.{table_key}
+use Rattle.msi_database_schema.specs.System.{tables_name, columns_name, validation_name}
 use Rattle.msi_database_changes.specs.Database.{Database, is_sound, table_at, rows_of}
 use Rattle.msi_database_changes.specs.Changes.{Change, no_change, pool_of, sound_refusal, with_stored}
-use Rattle.msi_database_cells.specs.Texts.{PoolInUse}
+use Rattle.msi_database_changes.specs.Texts.{PoolInUse}
 use Rattle.msi_database_changes.specs.Create.{create_at_width, table_refusals, with_new_table}
 use Rattle.msi_database_changes.specs.Insert.{cells_added, row_refusals, rows_inserted}
 use Rattle.msi_database_changes.proofs.AtWidthLemmas.{created}
 use Rattle.msi_database_changes.proofs.RefusedLemmas.{bind_ok, first_refused, not_refused, same_Ok, value_there}
 use Rattle.msi_database_changes.proofs.TurnLemmas.{map_some}
-use Rattle.msi_database_cells.specs.declared.storing.Stored.{Stored}
+use Rattle.msi_database_changes.specs.declared.storing.Stored.{Stored}
 use Rattle.msi_database_storage.specs.Kept.{Kept, kept_of, database_kept, with_table_kept}
-use Rattle.msi_database_cells.specs.Storing.{HaveOwnNames}
+use Rattle.msi_database_changes.specs.Storing.{HaveOwnNames}
 use Rattle.msi_database_storage.specs.Storing.{tables_stored}
 use Rattle.msi_database_storage.specs.Streams.{Streams, stream_of_rows}
 use Rattle.msi_database_storage.specs.Storing.{stream_gone}

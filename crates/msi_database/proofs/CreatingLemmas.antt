@@ -1,8 +1,8 @@
 -- Why a new table is refused: behind a test that passed, and before others.
 use Rattle.std.proofs.Common.{◌≡◌, Bool, true, false, not, Result, Ok, [], ◌∷◌, ◌++◌, Err, sym, ap}
 use Rattle.std.specs.Prelude.{IsErrAnd}
-use Rattle.msi_text_base.specs.declared.errors.ErrorKind.{ErrorKind}
-use Rattle.msi_text_base.specs.Refusals.{Refusals, unless_refused}
+use Rattle.msi_base.specs.declared.errors.ErrorKind.{ErrorKind}
+use Rattle.msi_base.specs.Refusals.{Refusals, unless_refused}
 use Rattle.msi_database_changes.proofs.RefusedLemmas.{first_refused, front_holds, refused_first}
 
 pub error_passed : {A : Type 0} (r : Result A ErrorKind) (k : ErrorKind) → IsErrAnd r (λ e. e ≡ k) → r ≡ Err k

@@ -8,13 +8,13 @@ use Rattle.std.specs.Ordering.{eq_by_cmp}
 use Rattle.std.proofs.lemmas.Bool.{cases_Bool, and_parts, true≢false}
 use Rattle.std.proofs.lemmas.Option.{none-some, same_Some, option_and_then_some}
 use Rattle.std.proofs.lemmas.Slice.Eq.{bytes_eq-Decides}
-use Rattle.msi_text_base.specs.Lists.{list_cmp}
+use Rattle.msi_base.specs.Lists.{list_cmp}
 use Rattle.msi_table_cells.specs.declared.cell.ValueRef.{ValueRef}
 use Rattle.msi_table_values.specs.declared.value.Value.{Value}
 use Rattle.msi_table_values.specs.Columns.{ColumnDef}
 use Rattle.msi_table_cells.specs.CellValues.{row_values}
-use Rattle.msi_database_system.specs.Keys.{is_table_name, table_key}
-use Rattle.msi_database_system.specs.System.{tables_name, columns_name, validation_name, tables_columns, columns_columns, validation_columns}
+use Rattle.msi_database_schema.specs.Keys.{is_table_name, table_key}
+use Rattle.msi_database_schema.specs.System.{tables_name, columns_name, validation_name, tables_columns, columns_columns, validation_columns}
 use Rattle.msi_database_changes.specs.Database.{Database, Tables, table_at, has_table, is_sound, are_alike}
 use Rattle.msi_table_cells.specs.TableCells.{TableCells}
 use Rattle.msi_database_changes.specs.Laws.{rows_at}

@@ -1,29 +1,29 @@
 -- A drop: what a call has in hand at its end is what the drop leaves.
 use Rattle.std.proofs.Common.{◌≡◌, ℕ, ◌≤◌, length, Bool, true, false, not, List, [], ◌∷◌, ◌++◌, filter, Option, Some, None, Result, Ok, refl, sym, ap, ap₂, subst, ◌∙◌, inr}
 use Rattle.std.specs.Option.{option_map_or}
-use Rattle.msi_text_base.specs.declared.errors.ErrorKind.{ErrorKind}
-use Rattle.msi_text_base.proofs.OptionLemmas.{map_some}
+use Rattle.msi_base.specs.declared.errors.ErrorKind.{ErrorKind}
+use Rattle.msi_base.proofs.OptionLemmas.{map_some}
 use Rattle.std.proofs.lemmas.Bool.{leb-true}
-use Rattle.msi_text_pool_base.specs.FirstFit.{most_places}
-use Rattle.msi_text_pool_base.specs.Pool.{Pool}
+use Rattle.msi_pool_places.specs.FirstFit.{most_places}
+use Rattle.msi_pool_places.specs.Pool.{Pool}
 use Rattle.msi_table_cells.specs.declared.cell.ValueRef.{ValueRef}
 use Rattle.msi_table.specs.Tables.{TableDef, CanStore}
 use Rattle.msi_table_values.specs.Columns.{types_of}
 use Rattle.msi_table_cells.specs.Fitting.{FitsTable}
 use Rattle.msi_table_cells.specs.TableCells.{TableCells}
-use Rattle.msi_database_system.specs.Keys.{is_table_name, table_key}
-use Rattle.msi_database_system.specs.System.{is_system_table, tables_name, columns_name, validation_name, tables_columns, columns_columns}
+use Rattle.msi_database_schema.specs.Keys.{is_table_name, table_key}
+use Rattle.msi_database_schema.specs.System.{is_system_table, tables_name, columns_name, validation_name, tables_columns, columns_columns}
 use Rattle.msi_database_changes.specs.Database.{Database, is_sound, table_at, rows_of}
 use Rattle.msi_database_changes.specs.Changes.{Change, no_change, pool_of}
-use Rattle.msi_database_cells.specs.Texts.{PoolInUse, UsedPool, in_use, rows_released, settled}
+use Rattle.msi_database_changes.specs.Texts.{PoolInUse, UsedPool, in_use, rows_released, settled}
 use Rattle.msi_database_changes.specs.Insert.{table_with}
 use Rattle.msi_database_changes.specs.Drop.{drop_table, is_row_about}
 use Rattle.msi_database_changes.proofs.AtWidthLemmas.{dropped}
 use Rattle.msi_database_changes.proofs.DescribingLemmas.{describing}
 use Rattle.msi_database_changes.proofs.SchemaKeptLemmas.{shown_table}
 use Rattle.msi_database_storage.specs.Streams.{Streams, stream_of_rows}
-use Rattle.msi_database_cells.specs.declared.storing.Stored.{Stored}
-use Rattle.msi_database_cells.specs.Storing.{HaveOwnNames}
+use Rattle.msi_database_changes.specs.declared.storing.Stored.{Stored}
+use Rattle.msi_database_changes.specs.Storing.{HaveOwnNames}
 use Rattle.msi_database_storage.specs.Storing.{tables_stored}
 use Rattle.msi_database_storage.specs.Kept.{Kept, kept_of, database_kept, without_table_kept}
 use Rattle.msi_database.specs.Keeping.{AreKept, IsKeptDatabase, HasFittingRows}

@@ -1,21 +1,21 @@
 -- What is refused before memory is taken, from what a call knows.
 use Rattle.std.proofs.Common.{◌≡◌, ℕ, ◌+◌, Bool, true, false, not, List, length, map, ◌∷◌, [], ◌++◌, Option, Some, None, option_map, Result, Ok, Err, refl, sym, ap, ap₂, subst, ◌∙◌, inr}
 use Rattle.std.specs.Prelude.{if◌then◌else◌}
-use Rattle.msi_text_base.specs.declared.errors.ErrorKind.{ErrorKind}
-use Rattle.msi_text_base.specs.declared.errors.ErrorKind.TheVariants.{AlreadyExists, InvalidData, InvalidInput, NotFound}
+use Rattle.msi_base.specs.declared.errors.ErrorKind.{ErrorKind}
+use Rattle.msi_base.specs.declared.errors.ErrorKind.TheVariants.{AlreadyExists, InvalidData, InvalidInput, NotFound}
 use Rattle.msi_table_values.specs.Columns.{ColumnDef}
 use Rattle.msi_table.specs.Tables.{TableDef}
 use Rattle.msi_query.specs.Queries.{DeleteQuery, InsertQuery, UpdateQuery}
-use Rattle.msi_text_base.specs.Refusals.{Refusals, IsRefusal, first_refusal, or_refused, unless, unless_refused, ◌>>=◌}
+use Rattle.msi_base.specs.Refusals.{Refusals, IsRefusal, first_refusal, or_refused, unless, unless_refused, ◌>>=◌}
 use Rattle.msi_table_cells.specs.TableCells.{TableCells}
-use Rattle.msi_database_system.specs.System.{is_system_table}
+use Rattle.msi_database_schema.specs.System.{is_system_table}
 use Rattle.msi_database_changes.specs.Database.{Database, is_sound, table_at, rows_of}
 use Rattle.msi_database_changes.specs.Widening.{widened}
 use Rattle.msi_database_changes.specs.Changes.{Change, no_change, absent_refusals, barred_refusals, missing_or}
 use Rattle.msi_database_changes.specs.Delete.{condition_refusals, delete_rows, early_delete_refusals, rows_deleted}
 use Rattle.msi_database_changes.specs.Insert.{early_insert_refusals, insert_at_width, insert_rows, keys_of, misfit_refusals, row_refusals, rows_added, rows_inserted}
 use Rattle.msi_table_cells.specs.KeyOrder.{key_of}
-use Rattle.msi_database_cells.specs.KeySets.{clash_refusals}
+use Rattle.msi_database_changes.specs.KeySets.{clash_refusals}
 use Rattle.msi_database_changes.specs.Update.{early_update_refusals, is_update_barred, keys_collide, rows_updated, set_refusals, update_refusals, update_at_width, update_rows}
 use Rattle.msi_database_changes.proofs.AtWidthLemmas.{sound_widened}
 use Rattle.msi_database_changes.proofs.EarlyLemmas.{found_first}

@@ -4,13 +4,13 @@ use Rattle.std.specs.FinMap.{entries, entries_sorted, remove, get, get-entries, 
 use Rattle.std.specs.FinMap.Entries.{find, same_entries, is_sorted-where_key, find-where_key}
 use Rattle.std.specs.Cmp.{eq_by_cmp_equiv, alike_right}
 use Rattle.std.specs.Ordering.{eq_by_cmp, is_eq}
-use Rattle.msi_text_base.proofs.BoolLemmas.{cond_not}
+use Rattle.msi_base.proofs.BoolLemmas.{cond_not}
 use Rattle.msi_container_format.specs.Names.{name_cmp}
 use Rattle.msi_container_format.specs.Streams as maps
 use Rattle.msi_container_format.proofs.NamesLemmas.{names_total, exact_names}
 use Rattle.msi_database_storage.specs.Streams.{without_stream, with_stream_or_none}
-use Rattle.msi_database_cells.specs.declared.storing.Stored.{Stored}
-use Rattle.msi_database_cells.specs.Storing.{stored_all}
+use Rattle.msi_database_changes.specs.declared.storing.Stored.{Stored}
+use Rattle.msi_database_changes.specs.Storing.{stored_all}
 use Rattle.msi_database_storage.specs.Storing.{stored_in}
 
 entries_removed : (m : maps.Streams) (k : List ℕ) → entries (remove m k) ≡ without_stream k (entries m)

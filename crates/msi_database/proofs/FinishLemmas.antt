@@ -2,16 +2,16 @@
 use Rattle.std.proofs.Common.{◌≡◌, ℕ, true, List, [], ◌∷◌, None, Ok, refl, sym, ap, subst, ◌∙◌, ◌⊎◌, inl, inr}
 use Rattle.std.specs.FinMap.{entries, put}
 use Rattle.msi_container_format.specs.Streams as maps
-use Rattle.msi_text_base.specs.Lists.{list_cmp}
-use Rattle.msi_text_base.proofs.OptionLemmas.{none_there}
-use Rattle.msi_text_pool_base.specs.Pool.{Pool}
+use Rattle.msi_base.specs.Lists.{list_cmp}
+use Rattle.msi_base.proofs.OptionLemmas.{none_there}
+use Rattle.msi_pool_places.specs.Pool.{Pool}
 use Rattle.msi_table_cells.specs.declared.cell.ValueRef.{ValueRef}
 use Rattle.msi_table_values.specs.Columns.{ColumnDef}
 use Rattle.msi_table.specs.Tables.{TableDef}
-use Rattle.msi_database_system.specs.Keys.{table_key}
+use Rattle.msi_database_schema.specs.Keys.{table_key}
 use Rattle.msi_database_changes.specs.Database.{Database, is_sound, columns_by_name}
 use Rattle.msi_database_changes.specs.Changes.{Change, no_change, with_stored}
-use Rattle.msi_database_cells.specs.Texts.{PoolInUse}
+use Rattle.msi_database_changes.specs.Texts.{PoolInUse}
 use Rattle.msi_database_changes.specs.Create.{create_at_width, table_refusals}
 use Rattle.msi_database_changes.specs.Drop.{drop_table}
 use Rattle.msi_database_changes.proofs.AtWidthLemmas.{IsChangeAtWidth, IsTableChangeAtWidth, created, dropped}
@@ -21,8 +21,8 @@ use Rattle.msi_database_changes.proofs.ShownLemmas as steps
 use Rattle.msi_database_changes.proofs.ShownChangesLemmas.{shown_changed, shown_dropped}
 use Rattle.msi_database_changes.proofs.DroppedLemmas.{without}
 use Rattle.msi_database_storage.specs.Streams.{Streams, stream_of_rows, stored_streams}
-use Rattle.msi_database_cells.specs.declared.storing.Stored.{Stored}
-use Rattle.msi_database_cells.specs.Storing.{stored_all}
+use Rattle.msi_database_changes.specs.declared.storing.Stored.{Stored}
+use Rattle.msi_database_changes.specs.Storing.{stored_all}
 use Rattle.msi_database_storage.specs.Storing.{stored_in, tables_stored}
 use Rattle.msi_database_storage.specs.Kept.{Kept, kept_of, database_kept, with_change, AreAsLong, schema_listed, table_kept_at, with_table_kept, without_table_kept}
 use Rattle.msi_database.specs.Keeping.{IsKeptDatabase, AreKept, AreParts}

@@ -7,7 +7,7 @@ use Rattle.std.proofs.lemmas.Bool.{and_from, true≢false}
 use Rattle.std.proofs.lemmas.Bool.Decides.{nat_tests}
 use Rattle.std.proofs.lemmas.List.{length-map}
 use Rattle.std.proofs.lemmas.List.Folds.{list_all-append}
-use Rattle.msi_text_base.specs.Lists.{list_cmp}
+use Rattle.msi_base.specs.Lists.{list_cmp}
 use Rattle.msi_table_values.specs.declared.column.ColumnType.{ColumnType}
 use Rattle.msi_table_values.specs.declared.column.ColumnType.TheVariants as coltype
 use Rattle.msi_table_cells.specs.declared.cell.ValueRef.{ValueRef}
@@ -16,7 +16,7 @@ use Rattle.msi_table_values.specs.Columns.{types_of}
 use Rattle.msi_table_cells.specs.Fitting.{FitsColumn, FitsRow, FitsTable}
 use Rattle.msi_table_cells.proofs.FittingLemmas.{fits_length}
 use Rattle.msi_table_cells.specs.TableCells.{TableCells}
-use Rattle.msi_database_system.specs.System.{validation_columns}
+use Rattle.msi_database_schema.specs.System.{validation_columns}
 use Rattle.msi_database_schema.proofs.RowOrderLemmas.{names_total}
 use Rattle.msi_table.specs.Census.{number_of_cell, numbers_of_rows}
 use Rattle.msi_database_changes.specs.Database.{Database, Tables, rows_of, is_sound}

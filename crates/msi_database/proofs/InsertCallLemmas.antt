@@ -1,21 +1,21 @@
 -- An insert whose rows find no room: what adding them refuses, the call refuses.
 use Rattle.std.proofs.Common.{◌≡◌, ℕ, Bool, true, false, List, Some, None, sym, ap, ap₂, subst, ◌∙◌}
-use Rattle.msi_text_base.specs.declared.errors.ErrorKind.{ErrorKind}
-use Rattle.msi_text_base.specs.declared.errors.ErrorKind.TheVariants.{InvalidData, InvalidInput}
-use Rattle.msi_text_pool_base.specs.Pool.{Pool}
+use Rattle.msi_base.specs.declared.errors.ErrorKind.{ErrorKind}
+use Rattle.msi_base.specs.declared.errors.ErrorKind.TheVariants.{InvalidData, InvalidInput}
+use Rattle.msi_pool_places.specs.Pool.{Pool}
 use Rattle.msi_table_cells.specs.declared.cell.ValueRef.{ValueRef}
 use Rattle.msi_table_values.specs.declared.value.Value.{Value}
 use Rattle.msi_table_values.specs.Columns.{ColumnDef}
 use Rattle.msi_table.specs.Tables.{TableDef, long_table_of}
 use Rattle.msi_database_changes.proofs.AtWidthLemmas.{sound_widened}
 use Rattle.msi_query.specs.Queries.{InsertQuery}
-use Rattle.msi_text_base.specs.Refusals.{IsRefusal, Refusals, first_refusal, or_refused, unless_refused}
-use Rattle.msi_database_system.specs.System.{is_system_table}
+use Rattle.msi_base.specs.Refusals.{IsRefusal, Refusals, first_refusal, or_refused, unless_refused}
+use Rattle.msi_database_schema.specs.System.{is_system_table}
 use Rattle.msi_database_changes.specs.Database.{Database, is_sound, table_at}
 use Rattle.msi_database_changes.specs.Widening.{widened}
 use Rattle.msi_database_changes.specs.Changes.{no_change}
 use Rattle.msi_database_changes.specs.Insert.{cells_added, insert_at_width, insert_rows, row_refusals, table_with}
-use Rattle.msi_database_cells.specs.Texts.{UsedPool, in_use}
+use Rattle.msi_database_changes.specs.Texts.{UsedPool, in_use}
 use Rattle.msi_database.specs.Listed.{IsKnown}
 use Rattle.msi_database.proofs.MadeLemmas.{both_pass}
 use Rattle.msi_database.proofs.RefusedCallLemmas.{cells_full, insert_refused, inserted_misfit}

@@ -3,7 +3,7 @@ use Rattle.msi_database_changes.proofs.LawLemmas.{well_formed_to}
 use Rattle.msi_database.specs.Keeping.{KeptIsWellFormed, ReadIsKept}
 use Rattle.msi_database.specs.OwnStreams.{TablesHaveOwnStreams}
 use Rattle.msi_database.proofs.FitLemmas.{well_formed}
-use Rattle.msi_database_system.proofs.KeyLemmas.{table_keys_tell_names, table_key≢pool, table_key≢summary_key, table_key≢signature_key, table_key≢stream_key}
+use Rattle.msi_database_schema.proofs.KeyLemmas.{table_keys_tell_names, table_key≢pool, table_key≢summary_key, table_key≢signature_key, table_key≢stream_key}
 use Rattle.msi_database.proofs.OpenedLemmas.{opened}
 use Rattle.msi_database.proofs.ReadLemmas.{schema_rows_fit}
 use Rattle.msi_database_storage.proofs.ReadLemmas.{validation_read_fits}

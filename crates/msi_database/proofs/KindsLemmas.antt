@@ -4,7 +4,7 @@ use Rattle.std.specs.List.{AllByRecursion}
 use Rattle.msi_table_values.specs.Columns.{ColumnDef, types_of}
 use Rattle.msi_table_cells.specs.Fitting.{FitsRow}
 use Rattle.msi_table_cells.specs.TableCells.{TableCells}
-use Rattle.msi_database_system.specs.System.{columns_name, validation_name, columns_columns, validation_columns}
+use Rattle.msi_database_schema.specs.System.{columns_name, validation_name, columns_columns, validation_columns}
 use Rattle.msi_database_schema.specs.Schema.{schema_of}
 use Rattle.msi_database_schema.proofs.SchemaLemmas.{describes_from}
 use Rattle.msi_database_schema.proofs.OrderlessLemmas.{HasKinds}

@@ -8,11 +8,11 @@ use Rattle.std.specs.FinMap.{find}
 use Rattle.std.proofs.lemmas.Bool.{or_left, or_right}
 use Rattle.std.proofs.lemmas.List.Folds.{list_any-append}
 use Rattle.std.proofs.lemmas.Option.{same_Some}
-use Rattle.msi_text_base.specs.Lists.{list_cmp}
+use Rattle.msi_base.specs.Lists.{list_cmp}
 use Rattle.msi_table_cells.specs.declared.cell.ValueRef.{ValueRef}
 use Rattle.msi_table_cells.specs.TableCells.{TableCells}
-use Rattle.msi_database_system.specs.Keys.{table_key}
-use Rattle.msi_database_system.specs.System.{validation_name, validation_columns}
+use Rattle.msi_database_schema.specs.Keys.{table_key}
+use Rattle.msi_database_schema.specs.System.{validation_name, validation_columns}
 use Rattle.msi_database_schema.proofs.RowOrderLemmas.{names_total}
 use Rattle.msi_table.specs.Census.{numbers_of_rows}
 use Rattle.msi_database_changes.specs.Database.{Database, Tables, rows_of, named_numbers, are_alike, table_at, validation_is_standard}

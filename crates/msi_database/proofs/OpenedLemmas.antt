@@ -6,14 +6,14 @@ use Rattle.std.specs.FinMap.{is_sorted}
 use Rattle.std.proofs.lemmas.Bool.{and_parts, leb-true, eqb-false, true≢false}
 use Rattle.std.proofs.lemmas.List.Sums.{length-filter}
 use Rattle.msi_container_format.specs.Names.{name_cmp}
-use Rattle.msi_text_base.specs.Lists.{numbers_from}
-use Rattle.msi_text_pool_base.specs.FirstFit.{count_of}
-use Rattle.msi_text_pool_base.specs.Pool.{Pool, Place, CountsFit, PlacesWritten, forgotten, with_named_texts}
+use Rattle.msi_base.specs.Lists.{numbers_from}
+use Rattle.msi_pool_places.specs.FirstFit.{count_of}
+use Rattle.msi_pool_places.specs.Pool.{Pool, Place, CountsFit, PlacesWritten, forgotten, with_named_texts}
 use Rattle.msi_table_cells.specs.declared.cell.ValueRef.{ValueRef}
 use Rattle.msi_table.specs.Tables.{TableDef}
 use Rattle.msi_table_values.specs.Columns.{types_of}
 use Rattle.msi_table_cells.specs.Fitting.{FitsRow, FitsTable}
-use Rattle.msi_database_system.specs.System.{validation_columns, validation_name}
+use Rattle.msi_database_schema.specs.System.{validation_columns, validation_name}
 use Rattle.msi_database_changes.specs.Database.{Database, is_sound, named_numbers, cells_naming}
 use Rattle.msi_database_storage.specs.Streams.{Streams, stored_rows}
 use Rattle.msi_database_storage.specs.StreamNames.{HaveShortNames}

@@ -3,16 +3,16 @@ use Rattle.std.proofs.Common.{◌≡◌, ◌≢◌, ℕ, Bool, true, false, List
 use Rattle.std.specs.Prelude.{unwrap_or, is_some, if◌then◌else◌, option_map, option_and_then}
 use Rattle.std.specs.List.{AllByRecursion}
 use Rattle.std.specs.FinMap.{contains_key, entries, get, get-entries}
-use Rattle.msi_text_pool_base.specs.Pool.{Pool}
+use Rattle.msi_pool_places.specs.Pool.{Pool}
 use Rattle.msi_container_format.specs.Names.{is_name_length}
 use Rattle.msi_container_format.specs.Streams as maps
 use Rattle.msi_table.specs.Cells.{rows_in}
 use Rattle.msi_table_cells.specs.CellValues.{row_values}
 use Rattle.msi_table_values.specs.Columns.{ColumnDef, types_of}
 use Rattle.msi_table.specs.Tables.{TableDef}
-use Rattle.msi_database_system.specs.Keys.{table_key}
+use Rattle.msi_database_schema.specs.Keys.{table_key}
 use Rattle.msi_database_schema.specs.Schema.{schema_of}
-use Rattle.msi_database_system.specs.System.{columns_columns, columns_name, tables_columns, tables_name, validation_columns, validation_name}
+use Rattle.msi_database_schema.specs.System.{columns_columns, columns_name, tables_columns, tables_name, validation_columns, validation_name}
 use Rattle.msi_database_changes.specs.Database.{Database, is_sound}
 use Rattle.msi_database_storage.specs.Kept.{Kept, database_kept, kept_of, schema_listed, table_kept, table_kept_at}
 use Rattle.msi_database_storage.specs.Streams.{Streams, has_stream_at, stored_rows, stream_at, with_stream_or_none}

@@ -2,14 +2,14 @@
 use Rattle.std.proofs.Common.{◌≡◌, ℕ, true, false, List, [], ◌∷◌, ◌++◌, Option, Some, None, is_some, Ok, refl, sym, ap, subst, ◌∙◌, ◌⊎◌, inl, inr, bytes_eq}
 use Rattle.std.specs.List.{list_any}
 use Rattle.std.proofs.lemmas.Bool.{or_parts, or_from, not-false}
-use Rattle.msi_text_pool_base.specs.Pool.{Place}
+use Rattle.msi_pool_places.specs.Pool.{Place}
 use Rattle.msi_table_values.specs.declared.value.Value.{Value}
 use Rattle.msi_table_values.specs.declared.value.Value.TheVariants.{Str}
 use Rattle.msi_table_values.specs.Columns.{ColumnDef}
 use Rattle.msi_table_cells.specs.TableCells.{TableCells}
-use Rattle.msi_database_system.specs.System.{is_schema_table, tables_name, columns_name, validation_name, tables_columns}
+use Rattle.msi_database_schema.specs.System.{is_schema_table, tables_name, columns_name, validation_name, tables_columns}
 use Rattle.msi_database_schema.specs.Schema.{schema_of}
-use Rattle.msi_database_system.specs.Description.{column_rows, validation_rows}
+use Rattle.msi_database_schema.specs.Description.{column_rows, validation_rows}
 use Rattle.msi_database_schema.proofs.FaultLemmas.{texts_flip}
 use Rattle.msi_database_changes.specs.Database.{Database, table_at, has_table, is_sound}
 use Rattle.msi_database_changes.specs.Changes.{Change, no_change}
@@ -27,7 +27,7 @@ use Rattle.msi_database_changes.proofs.ShownChangesLemmas.{dropped_parts}
 use Rattle.msi_database_changes.proofs.DescribingLemmas.{describing}
 use Rattle.msi_database_changes.proofs.SchemaKeptLemmas.{shown_table}
 use Rattle.msi_database_changes.proofs.DropTracksLemmas.{not_among}
-use Rattle.msi_database_cells.specs.Storing.{HaveOwnNames}
+use Rattle.msi_database_changes.specs.Storing.{HaveOwnNames}
 use Rattle.msi_database_storage.specs.Storing.{tables_stored}
 use Rattle.msi_database_storage.specs.Kept.{Kept}
 use Rattle.msi_database.specs.Keeping.{IsKeptDatabase}

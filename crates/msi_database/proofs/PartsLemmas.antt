@@ -4,15 +4,15 @@ use Rattle.std.specs.Prelude.{MatchBool, option_and_then, unwrap_or, ifâ—Œthenâ—
 use Rattle.std.specs.List.{AllByRecursion}
 use Rattle.std.specs.FinMap.{find}
 use Rattle.std.proofs.lemmas.Option.{none-some}
-use Rattle.msi_text_base.specs.Lists.{list_cmp}
-use Rattle.msi_text_pool_base.specs.Pool.{Pool, Place}
+use Rattle.msi_base.specs.Lists.{list_cmp}
+use Rattle.msi_pool_places.specs.Pool.{Pool, Place}
 use Rattle.msi_table_cells.specs.declared.cell.ValueRef.{ValueRef}
 use Rattle.msi_table_values.specs.declared.value.Value.{Value}
 use Rattle.msi_table_cells.specs.CellValues.{row_values}
 use Rattle.msi_table_values.specs.Columns.{ColumnDef}
 use Rattle.msi_table.specs.Tables.{TableDef}
 use Rattle.msi_table_cells.specs.TableCells.{TableCells}
-use Rattle.msi_database_system.specs.System.{validation_name, validation_columns}
+use Rattle.msi_database_schema.specs.System.{validation_name, validation_columns}
 use Rattle.msi_database_schema.specs.Schema.{SchemaRows, schema_of}
 use Rattle.msi_database_changes.specs.Database.{Database, Tables, has_table, columns_by_name, is_sound}
 use Rattle.msi_database_storage.specs.Streams.{Streams, stored_rows}

@@ -5,10 +5,10 @@ use Rattle.std.specs.List.{AllByRecursion}
 use Rattle.std.specs.FinMap.{put}
 use Rattle.std.proofs.lemmas.Option.{same_Some, none-some}
 use Rattle.std.proofs.lemmas.Bool.{eqb-false}
-use Rattle.msi_text_base.specs.Lists.{all_present, tabulated, list_cmp}
+use Rattle.msi_base.specs.Lists.{all_present, tabulated, list_cmp}
 use Rattle.msi_table_values.specs.Columns.{ColumnDef}
 use Rattle.msi_table.specs.Tables.{TableDef}
-use Rattle.msi_database_system.specs.System.{tables_name, columns_name, tables_columns, columns_columns}
+use Rattle.msi_database_schema.specs.System.{tables_name, columns_name, tables_columns, columns_columns}
 use Rattle.msi_database_storage.specs.Streams.{Streams}
 use Rattle.msi_database_storage.specs.StreamNames.{HoldBytes}
 use Rattle.msi_database_storage.specs.Kept.{schema_listed}
@@ -16,13 +16,13 @@ use Rattle.msi_database.proofs.OpenedLemmas.{HaveFittingRows}
 use Rattle.msi_database_storage.specs.Agreement.{schema_in, schema_rows}
 use Rattle.msi_database_schema.specs.Schema.{SchemaRows, schema_of, by_name, is_faulty, listed_names, columns_of, column_rows}
 use Rattle.msi_database_changes.proofs.TurnLemmas.{map_some}
-use Rattle.msi_text_pool_base.specs.Pool.{Pool}
-use Rattle.msi_text_base.specs.Lists.{numbers_from}
+use Rattle.msi_pool_places.specs.Pool.{Pool}
+use Rattle.msi_base.specs.Lists.{numbers_from}
 use Rattle.std.proofs.lemmas.List.{length-map}
 use Rattle.std.proofs.lemmas.Bool.{cases_eq}
 use Rattle.std.specs.FinMap.Entries.{by_order}
 use Rattle.std.specs.declared.cmp.Ordering.TheVariants.{Less, Equal, Greater}
-use Rattle.msi_text_base.proofs.ListLemmas.{length-numbers_from}
+use Rattle.msi_base.proofs.ListLemmas.{length-numbers_from}
 use Rattle.msi_database_storage.proofs.ReadLemmas.{rows_read_fit}
 
 -- each table of a schema has a column

@@ -9,11 +9,11 @@ use Rattle.std.proofs.lemmas.List.Folds.{list_any-append}
 use Rattle.std.proofs.lemmas.Option.{same_Some}
 use Rattle.msi_container_format.specs.Names.{name_cmp}
 use Rattle.msi_container_format.specs.Streams as maps
-use Rattle.msi_text_pool_base.specs.Pool.{CountsFit, Place, Pool, forgotten, with_named_texts}
+use Rattle.msi_pool_places.specs.Pool.{CountsFit, Place, Pool, forgotten, with_named_texts}
 use Rattle.msi_table_cells.specs.declared.cell.ValueRef.{ValueRef}
 use Rattle.msi_table_values.specs.Columns.{ColumnDef}
 use Rattle.msi_table.specs.Tables.{TableDef}
-use Rattle.msi_database_system.specs.System.{validation_columns, validation_name}
+use Rattle.msi_database_schema.specs.System.{validation_columns, validation_name}
 use Rattle.msi_table.specs.Census.{CensusDef, IsCensus, numbers_of_rows}
 use Rattle.msi_database_changes.specs.Database.{Database, Tables, is_sound, named_numbers}
 use Rattle.msi_database_storage.specs.Streams.{Streams, stored_rows}

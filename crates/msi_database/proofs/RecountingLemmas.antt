@@ -4,20 +4,20 @@ use Rattle.std.specs.Prelude.{if◌then◌else◌, MatchBool}
 use Rattle.std.specs.Option.{option_map_or}
 use Rattle.std.proofs.lemmas.Bool.{eq-eqb, not-false}
 use Rattle.std.proofs.lemmas.Option.{option_and_then_some}
-use Rattle.msi_text_base.specs.Lists.{list_cmp}
-use Rattle.msi_text_pool_base.specs.Pool.{Place, PlacesWritten, Pool}
-use Rattle.msi_text_base.specs.declared.errors.ErrorKind.{ErrorKind}
-use Rattle.msi_text_base.specs.declared.errors.ErrorKind.TheVariants.{InvalidData}
-use Rattle.msi_text_pool_base.specs.Recounting.{with_counts}
-use Rattle.msi_text_pool_base.proofs.RecountingLemmas.{CountsFit-with_counts}
+use Rattle.msi_base.specs.Lists.{list_cmp}
+use Rattle.msi_pool_places.specs.Pool.{Place, PlacesWritten, Pool}
+use Rattle.msi_base.specs.declared.errors.ErrorKind.{ErrorKind}
+use Rattle.msi_base.specs.declared.errors.ErrorKind.TheVariants.{InvalidData}
+use Rattle.msi_pool_places.specs.Recounting.{with_counts}
+use Rattle.msi_pool_places.proofs.RecountingLemmas.{CountsFit-with_counts}
 use Rattle.msi_table_cells.specs.declared.cell.ValueRef.{ValueRef}
 use Rattle.msi_table_values.specs.Columns.{ColumnDef}
 use Rattle.msi_table.specs.Tables.{TableDef}
-use Rattle.msi_text_base.specs.Refusals.{first_refusal, Refusals, unless_refused}
+use Rattle.msi_base.specs.Refusals.{first_refusal, Refusals, unless_refused}
 use Rattle.msi_table_cells.specs.TableCells.{TableCells}
-use Rattle.msi_database_system.specs.Keys.{table_key}
+use Rattle.msi_database_schema.specs.Keys.{table_key}
 use Rattle.msi_database_schema.specs.Schema.{schema_of}
-use Rattle.msi_database_system.specs.System.{columns_columns, columns_name, tables_columns, tables_name, validation_columns, validation_name}
+use Rattle.msi_database_schema.specs.System.{columns_columns, columns_name, tables_columns, tables_name, validation_columns, validation_name}
 use Rattle.msi_database_changes.specs.Database.{are_alike, cells_naming, columns_by_name, Database, is_sound, is_well_formed, names_stay_in_pool, table_at, validation_is_standard}
 use Rattle.msi_database_changes.specs.Recounting.{cell_counts, counting_refusals, counts_changed, counts_fit, early_recount_refusals, IsRecounted, recount, recount_refusals, recounted}
 use Rattle.msi_database_changes.proofs.AlikeLemmas.{rows_alike}

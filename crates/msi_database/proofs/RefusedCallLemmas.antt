@@ -2,26 +2,26 @@
 use Rattle.std.proofs.Common.{◌≡◌, ℕ, not, List, [], ◌∷◌, ◌++◌, Option, Some, None, Ok, Err, sym, ap, subst, ◌∙◌, inl, inr}
 use Rattle.std.specs.Prelude.{option_map, Result}
 use Rattle.std.specs.List.{fold}
-use Rattle.msi_text_base.specs.declared.errors.ErrorKind.{ErrorKind}
-use Rattle.msi_text_base.specs.declared.errors.ErrorKind.TheVariants.{InvalidInput, NotFound}
+use Rattle.msi_base.specs.declared.errors.ErrorKind.{ErrorKind}
+use Rattle.msi_base.specs.declared.errors.ErrorKind.TheVariants.{InvalidInput, NotFound}
 use Rattle.msi_table_values.specs.declared.value.Value.{Value}
 use Rattle.msi_table_values.specs.declared.value.Value.TheVariants.{Str}
 use Rattle.msi_table_cells.specs.declared.cell.ValueRef.{ValueRef}
 use Rattle.msi_table_values.specs.Columns.{ColumnDef}
 use Rattle.msi_query.specs.Queries.{InsertQuery}
-use Rattle.msi_text_base.specs.Refusals.{Refusals, IsRefusal, first_refusal, or_refused, unless_refused, ◌>>=◌}
+use Rattle.msi_base.specs.Refusals.{Refusals, IsRefusal, first_refusal, or_refused, unless_refused, ◌>>=◌}
 use Rattle.msi_table_cells.specs.TableCells.{TableCells}
-use Rattle.msi_database_system.specs.Keys.{is_table_name}
-use Rattle.msi_database_system.specs.System.{is_system_table, tables_name, columns_name, validation_name}
-use Rattle.msi_database_system.specs.Description.{column_rows, validation_rows}
+use Rattle.msi_database_schema.specs.Keys.{is_table_name}
+use Rattle.msi_database_schema.specs.System.{is_system_table, tables_name, columns_name, validation_name}
+use Rattle.msi_database_schema.specs.Description.{column_rows, validation_rows}
 use Rattle.msi_database_changes.specs.Database.{Database, table_at, rows_of}
 use Rattle.msi_database_changes.specs.Changes.{Change, no_change, pool_of, with_stored, sound_refusal}
-use Rattle.msi_database_cells.specs.Texts.{PoolInUse, rows_put}
+use Rattle.msi_database_changes.specs.Texts.{PoolInUse, rows_put}
 use Rattle.msi_table_cells.specs.KeyOrder.{in_key_order}
 use Rattle.msi_database_changes.specs.Insert.{cells_added, insert_at_width, rows_inserted, rows_added, row_refusals}
 use Rattle.msi_database_changes.specs.Create.{create_at_width, table_refusals, with_new_table}
 use Rattle.msi_database_changes.specs.Drop.{drop_table, rows_forgotten, table_released}
-use Rattle.msi_text_base.proofs.RefusalLemmas.{goes_on-Err, unless-Err}
+use Rattle.msi_base.proofs.RefusalLemmas.{goes_on-Err, unless-Err}
 use Rattle.msi_database.proofs.MadeLemmas.{goes_on, found}
 
 -- STEPS

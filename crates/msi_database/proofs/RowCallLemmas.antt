@@ -3,9 +3,9 @@ use Rattle.std.proofs.Common.{◌≡◌, ℕ, ◌≤◌, Bool, true, false, not,
 use Rattle.std.specs.Prelude.{MatchOption}
 use Rattle.std.proofs.lemmas.Option.{same_Some}
 use Rattle.std.proofs.lemmas.Bool.{leb-true}
-use Rattle.msi_text_base.specs.declared.errors.ErrorKind.{ErrorKind}
-use Rattle.msi_text_pool_base.specs.FirstFit.{most_places}
-use Rattle.msi_text_pool_base.specs.Pool.{Place, Pool}
+use Rattle.msi_base.specs.declared.errors.ErrorKind.{ErrorKind}
+use Rattle.msi_pool_places.specs.FirstFit.{most_places}
+use Rattle.msi_pool_places.specs.Pool.{Place, Pool}
 use Rattle.msi_table_cells.specs.declared.cell.ValueRef.{ValueRef}
 use Rattle.msi_table_values.specs.declared.value.Value.{Value}
 use Rattle.msi_table_values.specs.Columns.{ColumnDef, types_of}
@@ -14,18 +14,18 @@ use Rattle.msi_table.specs.Tables.{TableDef}
 use Rattle.msi_table_cells.specs.Fitting.{FitsTable}
 use Rattle.msi_query.specs.Queries.{InsertQuery, UpdateQuery, DeleteQuery}
 use Rattle.msi_query_expressions.specs.Conditions.{meets}
-use Rattle.msi_text_base.specs.Refusals.{first_refusal, unless_refused}
+use Rattle.msi_base.specs.Refusals.{first_refusal, unless_refused}
 use Rattle.msi_table_cells.specs.TableCells.{TableCells}
 use Rattle.msi_query.specs.Selection.{has_columns, condition_names}
-use Rattle.msi_database_system.specs.Keys.{is_table_name, table_key}
-use Rattle.msi_database_system.specs.System.{is_system_table}
+use Rattle.msi_database_schema.specs.Keys.{is_table_name, table_key}
+use Rattle.msi_database_schema.specs.System.{is_system_table}
 use Rattle.msi_database_schema.proofs.RowOrderLemmas.{names_total}
 use Rattle.msi_database_changes.specs.Database.{Database, is_sound, table_at}
 use Rattle.msi_database_changes.specs.Changes.{Change, no_change, pool_of, with_stored}
 use Rattle.msi_database_changes.specs.Widening.{widened, widening}
-use Rattle.msi_database_cells.specs.Setting.{cells_set}
-use Rattle.msi_database_cells.specs.Texts.{PoolInUse, UsedPool, cell_released, in_turn, in_use, rows_put, rows_released, settled}
-use Rattle.msi_database_cells.proofs.NarrowLemmas.{cells_set_grows, cells_set_narrow, released_many, rows_put_narrow, turn_narrow}
+use Rattle.msi_database_changes.specs.Setting.{cells_set}
+use Rattle.msi_database_changes.specs.Texts.{PoolInUse, UsedPool, cell_released, in_turn, in_use, rows_put, rows_released, settled}
+use Rattle.msi_database_changes.proofs.NarrowLemmas.{cells_set_grows, cells_set_narrow, released_many, rows_put_narrow, turn_narrow}
 use Rattle.msi_table_cells.specs.KeyOrder.{in_key_order}
 use Rattle.msi_database_changes.specs.Insert.{table_with, cells_added, insert_at_width, insert_rows, row_refusals}
 use Rattle.msi_database_changes.specs.Update.{is_update_barred, row_updated, update_refusals, update_at_width, update_rows}
@@ -33,7 +33,7 @@ use Rattle.msi_database_changes.specs.Delete.{delete_rows, rows_meeting}
 use Rattle.msi_database_changes.proofs.AtWidthLemmas.{IsChangeAtWidth, inserted, updated, deleted, sound_widened}
 use Rattle.msi_database_changes.proofs.TurnLemmas.{map_some}
 use Rattle.msi_database_storage.specs.Streams.{stream_of_rows}
-use Rattle.msi_database_cells.specs.declared.storing.Stored.{Stored}
+use Rattle.msi_database_changes.specs.declared.storing.Stored.{Stored}
 use Rattle.msi_database_storage.specs.Storing.{stored_in}
 use Rattle.msi_database_storage.specs.Kept.{Kept, kept_of}
 use Rattle.msi_database.specs.Keeping.{AreKept, IsKeptDatabase}
@@ -41,7 +41,7 @@ use Rattle.msi_database.specs.Listed.{IsKnown, table_def_at}
 use Rattle.msi_database.specs.Making.{IsAnew, Leaves, Makes, MakesRows, RowsBecome, TellsUse, base_with, wide_for}
 use Rattle.msi_database_storage.proofs.MapLemmas as found
 use Rattle.msi_database_storage.proofs.StreamLemmas.{list_cmp_exact}
-use Rattle.msi_database_system.proofs.KeyLemmas.{table_key_is_name}
+use Rattle.msi_database_schema.proofs.KeyLemmas.{table_key_is_name}
 use Rattle.msi_database.proofs.SoundLemmas.{sound_is, sound_names}
 use Rattle.msi_database.proofs.BothWidthsLemmas.{anew, anew_still}
 use Rattle.msi_database.proofs.MadeLemmas.{delete_made, insert_made, update_made}

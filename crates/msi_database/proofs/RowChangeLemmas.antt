@@ -3,14 +3,14 @@ use Rattle.std.proofs.Common.{◌≡◌, ℕ, Bool, true, false, List, [], ◌�
 use Rattle.std.specs.Prelude.{◌&&◌, not, option_map, is_some, map, bytes_eq, codes, Result, Ok, IsPermutation}
 use Rattle.std.specs.List.{list_all}
 use Rattle.std.proofs.lemmas.Bool.{or_parts, not-false}
-use Rattle.msi_text_pool_base.specs.FirstFitLaws.{TakenPlacesHoldTheirText, GivenBackTakesOne}
-use Rattle.msi_text_base.specs.declared.errors.ErrorKind.{ErrorKind}
-use Rattle.msi_text_base.specs.declared.errors.ErrorKind.TheVariants.{InvalidInput, NotFound}
-use Rattle.msi_text_base.proofs.BoolLemmas.{by_test}
-use Rattle.msi_text_base.specs.Refusals.{Refusals, first_refusal, or_refused, unless_refused, ◌>>=◌}
+use Rattle.msi_pool_places.specs.FirstFitLaws.{TakenPlacesHoldTheirText, GivenBackTakesOne}
+use Rattle.msi_base.specs.declared.errors.ErrorKind.{ErrorKind}
+use Rattle.msi_base.specs.declared.errors.ErrorKind.TheVariants.{InvalidInput, NotFound}
+use Rattle.msi_base.proofs.BoolLemmas.{by_test}
+use Rattle.msi_base.specs.Refusals.{Refusals, first_refusal, or_refused, unless_refused, ◌>>=◌}
 use Rattle.msi_query.specs.Queries.{DeleteQuery, InsertQuery, UpdateQuery}
 use Rattle.msi_table_cells.specs.CellValues.{row_values}
-use Rattle.msi_database_system.specs.System.{is_schema_table, is_system_table, validation_name}
+use Rattle.msi_database_schema.specs.System.{is_schema_table, is_system_table, validation_name}
 use Rattle.msi_database_changes.specs.Database.{Database, table_at}
 use Rattle.msi_table_cells.specs.TableCells.{TableCells}
 use Rattle.msi_database_changes.specs.Changes.{Change, no_change, sound_refusal}

@@ -4,10 +4,10 @@ use Rattle.std.specs.List.{list_any}
 use Rattle.std.specs.FinMap.{find}
 use Rattle.std.proofs.lemmas.Bool.{true≢false, false_from_ne_true, leb-true}
 use Rattle.std.proofs.lemmas.Slice.Eq.{bytes_eq-Decides}
-use Rattle.msi_text_base.specs.Lists.{list_cmp}
-use Rattle.msi_text_pool_base.specs.Pool.{Place}
-use Rattle.msi_text_pool_base.specs.FirstFit.{most_places}
-use Rattle.msi_text_pool_base.proofs.TakenLemmas.{taken_takes}
+use Rattle.msi_base.specs.Lists.{list_cmp}
+use Rattle.msi_pool_places.specs.Pool.{Place}
+use Rattle.msi_pool_places.specs.FirstFit.{most_places}
+use Rattle.msi_pool_places.proofs.TakenLemmas.{taken_takes}
 use Rattle.msi_table_cells.specs.declared.cell.ValueRef.{ValueRef}
 use Rattle.msi_table_values.specs.Columns.{types_of}
 use Rattle.msi_table_cells.specs.Fitting.{FitsTable}
@@ -15,8 +15,8 @@ use Rattle.msi_table_cells.specs.CellValues.{row_values}
 use Rattle.msi_table_cells.specs.StoredOrder.{in_stored_order}
 use Rattle.msi_query.specs.Queries.{InsertQuery, UpdateQuery, DeleteQuery}
 use Rattle.msi_table_cells.specs.TableCells.{TableCells}
-use Rattle.msi_database_system.specs.Keys.{is_table_name}
-use Rattle.msi_database_system.specs.System.{validation_name}
+use Rattle.msi_database_schema.specs.Keys.{is_table_name}
+use Rattle.msi_database_schema.specs.System.{validation_name}
 use Rattle.msi_database_schema.specs.Schema.{schema_of}
 use Rattle.msi_database_schema.proofs.OrderlessLemmas.{HasKinds}
 use Rattle.msi_database_schema.proofs.SchemaLemmas.{Described}
@@ -26,7 +26,7 @@ use Rattle.msi_database_changes.specs.Changes.{Change, no_change, pool_of}
 use Rattle.msi_database_changes.specs.Insert.{insert_at_width}
 use Rattle.msi_database_changes.specs.Update.{update_at_width}
 use Rattle.msi_database_changes.specs.Delete.{delete_rows, rows_meeting}
-use Rattle.msi_database_cells.specs.Texts.{rows_released}
+use Rattle.msi_database_changes.specs.Texts.{rows_released}
 use Rattle.msi_database_changes.proofs.AtWidthLemmas.{IsChangeAtWidth, inserted, updated, deleted}
 use Rattle.msi_database_changes.proofs.StoredLemmas.{Exchanged}
 use Rattle.msi_database_changes.proofs.ValuesLemmas.{rows_stay}

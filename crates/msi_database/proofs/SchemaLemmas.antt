@@ -5,9 +5,9 @@ use Rattle.std.specs.FinMap.{is_sorted}
 use Rattle.std.specs.FinMap.Entries.{below_all}
 use Rattle.std.specs.Ordering.{is_lt}
 use Rattle.std.proofs.lemmas.Option.{same_Some}
-use Rattle.msi_text_base.specs.Lists.{list_cmp, all_present}
+use Rattle.msi_base.specs.Lists.{list_cmp, all_present}
 use Rattle.msi_table_values.specs.Columns.{ColumnDef}
-use Rattle.msi_database_system.specs.System.{tables_name, columns_name, tables_columns, columns_columns}
+use Rattle.msi_database_schema.specs.System.{tables_name, columns_name, tables_columns, columns_columns}
 use Rattle.msi_database_schema.specs.Schema.{SchemaRows, schema_of, by_name, is_faulty, listed_names, columns_of}
 use Rattle.msi_database_schema.proofs.SchemaLemmas.{Described, by_name-sorted}
 use Rattle.msi_database_changes.specs.Database.{Database, Tables, columns_by_name}

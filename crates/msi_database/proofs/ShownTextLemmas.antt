@@ -9,9 +9,9 @@ use Rattle.std.proofs.lemmas.Bool.{eq-eqb, or_left, or_right}
 use Rattle.std.proofs.lemmas.List.Folds.{list_any-append}
 use Rattle.std.proofs.lemmas.Option.{none-some, option_and_then_some, same_Some}
 use Rattle.std.proofs.lemmas.Slice.Eq.{bytes_eq-Decides}
-use Rattle.msi_text_pool_base.specs.FirstFitLaws.{text_at}
-use Rattle.msi_text_base.specs.Lists.{list_cmp}
-use Rattle.msi_text_pool_base.specs.Pool.{Place, Pool, forgotten, with_named_texts}
+use Rattle.msi_pool_places.specs.FirstFitLaws.{text_at}
+use Rattle.msi_base.specs.Lists.{list_cmp}
+use Rattle.msi_pool_places.specs.Pool.{Place, Pool, forgotten, with_named_texts}
 use Rattle.msi_table_values.specs.declared.column.ColumnType.{ColumnType}
 use Rattle.msi_table_values.specs.declared.value.Value.TheVariants as value
 use Rattle.msi_table_cells.specs.declared.cell.ValueRef.{ValueRef}
@@ -21,7 +21,7 @@ use Rattle.msi_table_values.specs.Columns.{ColumnDef, types_of}
 use Rattle.msi_table.specs.Tables.{TableDef}
 use Rattle.msi_table_cells.specs.Fitting.{FitsRow}
 use Rattle.msi_database_schema.specs.Schema.{schema_of}
-use Rattle.msi_database_system.specs.System.{columns_columns, columns_name, tables_columns, tables_name, validation_columns, validation_name}
+use Rattle.msi_database_schema.specs.System.{columns_columns, columns_name, tables_columns, tables_name, validation_columns, validation_name}
 use Rattle.msi_database_schema.proofs.SchemaLemmas.{describes_from, names_tie}
 use Rattle.msi_table.specs.Census.{number_of_cell, numbers_of_rows}
 use Rattle.msi_database_changes.specs.Database.{rows_of}

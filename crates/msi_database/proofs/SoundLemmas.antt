@@ -2,9 +2,9 @@
 use Rattle.std.proofs.Common.{◌≡◌, ◌≤◌, true, ◌&&◌, [], ◌∷◌, length, is_some, arith}
 use Rattle.std.specs.List.{list_all, AllByRecursion}
 use Rattle.std.proofs.lemmas.Bool.{and_parts, leb-true}
-use Rattle.msi_text_pool_base.specs.FirstFit.{most_places}
-use Rattle.msi_text_pool_base.proofs.FirstFitLemmas.{most_places-few}
-use Rattle.msi_database_system.specs.Keys.{is_table_name}
+use Rattle.msi_pool_places.specs.FirstFit.{most_places}
+use Rattle.msi_pool_places.proofs.FirstFitLemmas.{most_places-few}
+use Rattle.msi_database_schema.specs.Keys.{is_table_name}
 use Rattle.msi_database_changes.specs.Database.{Database, Tables, is_sound, counts_suffice, names_stay_in_pool, pool_fits_width, tables_are_readable, validation_is_standard}
 
 each_named : (ts : Tables) → list_all (λ t. is_some t.1.rows && is_table_name t.0) ts ≡ true → AllByRecursion (λ t. is_table_name t.0 ≡ true) ts

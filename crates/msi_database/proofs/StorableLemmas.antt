@@ -4,21 +4,21 @@ use Rattle.std.specs.Prelude.{IsSomeAnd, option_map, unwrap_or}
 use Rattle.std.specs.List.{list_all}
 use Rattle.std.proofs.lemmas.Bool.Decides.{nat_tests}
 use Rattle.std.proofs.lemmas.Option.{same_Some, none-some, option_and_then_some}
-use Rattle.msi_text_base.specs.declared.errors.ErrorKind.TheVariants.{InvalidInput, InvalidData}
-use Rattle.msi_text_pool_base.specs.FirstFit.{most_places}
-use Rattle.msi_text_base.specs.Lists.{has_pair}
-use Rattle.msi_text_pool_base.specs.Pool.{Place}
-use Rattle.msi_text_pool_base.proofs.TakenLemmas.{taken_takes}
+use Rattle.msi_base.specs.declared.errors.ErrorKind.TheVariants.{InvalidInput, InvalidData}
+use Rattle.msi_pool_places.specs.FirstFit.{most_places}
+use Rattle.msi_base.specs.Lists.{has_pair}
+use Rattle.msi_pool_places.specs.Pool.{Place}
+use Rattle.msi_pool_places.proofs.TakenLemmas.{taken_takes}
 use Rattle.msi_table_values.specs.declared.value.Value.{Value}
 use Rattle.msi_table_cells.specs.declared.cell.ValueRef.{ValueRef}
 use Rattle.msi_table_values.specs.Columns.{ColumnDef, types_of}
 use Rattle.msi_table_cells.specs.Fitting.{FitsTable}
-use Rattle.msi_text_base.specs.Refusals.{Refusals, first_refusal}
+use Rattle.msi_base.specs.Refusals.{Refusals, first_refusal}
 use Rattle.msi_table_cells.specs.TableCells.{TableCells}
-use Rattle.msi_database_cells.specs.Texts.{PoolInUse, cell_put, in_turn, rows_put}
+use Rattle.msi_database_changes.specs.Texts.{PoolInUse, cell_put, in_turn, rows_put}
 use Rattle.msi_table_cells.specs.KeyOrder.{in_key_order, key_of, same_key}
 use Rattle.msi_database_changes.specs.Insert.{cells_added, keys_of, row_fits, row_refusals, table_with}
-use Rattle.msi_database_cells.specs.KeySets.{key_refusals}
+use Rattle.msi_database_changes.specs.KeySets.{key_refusals}
 use Rattle.msi_database_changes.proofs.RefusedLemmas.{front_fails, first_fails, each_passes}
 use Rattle.msi_database_changes.proofs.TracksLemmas.{fewer_fit}
 use Rattle.msi_database_changes.proofs.TurnLemmas.{map_some}

@@ -1,15 +1,15 @@
 -- The rows that describe a new table, made table by table.
 use Rattle.std.proofs.Common.{◌≡◌, ◌∙◌, ℕ, List, [], ◌∷◌, Result, Ok, inl, inr, ap, subst}
-use Rattle.msi_text_base.specs.declared.errors.ErrorKind.{ErrorKind}
+use Rattle.msi_base.specs.declared.errors.ErrorKind.{ErrorKind}
 use Rattle.msi_table_values.specs.declared.value.Value.{Value}
 use Rattle.msi_table_cells.specs.declared.cell.ValueRef.{ValueRef}
 use Rattle.msi_table_values.specs.Columns.{ColumnDef}
-use Rattle.msi_text_base.specs.Refusals.{IsRefusal, ◌>>=◌}
-use Rattle.msi_text_base.proofs.RefusalLemmas.{goes_on-Err}
-use Rattle.msi_database_cells.specs.Texts.{PoolInUse}
+use Rattle.msi_base.specs.Refusals.{IsRefusal, ◌>>=◌}
+use Rattle.msi_base.proofs.RefusalLemmas.{goes_on-Err}
+use Rattle.msi_database_changes.specs.Texts.{PoolInUse}
 use Rattle.msi_database_changes.specs.Database.{Database}
-use Rattle.msi_database_system.specs.Description.{column_rows, tables_row, validation_rows}
-use Rattle.msi_database_system.specs.System.{columns_name, tables_name, validation_name}
+use Rattle.msi_database_schema.specs.Description.{column_rows, tables_row, validation_rows}
+use Rattle.msi_database_schema.specs.System.{columns_name, tables_name, validation_name}
 use Rattle.msi_database_changes.specs.Create.{SystemRows}
 use Rattle.msi_database.specs.Creating.{rows_described, rows_with}
 

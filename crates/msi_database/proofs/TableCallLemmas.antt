@@ -1,21 +1,21 @@
 -- What an accepted create and an accepted drop make, by what they have in hand at their ends.
 use Rattle.std.proofs.Common.{◌≡◌, ℕ, true, false, not, List, [], ◌∷◌, ◌++◌, filter, Some, None, Ok, Result, sym, subst, ◌∙◌}
-use Rattle.msi_text_base.specs.declared.errors.ErrorKind.{ErrorKind}
-use Rattle.msi_text_pool_base.specs.Pool.{Pool}
+use Rattle.msi_base.specs.declared.errors.ErrorKind.{ErrorKind}
+use Rattle.msi_pool_places.specs.Pool.{Pool}
 use Rattle.msi_table_cells.specs.declared.cell.ValueRef.{ValueRef}
 use Rattle.msi_table_values.specs.Columns.{ColumnDef}
 use Rattle.msi_table.specs.Tables.{TableDef}
-use Rattle.msi_text_base.specs.Refusals.{first_refusal}
+use Rattle.msi_base.specs.Refusals.{first_refusal}
 use Rattle.msi_table_cells.specs.TableCells.{TableCells}
-use Rattle.msi_database_system.specs.Keys.{is_table_name, table_key}
-use Rattle.msi_database_system.specs.System.{is_system_table, tables_name, columns_name, validation_name}
+use Rattle.msi_database_schema.specs.Keys.{is_table_name, table_key}
+use Rattle.msi_database_schema.specs.System.{is_system_table, tables_name, columns_name, validation_name}
 use Rattle.msi_database_changes.specs.Database.{Database, is_sound, table_at, rows_of}
 use Rattle.msi_database_changes.specs.Changes.{Change, no_change, pool_of, sound_refusal}
-use Rattle.msi_database_cells.specs.Texts.{PoolInUse, rows_released}
+use Rattle.msi_database_changes.specs.Texts.{PoolInUse, rows_released}
 use Rattle.msi_database_changes.specs.Insert.{cells_added, row_refusals}
 use Rattle.msi_database_changes.specs.Create.{create_at_width, table_refusals, with_new_table}
 use Rattle.msi_database_changes.specs.Drop.{drop_table, is_row_about}
-use Rattle.msi_database_cells.specs.declared.storing.Stored.{Stored}
+use Rattle.msi_database_changes.specs.declared.storing.Stored.{Stored}
 use Rattle.msi_database_storage.specs.Streams.{Streams, stream_of_rows}
 use Rattle.msi_database_storage.specs.Storing.{tables_stored}
 use Rattle.msi_database_storage.specs.Kept.{Kept, kept_of, database_kept, with_table_kept, without_table_kept}

@@ -9,7 +9,7 @@ use Rattle.std.specs.declared.cmp.Ordering.TheVariants.{Less, Equal, Greater}
 use Rattle.std.proofs.lemmas.Bool.{true≢false}
 use Rattle.std.proofs.lemmas.Option.{none-some}
 use Rattle.std.proofs.lemmas.Slice.Eq.{bytes_eq-Decides}
-use Rattle.msi_text_base.specs.Lists.{list_cmp}
+use Rattle.msi_base.specs.Lists.{list_cmp}
 use Rattle.msi_table.specs.Tables.{TableDef}
 use Rattle.msi_database_schema.proofs.SchemaLemmas.{Described, names_tie, same_names}
 use Rattle.msi_database_schema.proofs.RowOrderLemmas.{names_total}

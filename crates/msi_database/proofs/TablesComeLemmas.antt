@@ -1,10 +1,10 @@
 -- An accepted create or drop brings what a change must.
 use Rattle.std.proofs.Common.{◌≡◌, ℕ, List, Some, Ok, sym, ◌∙◌}
 use Rattle.std.proofs.lemmas.Bool.{true≢false}
-use Rattle.msi_text_base.proofs.OptionLemmas.{none_there}
-use Rattle.msi_text_pool_base.proofs.TakenLemmas.{taken_takes}
+use Rattle.msi_base.proofs.OptionLemmas.{none_there}
+use Rattle.msi_pool_places.proofs.TakenLemmas.{taken_takes}
 use Rattle.msi_table_values.specs.Columns.{ColumnDef}
-use Rattle.msi_database_system.specs.System.{validation_name}
+use Rattle.msi_database_schema.specs.System.{validation_name}
 use Rattle.msi_database_schema.specs.Schema.{schema_of}
 use Rattle.msi_database_schema.proofs.OrderlessLemmas.{HasKinds}
 use Rattle.msi_database_changes.specs.Database.{Database, table_at}
@@ -24,7 +24,7 @@ use Rattle.msi_database_changes.proofs.ChangedLemmas.{same_validation}
 use Rattle.msi_database_changes.proofs.DropRowsLemmas.{drop_rows, drop_describes}
 use Rattle.msi_database_changes.proofs.DropTracksLemmas.{drop_tracks, drop_unstored}
 use Rattle.msi_database_changes.proofs.RegularLemmas.{IsRegular}
-use Rattle.msi_database_system.proofs.KeyLemmas.{tables_accepted, columns_accepted, validation_accepted}
+use Rattle.msi_database_schema.proofs.KeyLemmas.{tables_accepted, columns_accepted, validation_accepted}
 use Rattle.msi_database.proofs.GivenBackLemmas.{given_back_gives}
 use Rattle.msi_database.proofs.ComesLemmas.{Comes}
 

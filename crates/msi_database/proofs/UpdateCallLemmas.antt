@@ -1,19 +1,19 @@
 -- An update whose keys collide or whose texts find no room: what its steps refuse, the call refuses.
 use Rattle.std.proofs.Common.{◌≡◌, Bool, true, false, List, ◌∷◌, [], Some, None, Result, Option, refl, sym, ap, ap₂, subst, ◌∙◌}
-use Rattle.msi_text_base.specs.declared.errors.ErrorKind.{ErrorKind}
-use Rattle.msi_text_base.specs.declared.errors.ErrorKind.TheVariants.{AlreadyExists, InvalidData, InvalidInput, NotFound}
-use Rattle.msi_text_pool_base.specs.Pool.{Place, Pool}
+use Rattle.msi_base.specs.declared.errors.ErrorKind.{ErrorKind}
+use Rattle.msi_base.specs.declared.errors.ErrorKind.TheVariants.{AlreadyExists, InvalidData, InvalidInput, NotFound}
+use Rattle.msi_pool_places.specs.Pool.{Place, Pool}
 use Rattle.msi_table_cells.specs.declared.cell.ValueRef.{ValueRef}
 use Rattle.msi_table_values.specs.Columns.{ColumnDef}
 use Rattle.msi_table.specs.Tables.{TableDef, long_table_of}
 use Rattle.msi_database_changes.proofs.AtWidthLemmas.{sound_widened}
 use Rattle.msi_query.specs.Queries.{UpdateQuery}
-use Rattle.msi_text_base.specs.Refusals.{IsRefusal, Refusals, first_refusal, or_refused, unless, unless_refused, ◌>>=◌}
+use Rattle.msi_base.specs.Refusals.{IsRefusal, Refusals, first_refusal, or_refused, unless, unless_refused, ◌>>=◌}
 use Rattle.msi_table_cells.specs.TableCells.{TableCells}
 use Rattle.msi_database_changes.specs.Database.{Database, is_sound, table_at}
 use Rattle.msi_database_changes.specs.Widening.{widened}
 use Rattle.msi_database_changes.specs.Changes.{Change, barred_refusals, no_change, pool_of, with_stored}
-use Rattle.msi_database_cells.specs.Texts.{PoolInUse, UsedPool, in_turn, in_use}
+use Rattle.msi_database_changes.specs.Texts.{PoolInUse, UsedPool, in_turn, in_use}
 use Rattle.msi_database_changes.specs.Insert.{table_with}
 use Rattle.msi_database_changes.specs.Update.{is_update_barred, keys_collide, row_updated, rows_updated, set_refusals, update_refusals, update_at_width, update_rows}
 use Rattle.msi_database_changes.proofs.RefusedLemmas.{behind_passed}

@@ -4,14 +4,14 @@ use Rattle.std.specs.Prelude.{bytes_eq, IfErr, IsErrAnd}
 use Rattle.std.specs.List.{AllByRecursion}
 use Rattle.std.specs.FinMap.{find}
 use Rattle.std.specs.Ordering.{eq_by_cmp}
-use Rattle.msi_text_base.specs.declared.errors.ErrorKind.{ErrorKind}
-use Rattle.msi_text_base.specs.declared.errors.ErrorKind.TheVariants.{InvalidData, NotFound}
-use Rattle.msi_text_pool_base.specs.Pool.{Pool}
-use Rattle.msi_text_base.specs.Lists.{list_cmp}
+use Rattle.msi_base.specs.declared.errors.ErrorKind.{ErrorKind}
+use Rattle.msi_base.specs.declared.errors.ErrorKind.TheVariants.{InvalidData, NotFound}
+use Rattle.msi_pool_places.specs.Pool.{Pool}
+use Rattle.msi_base.specs.Lists.{list_cmp}
 use Rattle.msi_table_cells.specs.declared.cell.ValueRef.{ValueRef}
 use Rattle.msi_table_values.specs.Columns.{ColumnDef}
 use Rattle.msi_table.specs.Tables.{TableDef}
-use Rattle.msi_text_base.specs.Refusals.{or_refused, ◌>>=◌}
+use Rattle.msi_base.specs.Refusals.{or_refused, ◌>>=◌}
 use Rattle.msi_table_cells.specs.TableCells.{TableCells}
 use Rattle.msi_table.specs.Rows.{TableRows, table_rows}
 use Rattle.msi_query.specs.Rows.{RelationCells, cells_of, whole_table}

@@ -2,13 +2,13 @@
 use Rattle.std.proofs.Common.{◌≡◌, Bool, true, false, not, ◌&&◌, Option, Some, None, option_map, Result, Err, refl, sym, ap, subst, ◌∙◌, inl, inr}
 use Rattle.std.specs.Prelude.{if◌then◌else◌}
 use Rattle.std.proofs.lemmas.Option.{none-some}
-use Rattle.msi_text_base.specs.declared.errors.ErrorKind.{ErrorKind}
-use Rattle.msi_text_pool_base.specs.Pool.{Pool}
+use Rattle.msi_base.specs.declared.errors.ErrorKind.{ErrorKind}
+use Rattle.msi_pool_places.specs.Pool.{Pool}
 use Rattle.msi_table.specs.Tables.{TableDef, long_table_of}
-use Rattle.msi_text_base.specs.Refusals.{IsRefusal}
+use Rattle.msi_base.specs.Refusals.{IsRefusal}
 use Rattle.msi_table_cells.specs.TableCells.{TableCells}
 use Rattle.std.proofs.Common.{ℕ, List}
-use Rattle.msi_database_cells.specs.Texts.{UsedPool}
+use Rattle.msi_database_changes.specs.Texts.{UsedPool}
 use Rattle.msi_database_changes.specs.Database.{Database, is_sound, table_at}
 use Rattle.msi_database_changes.specs.Changes.{Change}
 use Rattle.msi_database_changes.specs.Widening.{needs_three_bytes, widened, widening}

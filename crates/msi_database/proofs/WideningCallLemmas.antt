@@ -2,23 +2,23 @@
 use Rattle.std.proofs.Common.{◌≡◌, ℕ, ◌+◌, ◌<◌, Bool, true, false, Result, Ok, Err, inl, inr, List, [], ◌∷◌, ◌++◌, length, map, take, fold, get_or, Some, None, option_map, refl, sym, ap, ◌∙◌, subst}
 use Rattle.std.specs.Prelude.{MatchBool}
 use Rattle.std.specs.FinMap.{find}
-use Rattle.msi_text_base.specs.declared.errors.ErrorKind.{ErrorKind}
-use Rattle.msi_text_base.specs.declared.errors.ErrorKind.TheVariants.{InvalidData, OutOfMemory}
-use Rattle.msi_text_base.specs.Refusals.{IsRefusal, or_refused}
-use Rattle.msi_database_system.specs.System.{validation_columns, validation_name}
+use Rattle.msi_base.specs.declared.errors.ErrorKind.{ErrorKind}
+use Rattle.msi_base.specs.declared.errors.ErrorKind.TheVariants.{InvalidData, OutOfMemory}
+use Rattle.msi_base.specs.Refusals.{IsRefusal, or_refused}
+use Rattle.msi_database_schema.specs.System.{validation_columns, validation_name}
 use Rattle.std.proofs.lemmas.List.{get_or-map, length-map, take_more}
 use Rattle.std.proofs.Math.Seq.{take-length}
 use Rattle.std.proofs.lemmas.Option.{same_Some}
-use Rattle.msi_text_base.specs.Lists.{list_cmp}
+use Rattle.msi_base.specs.Lists.{list_cmp}
 use Rattle.msi_table_cells.specs.declared.cell.ValueRef.{ValueRef}
 use Rattle.msi_table.specs.Tables.{CanStore, TableDef, long_table_of}
-use Rattle.msi_text_pool_base.specs.Pool.{Pool}
+use Rattle.msi_pool_places.specs.Pool.{Pool}
 use Rattle.msi_table_cells.proofs.SortedRowsLemmas.{all_at}
 use Rattle.msi_table_values.specs.Columns.{ColumnDef, types_of}
 use Rattle.msi_table_cells.specs.Fitting.{FitsTable}
 use Rattle.msi_table_cells.specs.TableCells.{TableCells}
 use Rattle.msi_container_format.specs.Names.{is_name_length}
-use Rattle.msi_database_system.specs.Keys.{is_table_name, table_key}
+use Rattle.msi_database_schema.specs.Keys.{is_table_name, table_key}
 use Rattle.msi_database_changes.specs.Database.{Database, Tables, has_table, is_sound, table_at}
 use Rattle.msi_database_changes.specs.Insert.{table_with}
 use Rattle.msi_database_storage.specs.Streams.{Streams, stored_rows}
@@ -28,7 +28,7 @@ use Rattle.msi_database_storage.specs.Widening.{streams_widened, unlisted_table,
 use Rattle.msi_database.specs.Keeping.{AreParts, IsKeptDatabase}
 use Rattle.msi_database.specs.Listed.{table_def_at, tables_listed}
 use Rattle.msi_database.proofs.ComesLemmas.{regular}
-use Rattle.msi_database_system.proofs.KeyLemmas.{table_key_is_name, validation_accepted}
+use Rattle.msi_database_schema.proofs.KeyLemmas.{table_key_is_name, validation_accepted}
 use Rattle.msi_database.proofs.SoundLemmas.{sound_names}
 use Rattle.msi_database_storage.proofs.StreamLemmas.{tables_found}
 use Rattle.msi_database.proofs.WideRefusalLemmas.{long_pool}

@@ -4,10 +4,10 @@ use Rattle.std.specs.Prelude.{MatchBool, IfSome, nat_le}
 use Rattle.std.specs.List.{AllByRecursion}
 use Rattle.std.proofs.lemmas.Bool.{true≢false, ne_eqb}
 use Rattle.std.proofs.lemmas.Bool.Decides.{nat_tests}
-use Rattle.msi_text_base.proofs.BoolLemmas.{T_parts}
+use Rattle.msi_base.proofs.BoolLemmas.{T_parts}
 use Rattle.std.proofs.lemmas.Nat.{div-add-mod', div_below, mod_below}
 use Rattle.std.proofs.lemmas.Option.{same_Some, none-some}
-use Rattle.msi_text_base.specs.Lists.{tabulated}
+use Rattle.msi_base.specs.Lists.{tabulated}
 use Rattle.msi_table_cells.specs.declared.cell.ValueRef.{ValueRef}
 use Rattle.msi_table_values.specs.declared.column.ColumnType.{ColumnType}
 use Rattle.msi_table_values.specs.declared.column.ColumnType.TheVariants as coltype
@@ -21,8 +21,8 @@ use Rattle.msi_table.proofs.ReadRowsLemmas.{length-tabulated}
 use Rattle.msi_table_cells.specs.TableCells.{TableCells}
 use Rattle.msi_container_format.specs.Names.{is_name_length}
 use Rattle.msi_database_schema.proofs.RowOrderLemmas.{names_total}
-use Rattle.msi_database_system.specs.Keys.{is_table_name, summary_key, table_key}
-use Rattle.msi_database_system.specs.System.{validation_columns, validation_name}
+use Rattle.msi_database_schema.specs.Keys.{is_table_name, summary_key, table_key}
+use Rattle.msi_database_schema.specs.System.{validation_columns, validation_name}
 use Rattle.msi_database_changes.specs.Database.{Database, Tables, columns_by_name, has_table, is_sound, rows_of}
 use Rattle.msi_database_changes.specs.Widening.{widened}
 use Rattle.msi_database_changes.proofs.AtWidthLemmas.{sound_widened}
@@ -33,7 +33,7 @@ use Rattle.msi_database_storage.specs.Agreement.{TablesAre, UnlistedIs}
 use Rattle.msi_database.specs.Keeping.{AreParts, HasFittingRows, IsKeptDatabase}
 use Rattle.msi_database.proofs.ComesLemmas.{describes, regular}
 use Rattle.msi_database.proofs.PartsLemmas.{kept_parts}
-use Rattle.msi_database_system.proofs.KeyLemmas.{table_key_is_name, table_keys_tell_names, table_key≢summary_key, validation_accepted}
+use Rattle.msi_database_schema.proofs.KeyLemmas.{table_key_is_name, table_keys_tell_names, table_key≢summary_key, validation_accepted}
 use Rattle.msi_database_storage.proofs.MapLemmas as maps
 use Rattle.msi_database.proofs.DescribedLemmas.{schema_after}
 use Rattle.msi_database.proofs.SoundLemmas.{sound_names, sound_rows}

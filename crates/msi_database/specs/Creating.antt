@@ -1,24 +1,24 @@
 -- Creating a table: what refuses it, and the streams of the system tables that describe it.
 use Rattle.std.specs.Prelude.{◌≡◌, ℕ, Bool, true, List, [], ◌∷◌, ◌++◌, Option, IsSomeAnd, Result, Ok}
 use Rattle.std.specs.Option.{option_map_or}
-use Rattle.msi_text_base.specs.declared.errors.ErrorKind.{ErrorKind}
-use Rattle.msi_text_base.specs.declared.errors.ErrorKind.TheVariants.{InvalidInput, NotFound}
+use Rattle.msi_base.specs.declared.errors.ErrorKind.{ErrorKind}
+use Rattle.msi_base.specs.declared.errors.ErrorKind.TheVariants.{InvalidInput, NotFound}
 use Rattle.msi_table_values.specs.declared.value.Value.{Value}
 use Rattle.msi_table_cells.specs.declared.cell.ValueRef.{ValueRef}
 use Rattle.msi_table_values.specs.Columns.{ColumnDef, types_of}
 use Rattle.msi_table_cells.specs.Fitting.{FitsTable}
 use Rattle.msi_table.specs.Tables.{TableDef}
-use Rattle.msi_text_base.specs.Refusals.{Refusals, or_refused, unless_refused, ◌>>=◌}
-use Rattle.msi_database_system.specs.Description.{column_rows, tables_row, validation_rows}
-use Rattle.msi_database_system.specs.Keys.{table_key}
-use Rattle.msi_database_system.specs.System.{tables_name, columns_name, validation_name}
+use Rattle.msi_base.specs.Refusals.{Refusals, or_refused, unless_refused, ◌>>=◌}
+use Rattle.msi_database_schema.specs.Description.{column_rows, tables_row, validation_rows}
+use Rattle.msi_database_schema.specs.Keys.{table_key}
+use Rattle.msi_database_schema.specs.System.{tables_name, columns_name, validation_name}
 use Rattle.msi_database_changes.specs.Database.{Database, table_at, rows_of}
-use Rattle.msi_text_pool_base.specs.Pool.{Pool}
-use Rattle.msi_database_cells.specs.Texts.{PoolInUse, UsedPool, settled}
+use Rattle.msi_pool_places.specs.Pool.{Pool}
+use Rattle.msi_database_changes.specs.Texts.{PoolInUse, UsedPool, settled}
 use Rattle.msi_database_changes.specs.Changes.{sound_refusal}
 use Rattle.msi_database_changes.specs.Create.{SystemRows, table_refusals}
 use Rattle.msi_database_changes.specs.Insert.{cells_added, row_refusals}
-use Rattle.msi_database_cells.specs.declared.storing.Stored.{Stored}
+use Rattle.msi_database_changes.specs.declared.storing.Stored.{Stored}
 use Rattle.msi_database_storage.specs.Kept.{Kept, with_table_kept}
 use Rattle.msi_database_storage.specs.Storing.{stream_gone}
 use Rattle.msi_database_storage.specs.Streams.{stream_of_rows}

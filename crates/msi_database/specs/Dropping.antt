@@ -1,11 +1,11 @@
 -- A table that is dropped, step by step: which texts go back to the pool, and which streams are stored.
 use Rattle.std.specs.Prelude.{ℕ, not, List, [], ◌∷◌, ◌++◌, filter, None}
 use Rattle.std.specs.Option.{option_map_or}
-use Rattle.msi_database_system.specs.Keys.{table_key}
+use Rattle.msi_database_schema.specs.Keys.{table_key}
 use Rattle.msi_database_changes.specs.Database.{Database, table_at, rows_of}
-use Rattle.msi_database_cells.specs.Texts.{PoolInUse, rows_released}
+use Rattle.msi_database_changes.specs.Texts.{PoolInUse, rows_released}
 use Rattle.msi_database_changes.specs.Drop.{is_row_about}
-use Rattle.msi_database_cells.specs.declared.storing.Stored.{Stored}
+use Rattle.msi_database_changes.specs.declared.storing.Stored.{Stored}
 use Rattle.msi_database_storage.specs.Streams.{stream_of_rows}
 
 -- the pool after the table's own rows, and after those about it of a system table

@@ -3,12 +3,12 @@ use Rattle.std.specs.Prelude.{◌≡◌, ◌≤◌, ◌⊎◌, T, Bool, true, Li
 use Rattle.std.specs.List.{AllByRecursion}
 use Rattle.std.specs.FinMap.{is_sorted}
 use Rattle.msi_container_format.specs.Names.{name_cmp}
-use Rattle.msi_text_pool_base.specs.Pool.{Pool, CountsFit, PlacesWritten, with_named_texts}
+use Rattle.msi_pool_places.specs.Pool.{Pool, CountsFit, PlacesWritten, with_named_texts}
 use Rattle.msi_table.specs.Tables.{TableDef}
 use Rattle.msi_table_values.specs.Columns.{types_of}
 use Rattle.msi_table_cells.specs.Fitting.{FitsRow, FitsTable}
 use Rattle.msi_table_cells.specs.TableCells.{TableCells}
-use Rattle.msi_database_system.specs.System.{validation_columns}
+use Rattle.msi_database_schema.specs.System.{validation_columns}
 use Rattle.msi_database_changes.specs.Database.{Database, is_sound, is_well_formed}
 use Rattle.msi_database_changes.specs.Changes.{Change}
 use Rattle.msi_database_changes.specs.Laws.{IsChange, IsTableChange}

@@ -9,8 +9,8 @@ pub mod Fresh
 pub mod Creating
 pub mod Recounting
 -- The words of the crates below, which public clauses cite.
-pub use Rattle.msi_text_base.specs.declared.errors.ErrorKind
-pub use Rattle.msi_text_base.specs.Results
+pub use Rattle.msi_base.specs.declared.errors.ErrorKind
+pub use Rattle.msi_base.specs.Results
 pub use Rattle.msi_container_format.specs.Names
 pub use Rattle.msi_table_values.specs.declared.value.Value
 pub use Rattle.msi_table_values.specs.Columns
@@ -18,17 +18,17 @@ pub use Rattle.msi_table_values.specs.Values
 pub use Rattle.msi_table_cells.specs.TableCells
 pub use Rattle.msi_table.specs.Tables
 pub use Rattle.msi_table.specs.Rows
-pub use Rattle.msi_text_base.specs.Refusals
+pub use Rattle.msi_base.specs.Refusals
 pub use Rattle.msi_query.specs.Selection
 pub use Rattle.msi_query.specs.Rows as SelectedRows
-pub use Rattle.msi_database_system.specs.Keys
-pub use Rattle.msi_database_system.specs.System
+pub use Rattle.msi_database_schema.specs.Keys
+pub use Rattle.msi_database_schema.specs.System
 pub use Rattle.msi_database_schema.specs.Schema
 pub use Rattle.msi_database_schema.specs.RowOrders
-pub use Rattle.msi_database_system.specs.Description
-pub use Rattle.msi_database_cells.specs.Texts
-pub use Rattle.msi_database_cells.specs.KeySets
-pub use Rattle.msi_database_cells.specs.Setting
+pub use Rattle.msi_database_schema.specs.Description
+pub use Rattle.msi_database_changes.specs.Texts
+pub use Rattle.msi_database_changes.specs.KeySets
+pub use Rattle.msi_database_changes.specs.Setting
 pub use Rattle.msi_database_changes.specs.Database
 pub use Rattle.msi_database_changes.specs.Changes
 pub use Rattle.msi_database_changes.specs.Insert

@@ -1,9 +1,9 @@
 -- Tables by their columns, as a database lists them.
 use Rattle.std.specs.Prelude.{◌≡◌, ℕ, true, List, length, map, Option, Some, option_map}
 use Rattle.msi_container_format.specs.Names.{is_name_length}
-use Rattle.msi_text_base.specs.declared.codepage.CodePage.{CodePage}
+use Rattle.msi_base.specs.declared.codepage.CodePage.{CodePage}
 use Rattle.msi_table.specs.Tables.{TableDef}
-use Rattle.msi_database_system.specs.Keys.{table_key}
+use Rattle.msi_database_schema.specs.Keys.{table_key}
 use Rattle.msi_database_changes.specs.Database.{Database, table_at}
 use Rattle.msi_database_storage.specs.Kept.{Kept}
 

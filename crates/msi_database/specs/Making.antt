@@ -1,9 +1,9 @@
 -- What a change makes of a kept database: the database that it leaves, and the parts in which that is kept.
 use Rattle.std.specs.Prelude.{◌≡◌, ◌≤◌, ℕ, Bool, true, List, [], ◌∷◌, length, Option, Some, None, unwrap_or}
 use Rattle.std.specs.Prelude.{if◌then◌else◌, Result, Ok, Err}
-use Rattle.msi_text_base.specs.declared.errors.ErrorKind.{ErrorKind}
-use Rattle.msi_text_pool_base.specs.FirstFit.{most_places}
-use Rattle.msi_text_pool_base.specs.Pool.{Pool}
+use Rattle.msi_base.specs.declared.errors.ErrorKind.{ErrorKind}
+use Rattle.msi_pool_places.specs.FirstFit.{most_places}
+use Rattle.msi_pool_places.specs.Pool.{Pool}
 use Rattle.msi_table_cells.specs.declared.cell.ValueRef.{ValueRef}
 use Rattle.msi_table_values.specs.Columns.{ColumnDef}
 use Rattle.msi_table.specs.Tables.{TableDef}
@@ -11,11 +11,11 @@ use Rattle.msi_query.specs.declared.query.insert.InsertParts.{InsertParts}
 use Rattle.msi_query.specs.declared.query.delete.DeleteParts.{DeleteParts}
 use Rattle.msi_query.specs.Queries.{InsertQuery, DeleteQuery}
 use Rattle.msi_database_changes.specs.Database.{Database, is_sound}
-use Rattle.msi_database_system.specs.Keys.{table_key}
-use Rattle.msi_database_cells.specs.Texts.{UsedPool, in_use, settled, widens}
+use Rattle.msi_database_schema.specs.Keys.{table_key}
+use Rattle.msi_database_changes.specs.Texts.{UsedPool, in_use, settled, widens}
 use Rattle.msi_database_changes.specs.Changes.{Change, no_change, with_stored}
 use Rattle.msi_database_changes.specs.Widening.{widened}
-use Rattle.msi_database_cells.specs.declared.storing.Stored.{Stored}
+use Rattle.msi_database_changes.specs.declared.storing.Stored.{Stored}
 use Rattle.msi_database_storage.specs.Storing.{stored_in}
 use Rattle.msi_database_storage.specs.Streams.{stream_of_rows}
 use Rattle.msi_database_storage.specs.Kept.{Kept, after_change, base_of, kept_widened}

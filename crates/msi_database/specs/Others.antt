@@ -1,8 +1,8 @@
 -- Streams that belong to no table, kept beside a database.
 use Rattle.std.specs.Prelude.{◌≢◌, ℕ, List, ◌∷◌, map}
 use Rattle.std.specs.List.{AllByRecursion}
-use Rattle.msi_database_system.specs.Keys.{table_key}
-use Rattle.msi_database_system.specs.System.{columns_name, tables_name, validation_name}
+use Rattle.msi_database_schema.specs.Keys.{table_key}
+use Rattle.msi_database_schema.specs.System.{columns_name, tables_name, validation_name}
 use Rattle.msi_database_changes.specs.Database.{Database}
 use Rattle.msi_database_storage.specs.Streams.{Streams}
 use Rattle.msi_database_storage.specs.Kept.{Kept}

@@ -1,7 +1,7 @@
 -- Streams of tables are their own.
 use Rattle.std.specs.Prelude.{◌≡◌, ◌≢◌, ℕ, true, List}
-use Rattle.msi_database_system.specs.Keys.{is_stream_name, is_table_name, signature_ex_key, signature_key, stream_key}
-use Rattle.msi_database_system.specs.Keys.{string_data_name, string_pool_name, summary_key, table_key}
+use Rattle.msi_database_schema.specs.Keys.{is_stream_name, is_table_name, signature_ex_key, signature_key, stream_key}
+use Rattle.msi_database_schema.specs.Keys.{string_data_name, string_pool_name, summary_key, table_key}
 
 -- the stream of an accepted table name is no other such name's, and not the pool's, the summary's, a signature's or a
 -- user's

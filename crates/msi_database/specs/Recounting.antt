@@ -1,6 +1,6 @@
 -- A recount of a kept database: its streams stay.
 use Rattle.std.specs.Prelude.{◌≡◌, None}
-use Rattle.msi_text_base.specs.Refusals.{first_refusal}
+use Rattle.msi_base.specs.Refusals.{first_refusal}
 use Rattle.msi_database_changes.specs.Recounting.{recount_refusals, recounted}
 use Rattle.msi_database_storage.specs.Kept.{Kept}
 use Rattle.msi_database.specs.Keeping.{IsKeptDatabase}

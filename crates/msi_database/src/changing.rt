@@ -2,17 +2,17 @@
 
 ghost use Rattle.std.specs.Prelude.{◌≡◌, ◌∷◌, [], false, IfErr, IfOk, MatchOption, None, OnErr, OnOk, Some, length};
 ghost use Rattle.std.specs.Prelude.{option_copied, true};
-ghost use Rattle.msi_text_base.specs.Results.{OnlyMemory};
-ghost use Rattle.msi_text_pool_base.specs.Pool.{unindexed};
-ghost use Rattle.msi_text_base.specs.Refusals.{IsRefusal, first_refusal, unless_refused};
+ghost use Rattle.msi_base.specs.Results.{OnlyMemory};
+ghost use Rattle.msi_pool_places.specs.Pool.{unindexed};
+ghost use Rattle.msi_base.specs.Refusals.{IsRefusal, first_refusal, unless_refused};
 ghost use Rattle.msi_database_changes.specs.Changes.{absent_refusals, barred_refusals};
 ghost use Rattle.msi_database_changes.specs.Database.{is_sound as is_sound_one, table_at};
 ghost use Rattle.msi_container_format.specs.Names.{is_name_length};
 ghost use Rattle.msi_table_values.specs.Columns.{types_of};
 ghost use Rattle.msi_table_cells.specs.Fitting.{FitsTable};
-ghost use Rattle.msi_database_system.specs.Keys.{table_key as key_of};
-ghost use Rattle.msi_database_cells.specs.Storing.{HaveOwnNames};
-ghost use Rattle.msi_database_cells.specs.Texts.{settled};
+ghost use Rattle.msi_database_schema.specs.Keys.{table_key as key_of};
+ghost use Rattle.msi_database_changes.specs.Storing.{HaveOwnNames};
+ghost use Rattle.msi_database_changes.specs.Texts.{settled};
 ghost use Rattle.msi_database_changes.specs.Insert.{table_with};
 ghost use Rattle.msi_database_storage.specs.Kept.{kept_of, without_table_kept};
 ghost use Rattle.msi_database_storage.specs.Storing.{stored_in};
@@ -22,16 +22,16 @@ ghost use Rattle.msi_database.specs.Making.{IsAnew, base_with};
 
 use crate::database::Database;
 use crate::reasons;
-use msi_database_cells::parts::{Stored, store_all};
-use msi_database_cells::texts::PoolInUse;
+use msi_base::errors::{Error, ErrorKind};
+use msi_base::text::Items;
+use msi_database_changes::parts::{Stored, store_all};
+use msi_database_changes::texts::PoolInUse;
 use msi_database_storage::listing::copies_without;
 use msi_database_storage::parts::{stored_rows, stream_of};
+use msi_pool::stringpool::StringPool;
 use msi_table::Table;
 use msi_table::parts::long_table;
 use msi_table_cells::cell::ValueRef;
-use msi_text_base::errors::{Error, ErrorKind};
-use msi_text_base::text::Items;
-use msi_text_pool::stringpool::StringPool;
 
 /// A table's stream to be stored, over this database or over a wider one, the pool after the change of its rows, and
 /// whether a text was taken of the pool or given back.

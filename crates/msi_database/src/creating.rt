@@ -1,16 +1,16 @@
 //! Creating a table: it is described in the system tables, and put in among the others.
 
 ghost use Rattle.std.specs.Prelude.{◌≡◌, ◌≤◌, IfErr, IfOk, IsTrue, Ok, OnErr, OnOk, length, true};
-ghost use Rattle.msi_text_pool_base.specs.Pool.{unindexed};
-ghost use Rattle.msi_text_base.specs.Results.{OnlyMemory};
+ghost use Rattle.msi_pool_places.specs.Pool.{unindexed};
+ghost use Rattle.msi_base.specs.Results.{OnlyMemory};
 ghost use Rattle.msi_table_values.specs.Columns.{most_columns};
-ghost use Rattle.msi_text_base.specs.Refusals.{AnswersFirst, IsRefusal, unless_refused};
-ghost use Rattle.msi_database_system.specs.Description.{have_short_lengths};
-ghost use Rattle.msi_database_system.specs.Keys.{is_table_name as is_name_of_table};
+ghost use Rattle.msi_base.specs.Refusals.{AnswersFirst, IsRefusal, unless_refused};
+ghost use Rattle.msi_database_schema.specs.Description.{have_short_lengths};
+ghost use Rattle.msi_database_schema.specs.Keys.{is_table_name as is_name_of_table};
 ghost use Rattle.msi_database_changes.specs.Create as creates;
 ghost use Rattle.msi_database_changes.specs.Database.{is_sound as is_sound_one};
-ghost use Rattle.msi_database_cells.specs.Storing.{HaveOwnNames};
-ghost use Rattle.msi_database_cells.specs.Texts.{in_use, settled};
+ghost use Rattle.msi_database_changes.specs.Storing.{HaveOwnNames};
+ghost use Rattle.msi_database_changes.specs.Texts.{in_use, settled};
 ghost use Rattle.msi_database_storage.specs.Kept.{with_table_kept};
 ghost use Rattle.msi_database.specs.Creating.{CanHold, CanHoldAll, IsCreated, create_refusals, new_table};
 ghost use Rattle.msi_database.specs.Creating.{rows_described, rows_with, stream_for, streams_for};
@@ -20,22 +20,21 @@ ghost use Rattle.msi_database.specs.Making.{Leaves, Makes, TellsUse, base_with, 
 use crate::changing::TablesAnew;
 use crate::database::Database;
 use crate::reasons;
-use msi_database_cells::parts::Stored;
-use msi_database_cells::texts::PoolInUse;
+use msi_base::errors::{Error, ErrorKind};
+use msi_base::text::Items;
 use msi_database_changes::create::{SystemRows, refuse_table};
 use msi_database_changes::insert::{add_rows, refuse_rows};
-use msi_database_schema::parts::named_table;
+use msi_database_changes::parts::Stored;
+use msi_database_changes::texts::PoolInUse;
+use msi_database_schema::description::{tables_row, validation_rows};
+use msi_database_schema::parts::{column_rows, named_table};
+use msi_database_schema::system::{COLUMNS, TABLES, VALIDATION};
 use msi_database_storage::listing::copies_with;
 use msi_database_storage::parts::{no_stream, stream_of};
-use msi_database_system::description::{tables_row, validation_rows};
-use msi_database_system::parts::column_rows;
-use msi_database_system::system::{COLUMNS, TABLES, VALIDATION};
 use msi_table::Table;
 use msi_table_cells::cell::ValueRef;
 use msi_table_values::column::Column;
 use msi_table_values::value::Value;
-use msi_text_base::errors::{Error, ErrorKind};
-use msi_text_base::text::Items;
 
 /// What creating a table makes, and whether it took a text of the pool.
 #[derive(Drop)]

@@ -2,8 +2,8 @@
 
 ghost use Rattle.std.specs.Prelude.{◌≡◌, Err, IfErr, IfOk, Ok, OnErr, OnOk, option_copied};
 ghost use Rattle.std.specs.FinMap.{entries};
-ghost use Rattle.msi_text_pool_base.specs.Pool.{unindexed};
-ghost use Rattle.msi_text_base.specs.Refusals.{AnswersWith, IsRefusal, unless_refused};
+ghost use Rattle.msi_pool_places.specs.Pool.{unindexed};
+ghost use Rattle.msi_base.specs.Refusals.{AnswersWith, IsRefusal, unless_refused};
 ghost use Rattle.msi_query.specs.Rows.{cells_of, columns_read, whole_table};
 ghost use Rattle.msi_query.specs.Selection.{early_refusal, relation_of};
 ghost use Rattle.msi_query.specs.Selected.{Selects};
@@ -14,17 +14,17 @@ ghost use Rattle.msi_database.specs.Keeping.{IsKeptDatabase};
 ghost use Rattle.msi_database.specs.Listed.{table_def_at, tables_listed, with_page};
 
 use crate::reasons;
+use msi_base::codepage::CodePage;
+use msi_base::errors::{Error, ErrorKind};
+use msi_base::text::Items;
 use msi_container_format::contents::StreamMap;
 use msi_database_storage::listing::table_named;
 use msi_database_storage::parts::table_rows;
+use msi_pool::stringpool::StringPool;
 use msi_query::Select;
 use msi_query_rows::{Tables, select_rows};
 use msi_table::parts::StoredRows;
 use msi_table::{Rows, Table};
-use msi_text_base::codepage::CodePage;
-use msi_text_base::errors::{Error, ErrorKind};
-use msi_text_base::text::Items;
-use msi_text_pool::stringpool::StringPool;
 use std::alloc::Global;
 use std::marker::Model;
 
@@ -54,7 +54,7 @@ impl Model for Database {
     ghost use Rattle.std.specs.FinMap.{entries};
     ghost use Rattle.msi_database_storage.specs.Kept.{Kept, kept_of};
     ghost use Rattle.msi_database.specs.Keeping.{AreKept};
-    ghost use Rattle.msi_text_pool_base.specs.Pool.{unindexed};
+    ghost use Rattle.msi_pool_places.specs.Pool.{unindexed};
 
     ghost Value = { Kept };
 

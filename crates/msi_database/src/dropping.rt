@@ -1,16 +1,16 @@
 //! Dropping a table, with the rows about it.
 
 ghost use Rattle.std.specs.Prelude.{◌≡◌, ◌++◌, IfErr, IfOk, None, OnErr, OnOk, Some, false, true};
-ghost use Rattle.msi_text_base.specs.Results.{OnlyMemory};
-ghost use Rattle.msi_text_pool_base.specs.Pool.{unindexed};
-ghost use Rattle.msi_text_base.specs.Refusals.{AnswersFirst, IsRefusal, first_refusal, unless_refused};
-ghost use Rattle.msi_database_system.specs.Keys.{is_table_name as is_of_table};
-ghost use Rattle.msi_database_system.specs.System.{is_system_table as is_of_system};
+ghost use Rattle.msi_base.specs.Results.{OnlyMemory};
+ghost use Rattle.msi_pool_places.specs.Pool.{unindexed};
+ghost use Rattle.msi_base.specs.Refusals.{AnswersFirst, IsRefusal, first_refusal, unless_refused};
+ghost use Rattle.msi_database_schema.specs.Keys.{is_table_name as is_of_table};
+ghost use Rattle.msi_database_schema.specs.System.{is_system_table as is_of_system};
 ghost use Rattle.msi_database_changes.specs.Database.{is_sound as is_sound_one};
 ghost use Rattle.msi_database_changes.specs.Drop as drops;
 ghost use Rattle.msi_database_changes.specs.Drop.{drop_refusals, early_drop_refusals};
-ghost use Rattle.msi_database_cells.specs.Storing.{HaveOwnNames};
-ghost use Rattle.msi_database_cells.specs.Texts.{in_use};
+ghost use Rattle.msi_database_changes.specs.Storing.{HaveOwnNames};
+ghost use Rattle.msi_database_changes.specs.Texts.{in_use};
 ghost use Rattle.msi_database.specs.Dropping.{about_given_back, own_stream, rows_given_back};
 ghost use Rattle.msi_database.specs.Dropping.{system_stream};
 ghost use Rattle.msi_database.specs.Listed.{IsKnown};
@@ -19,14 +19,14 @@ ghost use Rattle.msi_database.specs.Making.{Leaves, Makes, TellsUse, base_with};
 use crate::changing::TablesAnew;
 use crate::database::Database;
 use crate::reasons;
-use msi_database_cells::parts::Stored;
-use msi_database_cells::texts::PoolInUse;
+use msi_base::errors::{Error, ErrorKind};
 use msi_database_changes::drop::rows_without;
+use msi_database_changes::parts::Stored;
+use msi_database_changes::texts::PoolInUse;
+use msi_database_schema::names::is_table_name;
+use msi_database_schema::system::{COLUMNS, TABLES, VALIDATION, is_system_table};
 use msi_database_storage::parts::stream_of;
-use msi_database_system::names::is_table_name;
-use msi_database_system::system::{COLUMNS, TABLES, VALIDATION, is_system_table};
 use msi_table::Table;
-use msi_text_base::errors::{Error, ErrorKind};
 
 /// A drop that goes on: the pool, and the streams to be stored.
 #[derive(Drop)]

@@ -1,14 +1,14 @@
 //! A new database: `_Validation`, described by itself.
 
 ghost use Rattle.std.specs.Prelude.{◌≡◌, IfOk};
-ghost use Rattle.msi_text_base.specs.Results.{OnlyMemory};
+ghost use Rattle.msi_base.specs.Results.{OnlyMemory};
 ghost use Rattle.msi_database_storage.specs.Fresh.{fresh};
 
 use crate::database::Database;
+use msi_base::errors::Error;
 use msi_container_format::contents::StreamMap;
-use msi_database_cells::parts::store_all;
+use msi_database_changes::parts::store_all;
 use msi_database_storage::parts::{NewTables, new_tables};
-use msi_text_base::errors::Error;
 use std::alloc::Global;
 
 impl Database {

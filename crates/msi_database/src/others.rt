@@ -2,16 +2,16 @@
 
 ghost use Rattle.std.specs.Prelude.{◌≡◌, IfOk, OnErr, OnOk, false, length, true};
 ghost use Rattle.msi_container_format.specs.Names.{is_name_length};
-ghost use Rattle.msi_text_base.specs.Results.{OnlyMemory};
+ghost use Rattle.msi_base.specs.Results.{OnlyMemory};
 ghost use Rattle.msi_database_storage.specs.Streams.{has_stream_at, stream_at, with_stream, with_stream_or_none};
 ghost use Rattle.msi_database_storage.specs.Streams.{without_stream};
 ghost use Rattle.msi_database.specs.Others.{IsOther, with_streams};
 
 use crate::database::Database;
+use msi_base::errors::Error;
 use msi_container_format::contents::Bytes;
 use msi_container_format::name::Name;
 use msi_container_format::parts::put_back;
-use msi_text_base::errors::Error;
 
 fn know_length(name: &Name)
     ensures { is_name_length (length name.now) ≡ true }

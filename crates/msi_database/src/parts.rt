@@ -1,15 +1,15 @@
 //! What the crates above need beyond the surface: streams of no table, stored beside a database.
 
 ghost use Rattle.std.specs.Prelude.{◌≡◌, IfOk, OnErr, OnOk, false, true};
-ghost use Rattle.msi_text_base.specs.Results.{OnlyMemory};
+ghost use Rattle.msi_base.specs.Results.{OnlyMemory};
 ghost use Rattle.msi_database_storage.specs.Streams.{has_stream_at, stream_at, with_stream, with_stream_or_none};
 ghost use Rattle.msi_database_storage.specs.Streams.{without_stream};
 ghost use Rattle.msi_database.specs.Others.{IsOther, with_streams};
 
 use crate::database::Database;
+use msi_base::errors::Error;
 use msi_container_format::contents::Bytes;
 use msi_container_format::name::Name;
-use msi_text_base::errors::Error;
 
 /// Stores a stream under a name that is no table's, and returns the bytes of the one that was there. Replacing one
 /// takes no memory.

@@ -2,20 +2,20 @@
 
 ghost use Rattle.std.specs.Prelude.{◌≡◌, IfErr, IfOk};
 ghost use Rattle.std.specs.FinMap.{entries};
-ghost use Rattle.msi_text_base.specs.declared.errors.ErrorKind.TheVariants.{InvalidData};
-ghost use Rattle.msi_text_pool_base.specs.Pool.{unindexed};
-ghost use Rattle.msi_text_base.specs.Refusals.{IsRefusal, or_refused};
+ghost use Rattle.msi_base.specs.declared.errors.ErrorKind.TheVariants.{InvalidData};
+ghost use Rattle.msi_pool_places.specs.Pool.{unindexed};
+ghost use Rattle.msi_base.specs.Refusals.{IsRefusal, or_refused};
 ghost use Rattle.msi_database_storage.specs.Agreement.{schema_in};
 ghost use Rattle.msi_database_storage.specs.Kept.{Kept};
 ghost use Rattle.msi_database_storage.specs.Reading.{IsDatabaseOf};
 
 use crate::database::Database;
+use msi_base::errors::Error;
 use msi_container_format::contents::StreamMap;
 use msi_database_storage::parts::{
     DescribedTables, are_sound, look_at, tables_census, tables_in, unlisted_rows, with_named_texts,
 };
-use msi_text_base::errors::Error;
-use msi_text_pool::stringpool::StringPool;
+use msi_pool::stringpool::StringPool;
 use std::alloc::Global;
 
 impl Database {

@@ -1,6 +1,6 @@
 //! Why a call is refused: a sentence for each rule.
 
-use msi_text_base::errors::Reason;
+use msi_base::errors::Reason;
 
 pub(crate) const UNSOUND: Reason = Reason("the database isn't sound");
 

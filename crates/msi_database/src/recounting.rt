@@ -1,12 +1,12 @@
 //! Counting anew: the count of each place becomes the number of the cells that name it.
 
 ghost use Rattle.std.specs.Prelude.{◌≡◌, IfErr, IfOk, None, Ok, OnErr, OnOk, length, true};
-ghost use Rattle.msi_text_base.specs.Results.{OnlyMemory};
-ghost use Rattle.msi_text_base.specs.declared.errors.ErrorKind.TheVariants.{InvalidData};
+ghost use Rattle.msi_base.specs.Results.{OnlyMemory};
+ghost use Rattle.msi_base.specs.declared.errors.ErrorKind.TheVariants.{InvalidData};
 ghost use Rattle.msi_table.specs.Census.{IsCensus};
-ghost use Rattle.msi_text_base.specs.Refusals.{AnswersFirst, IsRefusal, first_refusal, unless_refused};
+ghost use Rattle.msi_base.specs.Refusals.{AnswersFirst, IsRefusal, first_refusal, unless_refused};
 ghost use Rattle.msi_database_schema.specs.Schema.{table_with};
-ghost use Rattle.msi_database_system.specs.System.{validation_columns as columns_of_validation, validation_name};
+ghost use Rattle.msi_database_schema.specs.System.{validation_columns as columns_of_validation, validation_name};
 ghost use Rattle.msi_database_changes.specs.Database.{is_sound, named_numbers};
 ghost use Rattle.msi_database_changes.specs.Recounting as databases;
 ghost use Rattle.msi_database_changes.specs.Recounting.{cell_counts, counting_refusals, early_recount_refusals};
@@ -15,14 +15,14 @@ ghost use Rattle.msi_database.specs.Recounting.{after_recount};
 
 use crate::database::Database;
 use crate::reasons;
+use msi_base::errors::{Error, ErrorKind, Reason};
 use msi_database_schema::parts::named_table;
+use msi_database_schema::system::{VALIDATION, validation_columns};
 use msi_database_storage::parts::{are_sound_tables, cells_census, fits_width, is_standard};
-use msi_database_system::system::{VALIDATION, validation_columns};
+use msi_pool::parts::set_counts;
 use msi_table::Table;
 use msi_table::parts::Census;
 use msi_table_values::column::Column;
-use msi_text_base::errors::{Error, ErrorKind, Reason};
-use msi_text_pool::parts::set_counts;
 
 fn invalid(reason: Reason) -> Error
     ensures { result ≡ InvalidData }

@@ -1,11 +1,11 @@
 //! Changes of a table's rows: rows are inserted, updated and deleted.
 
 ghost use Rattle.std.specs.Prelude.{◌≡◌, IfErr, IfOk, None, OnErr, OnOk, Some, false, true};
-ghost use Rattle.msi_text_base.specs.Results.{OnlyMemory};
-ghost use Rattle.msi_text_pool_base.specs.Pool.{unindexed};
-ghost use Rattle.msi_text_base.specs.Refusals.{AnswersFirst, IsRefusal, first_refusal};
+ghost use Rattle.msi_base.specs.Results.{OnlyMemory};
+ghost use Rattle.msi_pool_places.specs.Pool.{unindexed};
+ghost use Rattle.msi_base.specs.Refusals.{AnswersFirst, IsRefusal, first_refusal};
 ghost use Rattle.msi_query.specs.Selection.{condition_names, has_columns};
-ghost use Rattle.msi_database_system.specs.System.{is_system_table as is_of_system};
+ghost use Rattle.msi_database_schema.specs.System.{is_system_table as is_of_system};
 ghost use Rattle.msi_database_changes.specs.Database.{is_sound as is_sound_one};
 ghost use Rattle.msi_database_changes.specs.Delete as deletes;
 ghost use Rattle.msi_database_changes.specs.Delete.{early_delete_refusals};
@@ -19,17 +19,17 @@ ghost use Rattle.msi_database.specs.Making.{Leaves, MakesRows, TellsUse, base_wi
 
 use crate::changing::RowsAnew;
 use crate::database::Database;
-use msi_database_cells::texts::PoolInUse;
+use msi_base::errors::Error;
 use msi_database_changes::delete::{refuse_delete, remaining_rows};
 use msi_database_changes::insert::{add_rows, refuse_new_rows, refuse_rows, values_of};
+use msi_database_changes::texts::PoolInUse;
 use msi_database_changes::update::{is_barred, refuse_collisions, refuse_sets, updated_rows};
-use msi_database_system::system::is_system_table;
+use msi_database_schema::system::is_system_table;
 use msi_query::parts::{
     DeleteParts, InsertParts, UpdateParts, delete_parts, insert_parts, update_parts,
 };
 use msi_query::{Delete, Insert, Update};
 use msi_table::Table;
-use msi_text_base::errors::Error;
 
 impl Database {
     fn table_to_insert_into(&self, insert: &InsertParts) -> Result<&Table, Error>

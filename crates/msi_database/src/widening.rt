@@ -3,17 +3,17 @@
 ghost use Rattle.std.specs.Prelude.{◌≡◌, IfOk, OnOk, true};
 ghost use Rattle.std.specs.FinMap.{entries};
 ghost use Rattle.std.specs.List.{fold};
-ghost use Rattle.msi_text_base.specs.Results.{OnlyMemory};
+ghost use Rattle.msi_base.specs.Results.{OnlyMemory};
 ghost use Rattle.msi_database_changes.specs.Database.{is_sound as is_sound_one};
 ghost use Rattle.msi_database_storage.specs.Kept.{kept_widened};
 ghost use Rattle.msi_database_storage.specs.Widening.{unlisted_table, with_long_rows};
 
 use crate::database::Database;
+use msi_base::errors::Error;
 use msi_container_format::contents::StreamMap;
 use msi_database_schema::parts::named_table;
+use msi_database_schema::system::{VALIDATION, validation_columns};
 use msi_database_storage::parts::{copied_streams, long_tables, store_long, stored_rows};
-use msi_database_system::system::{VALIDATION, validation_columns};
-use msi_text_base::errors::Error;
 
 impl Database {
     fn store_tables_long(&self, streams: &mut StreamMap) -> Result<(), Error>

@@ -8,30 +8,30 @@ use Rattle.std.specs.Cmp.{tied_itself}
 use Rattle.std.specs.Cmp.Lexicographic.{lists_total}
 use Rattle.std.proofs.lemmas.Bool.Decides.{nat_tests}
 use Rattle.std.proofs.lemmas.Bool.{or_parts, and_parts, false_from_ne_true, not-false, not-true}
-use Rattle.msi_text_categories.specs.CategoryRules.{is_identifier}
-use Rattle.msi_text_base.specs.declared.errors.ErrorKind.TheVariants.{AlreadyExists, InvalidData, InvalidInput}
-use Rattle.msi_text_base.specs.Lists.{has_pair, list_cmp}
-use Rattle.msi_text_pool_base.specs.Pool.{Place}
+use Rattle.msi_categories.specs.CategoryRules.{is_identifier}
+use Rattle.msi_base.specs.declared.errors.ErrorKind.TheVariants.{AlreadyExists, InvalidData, InvalidInput}
+use Rattle.msi_base.specs.Lists.{has_pair, list_cmp}
+use Rattle.msi_pool_places.specs.Pool.{Place}
 use Rattle.msi_table_values.specs.declared.value.Value.{Value}
 use Rattle.msi_table_values.specs.declared.value.Value.TheVariants.{Null, Str}
 use Rattle.msi_table_values.specs.declared.column.ColumnType.{ColumnType}
 use Rattle.msi_table_values.specs.declared.column.ColumnType.TheVariants as coltype
 use Rattle.msi_table_values.specs.Columns.{ColumnDef, HasShortLength, IsPlainIfBinary}
 use Rattle.msi_table_values.specs.OrderLaws.{value_cmp-total}
-use Rattle.msi_text_base.specs.Refusals.{Refusals, first_refusal}
+use Rattle.msi_base.specs.Refusals.{Refusals, first_refusal}
 use Rattle.msi_database_changes.specs.Database.{Database, are_alike, rows_of, same_bool}
 use Rattle.msi_table_cells.specs.TableCells.{TableCells}
 use Rattle.msi_table_cells.specs.KeyOrder.{key_of, same_key}
-use Rattle.msi_database_system.specs.Keys.{is_pool_name, is_table_name}
-use Rattle.msi_database_system.specs.System.{validation_columns}
+use Rattle.msi_database_schema.specs.Keys.{is_pool_name, is_table_name}
+use Rattle.msi_database_schema.specs.System.{validation_columns}
 use Rattle.msi_database_changes.specs.Insert.{row_fits, keys_of, row_refusals}
-use Rattle.msi_database_cells.specs.KeySets.{key_refusals}
+use Rattle.msi_database_changes.specs.KeySets.{key_refusals}
 use Rattle.msi_database_changes.specs.Create.{columns_are_named, is_binary, is_too_long, table_refusals}
-use Rattle.msi_database_system.specs.Description.{validation_row, validation_rows}
+use Rattle.msi_database_schema.specs.Description.{validation_row, validation_rows}
 use Rattle.msi_database_schema.specs.Schema.{SchemaRows, schema_of, share_key}
 use Rattle.msi_database_schema.proofs.ColumnBackLemmas.{IsDescribable}
-use Rattle.msi_text_base.proofs.ListLemmas.{all_at, all_from, none_pass, none_passes, list_any-map}
-use Rattle.msi_text_base.proofs.BoolLemmas.{yes_is_no}
+use Rattle.msi_base.proofs.ListLemmas.{all_at, all_from, none_pass, none_passes, list_any-map}
+use Rattle.msi_base.proofs.BoolLemmas.{yes_is_no}
 use Rattle.msi_database_schema.proofs.SchemaLemmas.{Described}
 use Rattle.msi_database_schema.proofs.AddedRowsLemmas.{IsNew}
 use Rattle.msi_database_schema.proofs.AddedLemmas.{not_described, shared_first, shared_second}

@@ -4,14 +4,14 @@ use Rattle.std.specs.Prelude.{◌&&◌, nat_le, nat_lt, not}
 use Rattle.std.specs.Prelude.{IsSomeAnd}
 use Rattle.std.proofs.lemmas.Bool.{and_parts, not-true}
 use Rattle.std.proofs.lemmas.Bool.Decides.{nat_tests}
-use Rattle.msi_text_base.specs.declared.errors.ErrorKind.{ErrorKind}
-use Rattle.msi_text_pool_base.specs.FirstFit.{most_places}
+use Rattle.msi_base.specs.declared.errors.ErrorKind.{ErrorKind}
+use Rattle.msi_pool_places.specs.FirstFit.{most_places}
 use Rattle.msi_table_cells.specs.declared.cell.ValueRef.{ValueRef}
 use Rattle.msi_table_values.specs.Columns.{ColumnDef, types_of}
 use Rattle.msi_table_cells.specs.Fitting.{FitsTable}
 use Rattle.msi_table.proofs.LongRowsLemmas.{each_fits_long, fits_long}
 use Rattle.msi_query.specs.Queries.{InsertQuery, UpdateQuery, DeleteQuery}
-use Rattle.msi_database_system.specs.System.{validation_columns}
+use Rattle.msi_database_schema.specs.System.{validation_columns}
 use Rattle.msi_database_changes.specs.Database.{Database, is_sound}
 use Rattle.msi_database_changes.specs.Changes.{Change}
 use Rattle.msi_database_changes.specs.Widening.{needs_three_bytes, widened, widening, widens}

@@ -3,16 +3,16 @@ use Rattle.std.proofs.Common.{◌≡◌, ℕ, ◌<◌, Bool, List, Some, refl, a
 use Rattle.std.specs.Prelude.{⊤, unwrap_or}
 use Rattle.std.proofs.lemmas.Bool.Decides.{nat_tests}
 use Rattle.std.proofs.lemmas.Option.{same_Some}
-use Rattle.msi_text_pool_base.specs.Pool.{Place}
-use Rattle.msi_text_pool_base.specs.FirstFit.{most_places, taken, given_back, lowered}
-use Rattle.msi_text_pool_base.specs.FirstFitLaws.{TakenPlacesHoldTheirText, GivenBackTakesOne}
+use Rattle.msi_pool_places.specs.Pool.{Place}
+use Rattle.msi_pool_places.specs.FirstFit.{most_places, taken, given_back, lowered}
+use Rattle.msi_pool_places.specs.FirstFitLaws.{TakenPlacesHoldTheirText, GivenBackTakesOne}
 use Rattle.msi_table_values.specs.declared.value.Value.{Value}
 use Rattle.msi_table_values.specs.declared.value.Value.TheVariants.{Null, Int, Str, Binary}
 use Rattle.msi_table_cells.specs.declared.cell.ValueRef.{ValueRef}
 use Rattle.msi_table_cells.specs.declared.cell.ValueRef.TheVariants as cell
 use Rattle.msi_table_cells.specs.CellValues.{value_of_cell}
 use Rattle.msi_table_cells.proofs.StoredValuesLemmas.{taken_within, lowers}
-use Rattle.msi_database_cells.specs.Texts.{PoolInUse, cell_put, cell_released}
+use Rattle.msi_database_changes.specs.Texts.{PoolInUse, cell_put, cell_released}
 use Rattle.msi_database_schema.proofs.AccountLemmas.{Uses, none, once, ◌⊕◌, Enough, Moved, unmoved, taken_moved, taken_text, back_moved, room_at, named_pos}
 use Rattle.msi_database_changes.proofs.TurnLemmas.{TextsStay, Step, map_some}
 

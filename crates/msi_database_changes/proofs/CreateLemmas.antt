@@ -8,25 +8,25 @@ use Rattle.std.specs.FinMap.{find, put}
 use Rattle.std.specs.FinMap.Entries.{is_sorted-put, find-put, find_tied}
 use Rattle.std.proofs.lemmas.Bool.{cases_Bool, and_parts, and_from, not-false}
 use Rattle.std.proofs.lemmas.Option.{none-some}
-use Rattle.msi_text_base.specs.declared.errors.ErrorKind.{ErrorKind}
-use Rattle.msi_text_base.specs.declared.errors.ErrorKind.TheVariants.{InvalidData}
-use Rattle.msi_text_pool_base.specs.FirstFitLaws.{TakenPlacesHoldTheirText, GivenBackTakesOne}
-use Rattle.msi_text_base.specs.Lists.{list_cmp}
-use Rattle.msi_text_base.proofs.OptionLemmas.{none_there}
+use Rattle.msi_base.specs.declared.errors.ErrorKind.{ErrorKind}
+use Rattle.msi_base.specs.declared.errors.ErrorKind.TheVariants.{InvalidData}
+use Rattle.msi_pool_places.specs.FirstFitLaws.{TakenPlacesHoldTheirText, GivenBackTakesOne}
+use Rattle.msi_base.specs.Lists.{list_cmp}
+use Rattle.msi_base.proofs.OptionLemmas.{none_there}
 use Rattle.msi_table_values.specs.declared.value.Value.{Value}
 use Rattle.msi_table_values.specs.declared.value.Value.TheVariants.{Str}
 use Rattle.msi_table_values.specs.Columns.{ColumnDef}
 use Rattle.msi_table_cells.specs.StoredOrder.{in_stored_order}
 use Rattle.msi_table_cells.specs.KeyOrder.{in_key_order}
-use Rattle.msi_text_base.specs.Refusals.{unless_refused, ◌>>=◌}
-use Rattle.msi_database_system.specs.Keys.{is_table_name}
-use Rattle.msi_database_system.specs.System.{validation_name, columns_name, tables_name, validation_columns}
+use Rattle.msi_base.specs.Refusals.{unless_refused, ◌>>=◌}
+use Rattle.msi_database_schema.specs.Keys.{is_table_name}
+use Rattle.msi_database_schema.specs.System.{validation_name, columns_name, tables_name, validation_columns}
 use Rattle.msi_database_changes.specs.Database.{Database, table_at, has_table, with_table, rows_of, is_sound, are_alike}
 use Rattle.msi_table_cells.specs.TableCells.{TableCells}
 use Rattle.msi_database_changes.specs.Changes.{Change, no_change, sound_refusal}
 use Rattle.msi_database_changes.specs.Create.{table_refusals, with_new_table, create_at_width}
 use Rattle.msi_database_changes.specs.Insert.{rows_inserted}
-use Rattle.msi_database_system.specs.Description.{column_rows, validation_rows}
+use Rattle.msi_database_schema.specs.Description.{column_rows, validation_rows}
 use Rattle.msi_database_schema.proofs.AccountLemmas.{Uses, Enough}
 use Rattle.msi_database_changes.proofs.TurnLemmas.{total}
 use Rattle.msi_database_changes.proofs.RefusedLemmas.{bind_ok, not_refused, first_fails, front_fails, same_Ok, none_holds}

@@ -3,22 +3,22 @@ use Rattle.std.proofs.Common.{◌≡◌, ℕ, ◌+◌, ◌<◌, ◌≤◌, true,
 use Rattle.std.proofs.lemmas.Bool.{and_parts, not-false}
 use Rattle.std.proofs.lemmas.List.{length-map}
 use Rattle.std.proofs.lemmas.Bool.Decides.{nat_tests}
-use Rattle.msi_text_pool_base.specs.FirstFit.{most_places}
-use Rattle.msi_text_pool_base.specs.FirstFitLaws.{TakenPlacesHoldTheirText, GivenBackTakesOne}
-use Rattle.msi_text_base.specs.declared.errors.ErrorKind.TheVariants.{InvalidInput}
+use Rattle.msi_pool_places.specs.FirstFit.{most_places}
+use Rattle.msi_pool_places.specs.FirstFitLaws.{TakenPlacesHoldTheirText, GivenBackTakesOne}
+use Rattle.msi_base.specs.declared.errors.ErrorKind.TheVariants.{InvalidInput}
 use Rattle.msi_table_values.specs.declared.value.Value.{Value}
 use Rattle.msi_table_values.specs.declared.value.Value.TheVariants.{Str}
 use Rattle.msi_table_values.specs.Columns.{ColumnDef}
-use Rattle.msi_text_base.specs.Refusals.{first_refusal}
-use Rattle.msi_database_system.specs.Keys.{is_table_name}
+use Rattle.msi_base.specs.Refusals.{first_refusal}
+use Rattle.msi_database_schema.specs.Keys.{is_table_name}
 use Rattle.msi_table_cells.specs.KeyOrder.{in_key_order}
-use Rattle.msi_database_system.specs.System.{columns_name, tables_name, validation_name}
+use Rattle.msi_database_schema.specs.System.{columns_name, tables_name, validation_name}
 use Rattle.msi_database_changes.specs.Database.{Database, rows_of, is_sound}
 use Rattle.msi_table_cells.specs.TableCells.{TableCells}
 use Rattle.msi_database_changes.specs.Changes.{Change, no_change, pool_of}
 use Rattle.msi_database_changes.specs.Insert.{row_refusals}
 use Rattle.msi_database_changes.specs.Create.{table_refusals}
-use Rattle.msi_database_system.specs.Description.{column_rows, validation_rows}
+use Rattle.msi_database_schema.specs.Description.{column_rows, validation_rows}
 use Rattle.msi_database_changes.proofs.RefusedLemmas.{first_fails, front_fails, none_holds}
 use Rattle.msi_database_changes.proofs.StoredLemmas.{WellFormed, sound_parts}
 use Rattle.msi_database_changes.proofs.InsertedLemmas.{Inserted, inserted_parts, rows_fit, row_faults, key_faults, length_faults}

@@ -9,16 +9,16 @@ use Rattle.std.specs.Cmp.{nat_cmp_total}
 use Rattle.std.specs.Cmp.Lexicographic.{lists_total}
 use Rattle.std.proofs.lemmas.List.Sorted.{IsPermutation-append_comm, IsPermutation-trans}
 use Rattle.std.proofs.lemmas.Bool.{or_parts, false_from_ne_true, not-false}
-use Rattle.msi_text_base.specs.Lists.{list_cmp}
-use Rattle.msi_text_base.proofs.BoolLemmas.{yes_is_no}
+use Rattle.msi_base.specs.Lists.{list_cmp}
+use Rattle.msi_base.proofs.BoolLemmas.{yes_is_no}
 use Rattle.msi_table_values.specs.declared.value.Value.{Value}
 use Rattle.msi_table_values.specs.declared.value.Value.TheVariants.{Str}
 use Rattle.msi_table_values.specs.Columns.{ColumnDef}
 use Rattle.msi_table_cells.specs.KeyOrder.{key_of, same_key}
-use Rattle.msi_database_system.specs.System.{columns_name, tables_name, validation_columns, validation_name}
+use Rattle.msi_database_schema.specs.System.{columns_name, tables_name, validation_columns, validation_name}
 use Rattle.msi_database_changes.specs.Database.{Database, are_alike, has_table}
 use Rattle.msi_database_changes.specs.Changes.{Change, no_change}
-use Rattle.msi_database_system.specs.Description.{column_rows, validation_rows}
+use Rattle.msi_database_schema.specs.Description.{column_rows, validation_rows}
 use Rattle.msi_database_changes.specs.Create.{table_refusals}
 use Rattle.msi_database_changes.specs.Laws.{rows_at}
 use Rattle.msi_database_schema.specs.Schema.{schema_of}

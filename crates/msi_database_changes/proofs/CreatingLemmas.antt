@@ -6,7 +6,7 @@ use Rattle.std.proofs.lemmas.Bool.{lt-ltb, or_parts}
 use Rattle.msi_table_values.specs.declared.column.ColumnType.{ColumnType}
 use Rattle.msi_table_values.specs.declared.column.ColumnType.TheVariants as coltype
 use Rattle.msi_table_values.specs.Columns.{ColumnDef, HasShortLength}
-use Rattle.msi_database_system.specs.Description.{have_short_lengths, is_short}
+use Rattle.msi_database_schema.specs.Description.{have_short_lengths, is_short}
 use Rattle.msi_database_changes.specs.Create.{is_too_long}
 use Rattle.msi_database_changes.proofs.AcceptedLemmas.{short_length}
 

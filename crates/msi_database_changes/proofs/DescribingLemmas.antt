@@ -8,16 +8,16 @@ use Rattle.std.specs.Cmp.{nat_cmp_total}
 use Rattle.std.specs.Cmp.Lexicographic.{lists_total}
 use Rattle.std.proofs.lemmas.Slice.Eq.{bytes_eq-Decides}
 use Rattle.std.proofs.lemmas.Bool.{and_parts, false_from_ne_true, not-false}
-use Rattle.msi_text_base.specs.Lists.{list_cmp}
-use Rattle.msi_text_base.proofs.BoolLemmas.{yes_is_no}
-use Rattle.msi_text_base.specs.Refusals.{first_refusal}
+use Rattle.msi_base.specs.Lists.{list_cmp}
+use Rattle.msi_base.proofs.BoolLemmas.{yes_is_no}
+use Rattle.msi_base.specs.Refusals.{first_refusal}
 use Rattle.msi_query.specs.Selection.{TableValues}
 use Rattle.msi_table_values.specs.declared.value.Value.{Value}
 use Rattle.msi_table_cells.specs.declared.cell.ValueRef.{ValueRef}
 use Rattle.msi_table_values.specs.Columns.{ColumnDef}
 use Rattle.msi_table_cells.specs.CellValues.{row_values}
 use Rattle.msi_table_cells.specs.KeyOrder.{key_of}
-use Rattle.msi_database_system.specs.System.{columns_name, tables_name, validation_columns, validation_name}
+use Rattle.msi_database_schema.specs.System.{columns_name, tables_name, validation_columns, validation_name}
 use Rattle.msi_database_changes.specs.Database.{Database, are_alike, has_table, is_sound, rows_of, table_at, validation_is_standard, with_table}
 use Rattle.msi_table_cells.specs.TableCells.{TableCells}
 use Rattle.msi_query.specs.Rows.{table_values}

@@ -4,21 +4,21 @@ use Rattle.std.specs.Prelude.{nat_lt, ◌==◌, zip, codes, position, set, optio
 use Rattle.std.specs.List.{AllByRecursion, prefix_len, list_all, list_any}
 use Rattle.std.proofs.lemmas.List.{take-set-le}
 use Rattle.std.proofs.lemmas.Bool.{and_parts}
-use Rattle.msi_text_base.specs.Lists.{all_present, has_pair, tabulated}
+use Rattle.msi_base.specs.Lists.{all_present, has_pair, tabulated}
 use Rattle.msi_table_values.specs.declared.value.Value.{Value}
 use Rattle.msi_table_values.specs.declared.value.Value.TheVariants.{Null}
 use Rattle.msi_table_values.specs.Columns.{ColumnDef, begun_column, column_index, column_of_bits}
 use Rattle.msi_query.specs.Queries.{UpdateQuery}
 use Rattle.msi_query_expressions.specs.Conditions.{meets}
-use Rattle.msi_database_system.specs.Keys.{is_pool_name}
-use Rattle.msi_database_system.specs.System.{columns_columns, columns_name, tables_columns, tables_name, validation_columns}
+use Rattle.msi_database_schema.specs.Keys.{is_pool_name}
+use Rattle.msi_database_schema.specs.System.{columns_columns, columns_name, tables_columns, tables_name, validation_columns}
 use Rattle.msi_table_cells.specs.TableCells.{TableCells}
 use Rattle.msi_database_changes.specs.Database.{are_alike}
-use Rattle.msi_database_cells.specs.Setting.{index_of, values_set}
+use Rattle.msi_database_changes.specs.Setting.{index_of, values_set}
 use Rattle.msi_database_changes.specs.Update.{values_after}
 use Rattle.msi_database_schema.specs.Schema.{bits_in, by_name, counted, has_null, numbered_row, SchemaRows, column_of_row, column_rows, columns_of, described, is_faulty, lacks_value, listed_names, schema_of, share_key, text_at, text_of, validation_row, value_at}
-use Rattle.msi_text_base.proofs.ListLemmas.{list_any-map, list_any_same, find-map, has_pair-map}
-use Rattle.msi_text_base.proofs.BoolLemmas.{by_test}
+use Rattle.msi_base.proofs.ListLemmas.{list_any-map, list_any_same, find-map, has_pair-map}
+use Rattle.msi_base.proofs.BoolLemmas.{by_test}
 use Rattle.msi_database_schema.proofs.SchemaLemmas.{Described, describes_from, schema_from}
 use Rattle.msi_database_schema.proofs.OrderlessLemmas.{HasKinds, IsReordered, IsValidationRow, describes_reordered_too, texts_same, validates}
 

@@ -6,9 +6,9 @@ use Rattle.std.specs.Cmp.Lexicographic.{nat_list_cmp_total, bytes_decides}
 use Rattle.std.specs.FinMap.{is_sorted}
 use Rattle.std.proofs.lemmas.Bool.{cases_Bool}
 use Rattle.std.proofs.lemmas.Option.{same_Some}
-use Rattle.msi_text_pool_base.specs.Pool.{Place}
-use Rattle.msi_text_base.specs.Lists.{list_cmp, has_pair, stable_sort}
-use Rattle.msi_text_base.proofs.ListLemmas.{has_pair-map, no_pair_kept}
+use Rattle.msi_pool_places.specs.Pool.{Place}
+use Rattle.msi_base.specs.Lists.{list_cmp, has_pair, stable_sort}
+use Rattle.msi_base.proofs.ListLemmas.{has_pair-map, no_pair_kept}
 use Rattle.msi_table_values.specs.declared.value.Value.{Value}
 use Rattle.msi_table_cells.specs.declared.cell.ValueRef.{ValueRef}
 use Rattle.msi_table_values.specs.Columns.{ColumnDef}
@@ -19,7 +19,7 @@ use Rattle.msi_database_changes.specs.Database.{Database, table_at}
 use Rattle.msi_table_cells.specs.TableCells.{TableCells}
 use Rattle.msi_database_changes.specs.Laws.{rows_at, KeysAreDistinct}
 use Rattle.msi_database_changes.proofs.TurnLemmas.{TextsStay}
-use Rattle.msi_database_cells.proofs.KeyPairLemmas.{same_key_turned, pair-sorted}
+use Rattle.msi_database_changes.proofs.KeyPairLemmas.{same_key_turned, pair-sorted}
 use Rattle.msi_database_changes.proofs.StoredLemmas.{with_rows, stored_in, others, found_after}
 use Rattle.msi_database_changes.proofs.ValuesLemmas.{other_found, others_stay, rows_after}
 

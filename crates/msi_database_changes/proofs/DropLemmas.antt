@@ -8,22 +8,22 @@ use Rattle.std.specs.FinMap.{find, is_sorted, slice_cmp-IsAntisymmetric, nat_cmp
 use Rattle.std.specs.FinMap.Entries.{length_without, is_sorted-where_key, find-where_key}
 use Rattle.std.proofs.lemmas.Bool.{cases_Bool, not-false}
 use Rattle.std.proofs.lemmas.Option.{none-some, same_Some}
-use Rattle.msi_text_base.specs.declared.errors.ErrorKind.{ErrorKind}
-use Rattle.msi_text_base.specs.declared.errors.ErrorKind.TheVariants.{InvalidData, InvalidInput, NotFound}
-use Rattle.msi_text_pool_base.specs.Pool.{Place}
-use Rattle.msi_text_pool_base.specs.FirstFit.{most_places}
-use Rattle.msi_text_pool_base.specs.FirstFitLaws.{TakenPlacesHoldTheirText, GivenBackTakesOne}
-use Rattle.msi_text_base.specs.Lists.{list_cmp}
-use Rattle.msi_text_base.proofs.BoolLemmas.{not_not, T_second}
-use Rattle.msi_text_base.proofs.ListLemmas.{length-filter-le}
+use Rattle.msi_base.specs.declared.errors.ErrorKind.{ErrorKind}
+use Rattle.msi_base.specs.declared.errors.ErrorKind.TheVariants.{InvalidData, InvalidInput, NotFound}
+use Rattle.msi_pool_places.specs.Pool.{Place}
+use Rattle.msi_pool_places.specs.FirstFit.{most_places}
+use Rattle.msi_pool_places.specs.FirstFitLaws.{TakenPlacesHoldTheirText, GivenBackTakesOne}
+use Rattle.msi_base.specs.Lists.{list_cmp}
+use Rattle.msi_base.proofs.BoolLemmas.{not_not, T_second}
+use Rattle.msi_base.proofs.ListLemmas.{length-filter-le}
 use Rattle.msi_table_cells.specs.declared.cell.ValueRef.{ValueRef}
-use Rattle.msi_text_base.specs.Refusals.{Refusals, unless_refused, or_refused, ◌>>=◌}
-use Rattle.msi_database_system.specs.Keys.{is_table_name}
-use Rattle.msi_database_system.specs.System.{is_system_table, validation_name, columns_name, tables_name, validation_columns}
+use Rattle.msi_base.specs.Refusals.{Refusals, unless_refused, or_refused, ◌>>=◌}
+use Rattle.msi_database_schema.specs.Keys.{is_table_name}
+use Rattle.msi_database_schema.specs.System.{is_system_table, validation_name, columns_name, tables_name, validation_columns}
 use Rattle.msi_database_changes.specs.Database.{Database, table_at, rows_of, without_table, with_places, is_sound, are_alike, CountsAreExact, validation_is_standard}
 use Rattle.msi_table_cells.specs.TableCells.{TableCells}
 use Rattle.msi_database_changes.specs.Changes.{Change, no_change, pool_of, sound_refusal}
-use Rattle.msi_database_cells.specs.Texts.{PoolInUse, rows_released}
+use Rattle.msi_database_changes.specs.Texts.{PoolInUse, rows_released}
 use Rattle.msi_database_changes.specs.Drop.{is_row_about, rows_forgotten, table_released, drop_table}
 use Rattle.msi_database_schema.proofs.AccountLemmas.{Uses, none, ◌⊕◌, Enough, Moved}
 use Rattle.msi_database_changes.proofs.TurnLemmas.{total}

@@ -9,17 +9,17 @@ use Rattle.std.specs.declared.cmp.Ordering.{Ordering}
 use Rattle.std.specs.declared.cmp.Ordering.TheVariants.{Less, Equal, Greater}
 use Rattle.std.proofs.Math.Bool.{and-false, and_comm}
 use Rattle.std.proofs.lemmas.Bool.{or_parts}
-use Rattle.msi_text_base.specs.Lists.{has_pair, list_cmp}
+use Rattle.msi_base.specs.Lists.{has_pair, list_cmp}
 use Rattle.msi_table_values.specs.declared.value.Value.{Value}
 use Rattle.msi_table_values.specs.declared.value.Value.TheVariants as value
 use Rattle.msi_table_cells.specs.KeyOrder.{same_key}
-use Rattle.msi_database_system.specs.Keys.{is_pool_name}
-use Rattle.msi_database_system.specs.System.{columns_name, is_schema_table, tables_name}
+use Rattle.msi_database_schema.specs.Keys.{is_pool_name}
+use Rattle.msi_database_schema.specs.System.{columns_name, is_schema_table, tables_name}
 use Rattle.msi_database_schema.specs.Schema.{SchemaRows, column_rows, columns_of, counted, has_number, is_about}
 use Rattle.msi_database_schema.specs.Schema.{lacks_value, schema_of, share_key, text_at, validation_row}
-use Rattle.msi_text_base.proofs.ListLemmas.{all_from, none_pass, all_kept, any_kept, find-filter, find_same}
-use Rattle.msi_text_base.proofs.ListLemmas.{list_any-filter, list_any_same, no_pair_kept}
-use Rattle.msi_text_base.proofs.BoolLemmas.{by_test, yes_is_no}
+use Rattle.msi_base.proofs.ListLemmas.{all_from, none_pass, all_kept, any_kept, find-filter, find_same}
+use Rattle.msi_base.proofs.ListLemmas.{list_any-filter, list_any_same, no_pair_kept}
+use Rattle.msi_base.proofs.BoolLemmas.{by_test, yes_is_no}
 use Rattle.msi_table_values.specs.Values.{is_null}
 use Rattle.msi_database_schema.proofs.SchemaLemmas.{Described, Describes, NoFault, describes_from, is_listed, names_tie, same_names, schema_from, table_of}
 use Rattle.msi_database_schema.proofs.OrderlessLemmas.{HasKinds, IsColumnRow, IsReordered, IsValidationRow, columns_same, describes_reordered_too, filter-filter, is_counted, listed_is, table_same, texts_same, validates}

@@ -1,8 +1,8 @@
 -- Refusals that are told before memory is taken.
 use Rattle.std.proofs.Common.{◌≡◌, ◌++◌, Option, Some, None, ap, ◌∙◌}
-use Rattle.msi_text_base.specs.declared.errors.ErrorKind.{ErrorKind}
-use Rattle.msi_text_base.specs.declared.errors.ErrorKind.TheVariants.{NotFound}
-use Rattle.msi_text_base.specs.Refusals.{Refusals, first_refusal}
+use Rattle.msi_base.specs.declared.errors.ErrorKind.{ErrorKind}
+use Rattle.msi_base.specs.declared.errors.ErrorKind.TheVariants.{NotFound}
+use Rattle.msi_base.specs.Refusals.{Refusals, first_refusal}
 use Rattle.msi_table_cells.specs.TableCells.{TableCells}
 use Rattle.msi_database_changes.specs.Changes.{missing_or}
 use Rattle.msi_database_changes.proofs.RefusedLemmas.{behind_passed}

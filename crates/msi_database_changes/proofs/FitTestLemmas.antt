@@ -14,7 +14,7 @@ use Rattle.msi_table_values.specs.ValidValues.{fits_type}
 use Rattle.msi_table_cells.proofs.StoredValuesLemmas.{fits_int, fits_null, fits_stream}
 use Rattle.msi_database_changes.specs.Database.{Database}
 use Rattle.msi_table_cells.specs.TableCells.{TableCells}
-use Rattle.msi_database_system.specs.System.{validation_columns}
+use Rattle.msi_database_schema.specs.System.{validation_columns}
 use Rattle.msi_database_changes.proofs.StoredLemmas.{found_passes}
 use Rattle.msi_database_changes.proofs.PutFitsLemmas.{fits_text}
 use Rattle.msi_database_changes.proofs.TracksLemmas.{AllFit}

@@ -1,11 +1,11 @@
 -- An insert.
 use Rattle.std.proofs.Common.{◌≡◌, true, not, [], ◌∷◌, ◌++◌, Ok, sym, subst, IsPermutation}
 use Rattle.std.proofs.lemmas.Bool.{not-false}
-use Rattle.msi_text_base.specs.declared.errors.ErrorKind.TheVariants.{InvalidData, InvalidInput}
-use Rattle.msi_text_pool_base.specs.FirstFitLaws.{TakenPlacesHoldTheirText, GivenBackTakesOne}
+use Rattle.msi_base.specs.declared.errors.ErrorKind.TheVariants.{InvalidData, InvalidInput}
+use Rattle.msi_pool_places.specs.FirstFitLaws.{TakenPlacesHoldTheirText, GivenBackTakesOne}
 use Rattle.msi_query.specs.Queries.{InsertQuery}
-use Rattle.msi_text_base.specs.Refusals.{Refusals, unless_refused}
-use Rattle.msi_database_system.specs.System.{is_system_table}
+use Rattle.msi_base.specs.Refusals.{Refusals, unless_refused}
+use Rattle.msi_database_schema.specs.System.{is_system_table}
 use Rattle.msi_database_changes.specs.Database.{Database, is_sound, CountsAreExact}
 use Rattle.msi_database_changes.specs.Changes.{Change, no_change, sound_refusal}
 use Rattle.msi_database_changes.specs.Insert.{rows_inserted, insert_at_width}

@@ -5,22 +5,22 @@ use Rattle.std.proofs.lemmas.Bool.{and_parts, and_from}
 use Rattle.std.proofs.lemmas.List.{map-append}
 use Rattle.std.proofs.lemmas.List.Folds.{list_all-append}
 use Rattle.std.proofs.lemmas.List.Sorted.{IsPermutation-trans}
-use Rattle.msi_text_base.specs.declared.errors.ErrorKind.TheVariants.{InvalidData, InvalidInput, NotFound}
-use Rattle.msi_text_pool_base.specs.FirstFitLaws.{TakenPlacesHoldTheirText, GivenBackTakesOne}
-use Rattle.msi_text_base.specs.Lists.{has_pair}
+use Rattle.msi_base.specs.declared.errors.ErrorKind.TheVariants.{InvalidData, InvalidInput, NotFound}
+use Rattle.msi_pool_places.specs.FirstFitLaws.{TakenPlacesHoldTheirText, GivenBackTakesOne}
+use Rattle.msi_base.specs.Lists.{has_pair}
 use Rattle.msi_table_values.specs.declared.value.Value.{Value}
 use Rattle.msi_table_cells.specs.declared.cell.ValueRef.{ValueRef}
 use Rattle.msi_table_values.specs.Columns.{ColumnDef}
 use Rattle.msi_table_values.specs.ValidValues.{is_valid_value}
 use Rattle.msi_table_cells.specs.CellValues.{row_values}
 use Rattle.msi_table_cells.specs.StoredOrder.{row_cmp, in_stored_order}
-use Rattle.msi_text_base.specs.Refusals.{Refusals, first_refusal, unless_refused, or_refused, ◌>>=◌}
+use Rattle.msi_base.specs.Refusals.{Refusals, first_refusal, unless_refused, or_refused, ◌>>=◌}
 use Rattle.msi_table_cells.specs.KeyOrder.{key_of, same_key, key_cmp, in_key_order}
 use Rattle.msi_database_changes.specs.Database.{Database, table_at, rows_of, is_sound, CountsAreExact}
 use Rattle.msi_table_cells.specs.TableCells.{TableCells}
 use Rattle.msi_database_changes.specs.Changes.{Change, pool_of, with_stored}
-use Rattle.msi_database_cells.specs.Texts.{PoolInUse, rows_put}
-use Rattle.msi_database_cells.specs.KeySets.{key_refusals}
+use Rattle.msi_database_changes.specs.Texts.{PoolInUse, rows_put}
+use Rattle.msi_database_changes.specs.KeySets.{key_refusals}
 use Rattle.msi_database_changes.specs.Insert.{keys_of, row_fits, row_refusals, rows_added, rows_inserted}
 use Rattle.msi_database_changes.specs.Laws.{rows_at, OthersStay}
 use Rattle.msi_database_changes.proofs.RefusedLemmas.{bind_ok, not_refused, value_there, front_fails, each_passes}

@@ -3,22 +3,22 @@ use Rattle.std.proofs.Common.{◌≡◌, ℕ, true, false, List, [], ◌∷◌, 
 use Rattle.std.specs.List.{list_any}
 use Rattle.std.proofs.lemmas.Bool.{or_parts}
 use Rattle.std.proofs.lemmas.List.{map-append}
-use Rattle.msi_text_base.specs.declared.errors.ErrorKind.TheVariants.{AlreadyExists, InvalidData, InvalidInput}
-use Rattle.msi_text_pool_base.specs.FirstFitLaws.{TakenPlacesHoldTheirText, GivenBackTakesOne}
-use Rattle.msi_text_base.specs.Lists.{has_pair}
+use Rattle.msi_base.specs.declared.errors.ErrorKind.TheVariants.{AlreadyExists, InvalidData, InvalidInput}
+use Rattle.msi_pool_places.specs.FirstFitLaws.{TakenPlacesHoldTheirText, GivenBackTakesOne}
+use Rattle.msi_base.specs.Lists.{has_pair}
 use Rattle.msi_table_values.specs.declared.value.Value.{Value}
 use Rattle.msi_table_cells.specs.declared.cell.ValueRef.{ValueRef}
 use Rattle.msi_table_cells.specs.CellValues.{row_values}
 use Rattle.msi_table_cells.specs.StoredOrder.{row_cmp, in_stored_order}
-use Rattle.msi_text_base.specs.Refusals.{first_refusal}
+use Rattle.msi_base.specs.Refusals.{first_refusal}
 use Rattle.msi_table_cells.specs.KeyOrder.{key_of, same_key, key_cmp, in_key_order}
 use Rattle.msi_database_changes.specs.Database.{rows_of, is_sound}
 use Rattle.msi_database_changes.specs.Changes.{Change}
-use Rattle.msi_database_cells.specs.KeySets.{key_refusals}
+use Rattle.msi_database_changes.specs.KeySets.{key_refusals}
 use Rattle.msi_database_changes.specs.Insert.{keys_of}
 use Rattle.msi_database_changes.specs.Laws.{rows_at, KeysAreDistinct}
 use Rattle.msi_database_changes.proofs.RefusedLemmas.{first_fails}
-use Rattle.msi_database_cells.proofs.KeyPairLemmas.{same_key_turned, AllApart, pair-append}
+use Rattle.msi_database_changes.proofs.KeyPairLemmas.{same_key_turned, AllApart, pair-append}
 use Rattle.msi_database_changes.proofs.StoredLemmas.{WellFormed}
 use Rattle.msi_database_changes.proofs.ValuesLemmas.{rows_before}
 use Rattle.msi_database_changes.proofs.DistinctLemmas.{keys, keys_sorted, distinct_after}

@@ -4,9 +4,9 @@ use Rattle.std.specs.Prelude.{IsPermutation}
 use Rattle.std.specs.List.{AllByRecursion}
 use Rattle.std.proofs.lemmas.List.Sorted.{IsPermutation-sym}
 use Rattle.msi_table_values.specs.Columns.{ColumnDef}
-use Rattle.msi_database_system.specs.Description.{validation_rows}
+use Rattle.msi_database_schema.specs.Description.{validation_rows}
 use Rattle.msi_database_schema.specs.Schema.{SchemaRows}
-use Rattle.msi_text_base.proofs.ListLemmas.{In_permuted, all_at, all_from, all_joined, all_kept}
+use Rattle.msi_base.proofs.ListLemmas.{In_permuted, all_at, all_from, all_joined, all_kept}
 use Rattle.msi_database_schema.proofs.OrderlessLemmas.{HasKinds, IsColumnRow, IsReordered, IsValidationRow}
 use Rattle.msi_database_schema.proofs.AddedRowsLemmas.{added, rows_from}
 use Rattle.msi_database_schema.proofs.AddedLemmas.{rows_kinds, validation_kinds}

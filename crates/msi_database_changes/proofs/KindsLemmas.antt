@@ -3,7 +3,7 @@ use Rattle.std.proofs.Common.{◌≡◌, ℕ, Bool, true, false, List, [], ◌�
 use Rattle.std.specs.Prelude.{◌||◌, map, bytes_eq}
 use Rattle.std.specs.List.{AllByRecursion, list_any}
 use Rattle.std.proofs.lemmas.Bool.{or_parts, and_parts}
-use Rattle.msi_text_pool_base.specs.Pool.{Place}
+use Rattle.msi_pool_places.specs.Pool.{Place}
 use Rattle.msi_table_cells.specs.declared.cell.ValueRef.{ValueRef}
 use Rattle.msi_table_cells.specs.declared.cell.ValueRef.TheVariants as cell
 use Rattle.msi_table_values.specs.declared.value.Value.{Value}
@@ -13,7 +13,7 @@ use Rattle.msi_table_values.specs.declared.column.ColumnType.TheVariants as colt
 use Rattle.msi_table_cells.specs.CellValues.{value_of_cell, row_values}
 use Rattle.msi_table_values.specs.Columns.{ColumnDef, types_of}
 use Rattle.msi_table_cells.specs.Fitting.{FitsColumn, FitsRow}
-use Rattle.msi_database_system.specs.System.{columns_columns, validation_columns}
+use Rattle.msi_database_schema.specs.System.{columns_columns, validation_columns}
 use Rattle.msi_database_changes.specs.Database.{are_alike, same_kind}
 use Rattle.msi_database_schema.specs.Schema.{SchemaRows, has_null, lacks_value, number_of, text_of}
 use Rattle.msi_table_values.specs.Values.{is_null}

@@ -10,8 +10,8 @@ use Rattle.std.specs.FinMap.Entries.{find-put}
 use Rattle.std.proofs.lemmas.List.{get_or-map, length-map}
 use Rattle.std.proofs.lemmas.List.Sorted.{IsPermutation-sym}
 use Rattle.std.proofs.lemmas.Option.{same_Some}
-use Rattle.msi_text_base.specs.Lists.{list_cmp}
-use Rattle.msi_text_pool_base.specs.Pool.{Place}
+use Rattle.msi_base.specs.Lists.{list_cmp}
+use Rattle.msi_pool_places.specs.Pool.{Place}
 use Rattle.msi_table_values.specs.declared.value.Value.{Value}
 use Rattle.msi_table_values.specs.declared.value.Value.TheVariants.{Null}
 use Rattle.msi_table_cells.specs.declared.cell.ValueRef.{ValueRef}
@@ -25,14 +25,14 @@ use Rattle.msi_table_values.specs.Values.{value_cmp}
 use Rattle.msi_table_cells.specs.TableCells.{TableCells}
 use Rattle.msi_database_changes.specs.Database.{Database, table_at, rows_of}
 use Rattle.msi_database_changes.specs.Changes.{Change, no_change, pool_of, with_stored}
-use Rattle.msi_database_cells.specs.Texts.{PoolInUse, rows_released}
+use Rattle.msi_database_changes.specs.Texts.{PoolInUse, rows_released}
 use Rattle.msi_database_changes.specs.Delete.{rows_meeting}
 use Rattle.msi_table_cells.specs.KeyOrder.{in_key_order}
 use Rattle.msi_database_changes.specs.Laws.{rows_at, RowsFit, LeadingNumbersAscend, LeadingNumbersAscendIn}
 use Rattle.msi_database_changes.specs.Widening.{widened}
 use Rattle.msi_database_changes.proofs.AtWidthLemmas.{change_at, fits_widened, sound_widened, IsChangeAtWidth, inserted, updated, deleted}
 use Rattle.msi_database_changes.proofs.FitsKeptLemmas.{change_fits}
-use Rattle.msi_text_pool_base.specs.FirstFitLaws.{TakenPlacesHoldTheirText, GivenBackTakesOne}
+use Rattle.msi_pool_places.specs.FirstFitLaws.{TakenPlacesHoldTheirText, GivenBackTakesOne}
 use Rattle.msi_table_cells.proofs.StableSortLemmas.{sort_moves}
 use Rattle.msi_database_changes.proofs.DescribingLemmas.{rows_at_is}
 use Rattle.msi_database_changes.proofs.KindsKeptLemmas.{all_permuted}

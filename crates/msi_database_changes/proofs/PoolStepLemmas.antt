@@ -5,15 +5,15 @@ use Rattle.std.specs.Option.{option_map_or}
 use Rattle.std.specs.List.{AllByRecursion}
 use Rattle.std.proofs.lemmas.Bool.{true≢false}
 use Rattle.std.proofs.lemmas.Option.{same_Some, option_and_then_some}
-use Rattle.msi_text_pool_base.specs.Pool.{Place, PlacesWritten}
-use Rattle.msi_text_pool_base.specs.FirstFit.{count_of, taken, given_back}
-use Rattle.msi_text_pool_base.specs.FirstFitLaws.{TakenPlacesHoldTheirText, GivenBackTakesOne, Takes, GivesBack, count_at, text_at, place_at}
+use Rattle.msi_pool_places.specs.Pool.{Place, PlacesWritten}
+use Rattle.msi_pool_places.specs.FirstFit.{count_of, taken, given_back}
+use Rattle.msi_pool_places.specs.FirstFitLaws.{TakenPlacesHoldTheirText, GivenBackTakesOne, Takes, GivesBack, count_at, text_at, place_at}
 use Rattle.msi_table_values.specs.declared.value.Value.{Value}
 use Rattle.msi_table_values.specs.declared.value.Value.TheVariants.{Null, Int, Str, Binary}
 use Rattle.msi_table_cells.specs.declared.cell.ValueRef.{ValueRef}
 use Rattle.msi_table_cells.specs.declared.cell.ValueRef.TheVariants as cell
 use Rattle.msi_table_cells.proofs.StoredValuesLemmas.{by_number}
-use Rattle.msi_database_cells.specs.Texts.{PoolInUse, cell_put, cell_released, in_turn, rows_put, rows_released}
+use Rattle.msi_database_changes.specs.Texts.{PoolInUse, cell_put, cell_released, in_turn, rows_put, rows_released}
 use Rattle.msi_database_changes.proofs.TurnLemmas.{map_some}
 
 -- each count is in range, and a free place has the empty text

@@ -7,9 +7,9 @@ use Rattle.std.proofs.lemmas.Bool.Decides.{nat_tests}
 use Rattle.std.proofs.lemmas.List.{length-append}
 use Rattle.std.proofs.lemmas.List.Sorted.{length_permutation}
 use Rattle.std.proofs.lemmas.Option.{same_Some, option_and_then_some}
-use Rattle.msi_text_pool_base.specs.FirstFit.{most_places, taken}
-use Rattle.msi_text_pool_base.specs.FirstFitLaws.{TakenPlacesHoldTheirText}
-use Rattle.msi_text_pool_base.specs.Pool.{Place}
+use Rattle.msi_pool_places.specs.FirstFit.{most_places, taken}
+use Rattle.msi_pool_places.specs.FirstFitLaws.{TakenPlacesHoldTheirText}
+use Rattle.msi_pool_places.specs.Pool.{Place}
 use Rattle.msi_table_values.specs.declared.column.ColumnType.{ColumnType}
 use Rattle.msi_table_values.specs.declared.column.ColumnType.TheVariants as coltype
 use Rattle.msi_table_values.specs.declared.value.Value.{Value}
@@ -22,9 +22,9 @@ use Rattle.msi_table_cells.specs.StoredOrder.{in_stored_order}
 use Rattle.msi_table_values.specs.ValidValues.{fits_type, is_valid_value}
 use Rattle.msi_table_cells.proofs.SortedFitsLemmas.{sorted_fits}
 use Rattle.msi_table_cells.specs.KeyOrder.{in_key_order, key_cmp}
-use Rattle.msi_database_cells.specs.Texts.{PoolInUse, cell_put, in_turn, rows_put}
+use Rattle.msi_database_changes.specs.Texts.{PoolInUse, cell_put, in_turn, rows_put}
 use Rattle.msi_database_changes.specs.Insert.{row_fits}
-use Rattle.msi_text_base.proofs.ListLemmas.{all_joined}
+use Rattle.msi_base.proofs.ListLemmas.{all_joined}
 use Rattle.msi_table_cells.proofs.StoredValuesLemmas.{fits_int, fits_null, fits_stream, below_bound, taken_within}
 use Rattle.msi_table_cells.proofs.StableSortLemmas.{sort_moves}
 use Rattle.msi_database_changes.proofs.TurnLemmas.{map_some}

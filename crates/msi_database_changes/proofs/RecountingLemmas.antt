@@ -5,16 +5,16 @@ use Rattle.std.specs.List.{list_all}
 use Rattle.std.specs.Option.{option_map_or}
 use Rattle.std.proofs.lemmas.Bool.{and_parts, cases_lt, le-leb, leb-true, ne_eqb, eqb-true, not-false}
 use Rattle.std.proofs.lemmas.Option.{get_or_from_slice_get, slice_get_past}
-use Rattle.msi_text_base.specs.Lists.{has_pair, list_cmp}
-use Rattle.msi_text_base.proofs.ListLemmas.{tabulated_at}
-use Rattle.msi_text_pool_base.specs.Pool.{Place, PlacesWritten}
-use Rattle.msi_text_pool_base.specs.FirstFit.{count_of, most_places}
-use Rattle.msi_text_pool_base.specs.FirstFitLaws.{text_at}
-use Rattle.msi_text_pool_base.specs.Recounting.{many_recounted, with_count, with_counts}
-use Rattle.msi_text_pool_base.proofs.RecountingLemmas.{length-with_counts, many_recounted-cons}
+use Rattle.msi_base.specs.Lists.{has_pair, list_cmp}
+use Rattle.msi_base.proofs.ListLemmas.{tabulated_at}
+use Rattle.msi_pool_places.specs.Pool.{Place, PlacesWritten}
+use Rattle.msi_pool_places.specs.FirstFit.{count_of, most_places}
+use Rattle.msi_pool_places.specs.FirstFitLaws.{text_at}
+use Rattle.msi_pool_places.specs.Recounting.{many_recounted, with_count, with_counts}
+use Rattle.msi_pool_places.proofs.RecountingLemmas.{length-with_counts, many_recounted-cons}
 use Rattle.msi_table.proofs.ReadRowsLemmas.{length-tabulated}
 use Rattle.msi_table_cells.specs.KeyOrder.{key_of, same_key}
-use Rattle.msi_text_base.specs.Refusals.{first_refusal}
+use Rattle.msi_base.specs.Refusals.{first_refusal}
 use Rattle.msi_query.specs.Selection.{TableValues}
 use Rattle.msi_database_changes.specs.Database.{Database, CountsAreExact, cells_naming, counts_suffice, is_sound, is_well_formed, named_numbers, names_stay_in_pool, pool_fits_width, table_at, tables_are_readable, validation_is_standard, values_of, with_places}
 use Rattle.msi_database_changes.specs.Laws.{KeysAreDistinct}

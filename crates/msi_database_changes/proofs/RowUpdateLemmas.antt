@@ -2,11 +2,11 @@
 use Rattle.std.proofs.Common.{◌≡◌, Bool, true, false, not, ◌&&◌, List, [], ◌∷◌, ◌++◌, map, Option, Some, None, Result, Ok, Err, refl, sym, ap, ◌∙◌, ⊎_elim}
 use Rattle.std.specs.List.{list_all}
 use Rattle.std.proofs.lemmas.Bool.{and_parts, cases_Bool}
-use Rattle.msi_text_base.specs.declared.errors.ErrorKind.{ErrorKind}
-use Rattle.msi_text_base.specs.declared.errors.ErrorKind.TheVariants.{AlreadyExists, InvalidInput}
-use Rattle.msi_text_base.specs.Lists.{has_pair}
-use Rattle.msi_text_pool_base.specs.Pool.{Place}
-use Rattle.msi_text_base.specs.Refusals.{IsRefusal, Refusals, first_refusal, unless, unless_refused}
+use Rattle.msi_base.specs.declared.errors.ErrorKind.{ErrorKind}
+use Rattle.msi_base.specs.declared.errors.ErrorKind.TheVariants.{AlreadyExists, InvalidInput}
+use Rattle.msi_base.specs.Lists.{has_pair}
+use Rattle.msi_pool_places.specs.Pool.{Place}
+use Rattle.msi_base.specs.Refusals.{IsRefusal, Refusals, first_refusal, unless, unless_refused}
 use Rattle.msi_query.specs.Selection.{condition_names, has_columns}
 use Rattle.msi_table_values.specs.declared.value.Value.{Value}
 use Rattle.msi_table_cells.specs.declared.cell.ValueRef.{ValueRef}
@@ -17,7 +17,7 @@ use Rattle.msi_database_changes.specs.Insert.{table_with}
 use Rattle.msi_table_cells.specs.KeyOrder.{key_of, same_key}
 use Rattle.msi_database_changes.specs.RowUpdates.{RowUpdateDef, row_set}
 use Rattle.msi_database_changes.specs.Update.{keys_collide, set_is_valid, set_refusals, sets_key, values_after}
-use Rattle.msi_database_cells.proofs.KeySetLemmas.{refused}
+use Rattle.msi_database_changes.proofs.KeySetLemmas.{refused}
 use Rattle.msi_database_changes.proofs.RefusedLemmas.{first_refused}
 
 -- the first item that fails a test refuses

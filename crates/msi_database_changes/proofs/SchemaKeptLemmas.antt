@@ -2,9 +2,9 @@
 use Rattle.std.proofs.Common.{◌≡◌, ℕ, Bool, true, List, [], ◌∷◌, map, Option, Some, None, Ok, is_some, option_map, refl, sym, ap, subst, ◌∙◌}
 use Rattle.std.specs.Prelude.{IsSomeAnd, unwrap_or}
 use Rattle.std.specs.List.{AllByRecursion}
-use Rattle.msi_text_base.proofs.OptionLemmas.{map_some}
-use Rattle.msi_text_pool_base.specs.FirstFitLaws.{TakenPlacesHoldTheirText, GivenBackTakesOne}
-use Rattle.msi_text_base.specs.Refusals.{first_refusal}
+use Rattle.msi_base.proofs.OptionLemmas.{map_some}
+use Rattle.msi_pool_places.specs.FirstFitLaws.{TakenPlacesHoldTheirText, GivenBackTakesOne}
+use Rattle.msi_base.specs.Refusals.{first_refusal}
 use Rattle.msi_table_values.specs.declared.column.ColumnType.{ColumnType}
 use Rattle.msi_table_cells.specs.declared.cell.ValueRef.{ValueRef}
 use Rattle.msi_table_values.specs.Columns.{ColumnDef, types_of}
@@ -12,7 +12,7 @@ use Rattle.msi_table_cells.specs.Fitting.{FitsRow, FitsTable}
 use Rattle.msi_table_cells.specs.CellValues.{row_values}
 use Rattle.msi_table_cells.specs.TableCells.{TableCells}
 use Rattle.msi_database_schema.specs.Schema.{SchemaRows, schema_of}
-use Rattle.msi_database_system.specs.System.{columns_name, columns_columns, validation_name, validation_columns}
+use Rattle.msi_database_schema.specs.System.{columns_name, columns_columns, validation_name, validation_columns}
 use Rattle.msi_database_schema.proofs.OrderlessLemmas.{HasKinds}
 use Rattle.msi_database_schema.proofs.SchemaLemmas.{NoFault, describes_from, table_of}
 use Rattle.msi_database_changes.specs.Database.{Database, table_at, rows_of, are_alike, columns_by_name, is_well_formed}
@@ -21,7 +21,7 @@ use Rattle.msi_database_changes.specs.Create.{create_at_width}
 use Rattle.msi_database_changes.specs.Widening.{widened}
 use Rattle.msi_database_changes.specs.Laws.{describing, RowsFit, TablesAreDescribed, CreatedTablesAreDescribed, DroppedTablesAreForgotten}
 use Rattle.std.specs.FinMap.{put}
-use Rattle.msi_text_base.specs.Lists.{list_cmp}
+use Rattle.msi_base.specs.Lists.{list_cmp}
 use Rattle.msi_database_changes.proofs.AtWidthLemmas.{fits_widened, widening_made}
 use Rattle.msi_database_changes.proofs.KindsLemmas.{fits_alike, kinds_from_cells}
 use Rattle.msi_database_changes.proofs.ShownLemmas.{created, find_shown, shown, shown_created}

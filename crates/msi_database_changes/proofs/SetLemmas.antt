@@ -2,17 +2,17 @@
 use Rattle.std.proofs.Common.{◌≡◌, ℕ, zero, suc, ◌+◌, ◌<◌, Bool, List, [], ◌∷◌, map, length, set, Some, refl, sym, ap, ap₂, ◌∙◌, subst, arith, length-set}
 use Rattle.std.specs.List.{AllByRecursion}
 use Rattle.std.proofs.lemmas.Option.{same_Some, option_and_then_some}
-use Rattle.msi_text_pool_base.specs.Pool.{Place}
-use Rattle.msi_text_pool_base.specs.FirstFit.{most_places}
-use Rattle.msi_text_pool_base.specs.FirstFitLaws.{TakenPlacesHoldTheirText, GivenBackTakesOne}
+use Rattle.msi_pool_places.specs.Pool.{Place}
+use Rattle.msi_pool_places.specs.FirstFit.{most_places}
+use Rattle.msi_pool_places.specs.FirstFitLaws.{TakenPlacesHoldTheirText, GivenBackTakesOne}
 use Rattle.msi_table_values.specs.declared.value.Value.{Value}
 use Rattle.msi_table_cells.specs.declared.cell.ValueRef.{ValueRef}
 use Rattle.msi_table_cells.specs.declared.cell.ValueRef.TheVariants as cell
 use Rattle.msi_table_values.specs.Columns.{ColumnDef}
 use Rattle.msi_table_cells.specs.CellValues.{value_of_cell, row_values}
 use Rattle.msi_table_cells.specs.Fitting.{cell_of}
-use Rattle.msi_database_cells.specs.Texts.{PoolInUse, cell_put, cell_released}
-use Rattle.msi_database_cells.specs.Setting.{index_of, values_set, cells_set}
+use Rattle.msi_database_changes.specs.Texts.{PoolInUse, cell_put, cell_released}
+use Rattle.msi_database_changes.specs.Setting.{index_of, values_set, cells_set}
 use Rattle.msi_database_schema.proofs.AccountLemmas.{Uses, ◌⊕◌, Enough, Moved, unmoved}
 use Rattle.msi_database_changes.proofs.TurnLemmas.{TextsStay}
 use Rattle.msi_database_changes.proofs.CellLemmas.{cell_uses, cell_put_moves, cell_released_moves}

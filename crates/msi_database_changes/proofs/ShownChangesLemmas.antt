@@ -5,21 +5,21 @@ use Rattle.std.specs.List.{fold}
 use Rattle.std.specs.FinMap.Entries.{is_sorted, is_sorted-where_key}
 use Rattle.std.specs.Ordering.{eq_by_cmp}
 use Rattle.std.proofs.lemmas.Bool.{not-false}
-use Rattle.msi_text_base.specs.declared.errors.ErrorKind.TheVariants.{InvalidInput, NotFound}
-use Rattle.msi_text_base.specs.Lists.{list_cmp}
-use Rattle.msi_text_base.proofs.OptionLemmas.{map_some}
-use Rattle.msi_text_pool_base.specs.Pool.{Place}
-use Rattle.msi_text_base.specs.Refusals.{Refusals, first_refusal, or_refused, unless_refused, ◌>>=◌}
+use Rattle.msi_base.specs.declared.errors.ErrorKind.TheVariants.{InvalidInput, NotFound}
+use Rattle.msi_base.specs.Lists.{list_cmp}
+use Rattle.msi_base.proofs.OptionLemmas.{map_some}
+use Rattle.msi_pool_places.specs.Pool.{Place}
+use Rattle.msi_base.specs.Refusals.{Refusals, first_refusal, or_refused, unless_refused, ◌>>=◌}
 use Rattle.msi_query.specs.Selection.{condition_names, has_columns}
 use Rattle.msi_query.specs.Queries.{DeleteQuery, UpdateQuery}
-use Rattle.msi_database_system.specs.System.{columns_name, is_system_table, tables_name, validation_name}
-use Rattle.msi_database_system.specs.Keys.{is_table_name}
+use Rattle.msi_database_schema.specs.System.{columns_name, is_system_table, tables_name, validation_name}
+use Rattle.msi_database_schema.specs.Keys.{is_table_name}
 use Rattle.msi_database_changes.specs.Database.{Database, rows_of, table_at}
 use Rattle.msi_table_cells.specs.TableCells.{TableCells}
 use Rattle.msi_database_changes.specs.Changes.{Change, no_change, pool_of, sound_refusal, with_stored}
 use Rattle.msi_database_changes.specs.Delete.{delete_rows, rows_deleted, rows_meeting}
 use Rattle.msi_database_changes.specs.Drop.{drop_table, is_row_about, rows_forgotten, table_released}
-use Rattle.msi_database_cells.specs.Texts.{in_turn, rows_released}
+use Rattle.msi_database_changes.specs.Texts.{in_turn, rows_released}
 use Rattle.msi_database_changes.specs.Update.{is_update_barred, row_updated, rows_updated, update_refusals, update_at_width}
 use Rattle.msi_database_changes.specs.Insert.{rows_inserted}
 use Rattle.msi_database_changes.proofs.AtWidthLemmas.{IsChangeAtWidth, inserted, updated, deleted}

@@ -10,14 +10,14 @@ use Rattle.std.specs.FinMap.Entries.{length-put, is_sorted-put, find-put, find_t
 use Rattle.std.proofs.lemmas.Bool.{cases_Bool, and_parts, and_from}
 use Rattle.std.proofs.lemmas.Bool.Decides.{nat_tests}
 use Rattle.std.proofs.lemmas.Option.{none-some, same_Some}
-use Rattle.msi_text_pool_base.specs.Pool.{Place}
-use Rattle.msi_text_pool_base.specs.FirstFit.{most_places}
-use Rattle.msi_text_base.specs.Lists.{list_cmp}
-use Rattle.msi_text_base.proofs.BoolLemmas.{T_second}
+use Rattle.msi_pool_places.specs.Pool.{Place}
+use Rattle.msi_pool_places.specs.FirstFit.{most_places}
+use Rattle.msi_base.specs.Lists.{list_cmp}
+use Rattle.msi_base.proofs.BoolLemmas.{T_second}
 use Rattle.msi_table_cells.specs.declared.cell.ValueRef.{ValueRef}
 use Rattle.msi_table_values.specs.Columns.{ColumnDef}
-use Rattle.msi_database_system.specs.Keys.{is_table_name}
-use Rattle.msi_database_system.specs.System.{validation_name, validation_columns}
+use Rattle.msi_database_schema.specs.Keys.{is_table_name}
+use Rattle.msi_database_schema.specs.System.{validation_name, validation_columns}
 use Rattle.msi_database_changes.specs.Database.{Database, table_at, with_table, with_places, rows_of, are_alike, CountsAreExact, counts_suffice, names_stay_in_pool, pool_fits_width, tables_are_readable, validation_is_standard, is_sound}
 use Rattle.msi_table_cells.specs.TableCells.{TableCells}
 use Rattle.msi_database_schema.proofs.AccountLemmas.{Uses, Enough, Moved}

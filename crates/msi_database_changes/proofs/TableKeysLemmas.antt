@@ -5,17 +5,17 @@ use Rattle.std.specs.Cmp.Lexicographic.{nat_list_cmp_total, bytes_decides}
 use Rattle.std.specs.FinMap.Entries.{find-put}
 use Rattle.std.proofs.lemmas.Bool.{cases_Bool, not-false}
 use Rattle.std.proofs.lemmas.Option.{none-some}
-use Rattle.msi_text_pool_base.specs.FirstFitLaws.{TakenPlacesHoldTheirText, GivenBackTakesOne}
-use Rattle.msi_text_base.specs.Lists.{list_cmp, has_pair}
-use Rattle.msi_text_pool_base.specs.Pool.{Place}
+use Rattle.msi_pool_places.specs.FirstFitLaws.{TakenPlacesHoldTheirText, GivenBackTakesOne}
+use Rattle.msi_base.specs.Lists.{list_cmp, has_pair}
+use Rattle.msi_pool_places.specs.Pool.{Place}
 use Rattle.msi_table_values.specs.declared.value.Value.{Value}
 use Rattle.msi_table_values.specs.declared.value.Value.TheVariants.{Str}
 use Rattle.msi_table_cells.specs.declared.cell.ValueRef.{ValueRef}
 use Rattle.msi_table_values.specs.Columns.{ColumnDef}
 use Rattle.msi_table_cells.specs.TableCells.{TableCells}
 use Rattle.msi_query.specs.Rows.{table_values}
-use Rattle.msi_database_system.specs.Description.{column_rows, validation_rows}
-use Rattle.msi_database_system.specs.System.{columns_name, tables_name, validation_name}
+use Rattle.msi_database_schema.specs.Description.{column_rows, validation_rows}
+use Rattle.msi_database_schema.specs.System.{columns_name, tables_name, validation_name}
 use Rattle.msi_database_changes.specs.Database.{Database, table_at, with_table, is_sound}
 use Rattle.msi_database_changes.specs.Changes.{Change, no_change}
 use Rattle.msi_database_changes.specs.Create.{create_at_width}
@@ -32,8 +32,8 @@ use Rattle.msi_database_changes.proofs.DropLemmas.{forgotten_by, released_keeps}
 use Rattle.msi_database_changes.proofs.DropRowsLemmas.{is_sound_dropped}
 use Rattle.msi_database_changes.proofs.ShownLemmas.{Created, created}
 use Rattle.msi_database_changes.proofs.ShownChangesLemmas.{Dropped, dropped_parts}
-use Rattle.msi_text_base.specs.declared.errors.ErrorKind.TheVariants.{InvalidData}
-use Rattle.msi_text_base.proofs.BoolLemmas.{not_not}
+use Rattle.msi_base.specs.declared.errors.ErrorKind.TheVariants.{InvalidData}
+use Rattle.msi_base.proofs.BoolLemmas.{not_not}
 
 -- a table without rows
 module _ (d : Database) (name : List ℕ) (columns : List ColumnDef) (before : KeysAreDistinct d) where

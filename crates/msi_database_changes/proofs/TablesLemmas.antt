@@ -7,8 +7,8 @@ use Rattle.std.specs.FinMap.Entries.{length-put}
 use Rattle.std.proofs.lemmas.Bool.{cases_Bool}
 use Rattle.std.proofs.lemmas.List.Sums.{sum_by-cons, sum_by-append}
 use Rattle.std.proofs.lemmas.Option.{none-some, same_Some}
-use Rattle.msi_text_base.specs.Lists.{placed, stable_sort}
-use Rattle.msi_text_base.proofs.BoolLemmas.{T_second}
+use Rattle.msi_base.specs.Lists.{placed, stable_sort}
+use Rattle.msi_base.proofs.BoolLemmas.{T_second}
 use Rattle.msi_table_cells.specs.declared.cell.ValueRef.{ValueRef}
 use Rattle.msi_table_cells.specs.declared.cell.ValueRef.TheVariants as cell
 use Rattle.msi_table.specs.Census.{number_of_cell, numbers_of_rows}

@@ -7,22 +7,22 @@ use Rattle.std.specs.Cmp.Lexicographic.{nat_list_cmp_total}
 use Rattle.std.specs.FinMap.Entries.{find-put}
 use Rattle.std.proofs.lemmas.Bool.{and_parts, and_from, or_parts}
 use Rattle.std.proofs.lemmas.Option.{same_Some, none-some}
-use Rattle.msi_text_pool_base.specs.FirstFitLaws.{TakenPlacesHoldTheirText, GivenBackTakesOne}
-use Rattle.msi_text_pool_base.specs.Pool.{Place}
-use Rattle.msi_text_base.specs.Lists.{list_cmp}
+use Rattle.msi_pool_places.specs.FirstFitLaws.{TakenPlacesHoldTheirText, GivenBackTakesOne}
+use Rattle.msi_pool_places.specs.Pool.{Place}
+use Rattle.msi_base.specs.Lists.{list_cmp}
 use Rattle.msi_table_cells.specs.declared.cell.ValueRef.{ValueRef}
 use Rattle.msi_table_values.specs.Columns.{ColumnDef, types_of}
 use Rattle.msi_table_cells.specs.Fitting.{FitsRow, FitsTable}
 use Rattle.msi_table_cells.specs.StoredOrder.{in_stored_order}
 use Rattle.msi_table_cells.proofs.SortedFitsLemmas.{sorted_fits}
-use Rattle.msi_database_system.specs.Keys.{is_table_name}
+use Rattle.msi_database_schema.specs.Keys.{is_table_name}
 use Rattle.msi_database_changes.specs.Database.{Database, table_at, rows_of, is_sound}
 use Rattle.msi_table_cells.specs.TableCells.{TableCells}
 use Rattle.msi_database_changes.specs.Changes.{Change, no_change, pool_of, with_stored}
-use Rattle.msi_database_cells.specs.Texts.{PoolInUse, rows_released}
+use Rattle.msi_database_changes.specs.Texts.{PoolInUse, rows_released}
 use Rattle.msi_database_changes.specs.Drop.{is_row_about, rows_forgotten, table_released}
-use Rattle.msi_text_base.proofs.ListLemmas.{all_kept, length-filter-le}
-use Rattle.msi_text_base.proofs.BoolLemmas.{by_test}
+use Rattle.msi_base.proofs.ListLemmas.{all_kept, length-filter-le}
+use Rattle.msi_base.proofs.BoolLemmas.{by_test}
 use Rattle.msi_database_schema.proofs.FaultLemmas.{texts_flip}
 use Rattle.msi_database_changes.proofs.StoredLemmas.{WellFormed}
 use Rattle.msi_database_changes.proofs.DescribingLemmas.{put_elsewhere}

@@ -5,11 +5,11 @@ use Rattle.std.specs.List.{list_any}
 use Rattle.std.proofs.Math.Bool.{and-false}
 use Rattle.std.proofs.lemmas.Bool.{or_parts, or_from}
 use Rattle.msi_table_values.specs.declared.value.Value.{Value}
-use Rattle.msi_database_system.specs.System.{is_schema_table}
+use Rattle.msi_database_schema.specs.System.{is_schema_table}
 use Rattle.msi_database_schema.specs.Schema.{SchemaRows, column_rows, columns_of, describes_column, has_number}
 use Rattle.msi_database_schema.specs.Schema.{is_about, lacks_value, schema_of, text_at, value_at}
-use Rattle.msi_text_base.proofs.ListLemmas.{all_from, all_kept, filter_none}
-use Rattle.msi_text_base.proofs.BoolLemmas.{by_test}
+use Rattle.msi_base.proofs.ListLemmas.{all_from, all_kept, filter_none}
+use Rattle.msi_base.proofs.BoolLemmas.{by_test}
 use Rattle.msi_table_values.specs.Values.{is_null}
 use Rattle.msi_database_schema.proofs.SchemaLemmas.{Described, Describes, NoFault, describes_from, schema_from}
 use Rattle.msi_database_schema.proofs.OrderlessLemmas.{IsColumnRow, columns_same, filter-filter, is_counted, texts_same, HasKinds, IsReordered, describes_reordered_too}

@@ -2,17 +2,17 @@
 use Rattle.std.proofs.Common.{◌≡◌, Bool, true, false, List, [], ◌∷◌, map, length, Option, Some, refl, subst, if◌then◌else◌}
 use Rattle.std.specs.List.{AllByRecursion}
 use Rattle.std.proofs.lemmas.Option.{same_Some}
-use Rattle.msi_text_pool_base.specs.Pool.{Place}
-use Rattle.msi_text_pool_base.specs.FirstFit.{most_places}
-use Rattle.msi_text_pool_base.specs.FirstFitLaws.{TakenPlacesHoldTheirText, GivenBackTakesOne}
+use Rattle.msi_pool_places.specs.Pool.{Place}
+use Rattle.msi_pool_places.specs.FirstFit.{most_places}
+use Rattle.msi_pool_places.specs.FirstFitLaws.{TakenPlacesHoldTheirText, GivenBackTakesOne}
 use Rattle.msi_table_values.specs.declared.value.Value.{Value}
 use Rattle.msi_table_cells.specs.declared.cell.ValueRef.{ValueRef}
 use Rattle.msi_table_values.specs.Columns.{ColumnDef}
 use Rattle.msi_table_cells.specs.CellValues.{row_values}
 use Rattle.msi_query.specs.Queries.{UpdateQuery}
 use Rattle.msi_query_expressions.specs.Conditions.{meets}
-use Rattle.msi_database_cells.specs.Texts.{PoolInUse, in_turn}
-use Rattle.msi_database_cells.specs.Setting.{values_set, cells_set}
+use Rattle.msi_database_changes.specs.Texts.{PoolInUse, in_turn}
+use Rattle.msi_database_changes.specs.Setting.{values_set, cells_set}
 use Rattle.msi_database_changes.specs.Update.{row_updated}
 use Rattle.msi_database_schema.proofs.AccountLemmas.{Uses, ◌⊕◌, Enough, Moved, unmoved}
 use Rattle.msi_database_changes.proofs.TurnLemmas.{Step, turned}

@@ -1,8 +1,8 @@
 -- A change of tables: what it leaves.
 use Rattle.std.specs.Prelude.{ℕ, Bool, true, false, not, List, [], ◌∷◌, ◌++◌, Option, Some, None}
-use Rattle.msi_text_base.specs.declared.errors.ErrorKind.TheVariants.{InvalidData, InvalidInput, NotFound}
-use Rattle.msi_database_cells.specs.Texts.{PoolInUse}
-use Rattle.msi_text_base.specs.Refusals.{Refusals}
+use Rattle.msi_base.specs.declared.errors.ErrorKind.TheVariants.{InvalidData, InvalidInput, NotFound}
+use Rattle.msi_database_changes.specs.Texts.{PoolInUse}
+use Rattle.msi_base.specs.Refusals.{Refusals}
 use Rattle.msi_table_cells.specs.TableCells.{TableCells}
 use Rattle.msi_table_cells.specs.declared.cell.ValueRef.{ValueRef}
 use Rattle.msi_table_values.specs.Columns.{ColumnDef}

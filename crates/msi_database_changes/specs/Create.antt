@@ -2,23 +2,23 @@
 use Rattle.std.specs.Prelude.{ℕ, Bool, true, false, not, List, [], ◌∷◌, ◌++◌, length, Option, Some, option_and_then}
 use Rattle.std.specs.Prelude.{nat_lt, nat_le, ◌==◌, ◌&&◌, ◌||◌, bytes_eq, Result, Ok}
 use Rattle.std.specs.List.{list_any, list_all}
-use Rattle.msi_text_base.specs.declared.errors.ErrorKind.{ErrorKind}
-use Rattle.msi_text_base.specs.declared.errors.ErrorKind.TheVariants.{AlreadyExists, InvalidInput, NotFound}
-use Rattle.msi_text_categories.specs.CategoryRules.{is_identifier}
-use Rattle.msi_text_base.specs.Lists.{has_pair}
-use Rattle.msi_text_base.specs.Refusals.{Refusals, unless_refused, ◌>>=◌}
+use Rattle.msi_base.specs.declared.errors.ErrorKind.{ErrorKind}
+use Rattle.msi_base.specs.declared.errors.ErrorKind.TheVariants.{AlreadyExists, InvalidInput, NotFound}
+use Rattle.msi_categories.specs.CategoryRules.{is_identifier}
+use Rattle.msi_base.specs.Lists.{has_pair}
+use Rattle.msi_base.specs.Refusals.{Refusals, unless_refused, ◌>>=◌}
 use Rattle.msi_table_values.specs.declared.value.Value.{Value}
 use Rattle.msi_table_values.specs.declared.value.Value.TheVariants.{Str}
 use Rattle.msi_table_cells.specs.declared.cell.ValueRef.{ValueRef}
 use Rattle.msi_table_values.specs.declared.column.ColumnType.{ColumnType}
 use Rattle.msi_table_values.specs.Columns.{ColumnDef}
-use Rattle.msi_database_system.specs.Keys.{is_table_name}
-use Rattle.msi_database_system.specs.System.{tables_name, columns_name, validation_name}
+use Rattle.msi_database_schema.specs.Keys.{is_table_name}
+use Rattle.msi_database_schema.specs.System.{tables_name, columns_name, validation_name}
 use Rattle.msi_database_changes.specs.Database.{Database, table_at, has_table, with_table}
 use Rattle.msi_database_changes.specs.Changes.{Change, no_change, sound_refusal}
 use Rattle.msi_database_changes.specs.Insert.{rows_added, rows_inserted}
 use Rattle.msi_database_changes.specs.Widening.{widening}
-use Rattle.msi_database_system.specs.Description.{column_rows, validation_rows}
+use Rattle.msi_database_schema.specs.Description.{column_rows, validation_rows}
 use Rattle.msi_table_values.specs.declared.column.ColumnType.TheVariants as coltype
 
 -- the new table has no rows, and its stream is stored anew, so that one that was left over goes

@@ -5,16 +5,16 @@ use Rattle.std.specs.Prelude.{slice_get, map}
 use Rattle.std.specs.List.{flat_map, list_all}
 use Rattle.std.specs.FinMap.{find, put, is_sorted}
 use Rattle.std.specs.Ordering.{eq_by_cmp}
-use Rattle.msi_text_pool_base.specs.Pool.{Pool, Place}
-use Rattle.msi_text_pool_base.specs.FirstFit.{most_places, count_of}
-use Rattle.msi_text_base.specs.Lists.{list_cmp, tabulated}
+use Rattle.msi_pool_places.specs.Pool.{Pool, Place}
+use Rattle.msi_pool_places.specs.FirstFit.{most_places, count_of}
+use Rattle.msi_base.specs.Lists.{list_cmp, tabulated}
 use Rattle.msi_table_cells.specs.declared.cell.ValueRef.{ValueRef}
 use Rattle.msi_table_values.specs.declared.column.ColumnType.{ColumnType}
 use Rattle.msi_table_values.specs.Columns.{ColumnDef}
 use Rattle.msi_table.specs.Census.{numbers_of_rows}
 use Rattle.msi_query.specs.Selection.{TableValues}
-use Rattle.msi_database_system.specs.Keys.{is_table_name}
-use Rattle.msi_database_system.specs.System.{validation_name, validation_columns}
+use Rattle.msi_database_schema.specs.Keys.{is_table_name}
+use Rattle.msi_database_schema.specs.System.{validation_name, validation_columns}
 use Rattle.msi_table_cells.specs.TableCells.{TableCells}
 use Rattle.msi_query.specs.Rows.{table_values}
 use Rattle.std.specs.Option as options

@@ -1,20 +1,20 @@
 -- What deleting rows does, and when it is refused.
 use Rattle.std.specs.Prelude.{Bool, true, false, not, List, [], ◌∷◌, ◌++◌, filter, Option, Result}
-use Rattle.msi_text_base.specs.declared.errors.ErrorKind.{ErrorKind}
-use Rattle.msi_text_base.specs.declared.errors.ErrorKind.TheVariants.{InvalidInput, NotFound}
-use Rattle.msi_text_pool_base.specs.Pool.{Place}
-use Rattle.msi_text_base.specs.Refusals.{Refusals, unless_refused, or_refused, ◌>>=◌}
+use Rattle.msi_base.specs.declared.errors.ErrorKind.{ErrorKind}
+use Rattle.msi_base.specs.declared.errors.ErrorKind.TheVariants.{InvalidInput, NotFound}
+use Rattle.msi_pool_places.specs.Pool.{Place}
+use Rattle.msi_base.specs.Refusals.{Refusals, unless_refused, or_refused, ◌>>=◌}
 use Rattle.msi_table_cells.specs.declared.cell.ValueRef.{ValueRef}
 use Rattle.msi_table_cells.specs.CellValues.{row_values}
 use Rattle.msi_query_expressions.specs.Expressions.{Expression}
 use Rattle.msi_query.specs.Queries.{DeleteQuery}
 use Rattle.msi_query_expressions.specs.Conditions.{meets}
 use Rattle.msi_query.specs.Selection.{has_columns, condition_names}
-use Rattle.msi_database_system.specs.System.{is_system_table}
+use Rattle.msi_database_schema.specs.System.{is_system_table}
 use Rattle.msi_database_changes.specs.Database.{Database, table_at, rows_of, same_bool}
 use Rattle.msi_table_cells.specs.TableCells.{TableCells}
 use Rattle.msi_database_changes.specs.Changes.{Change, no_change, pool_of, with_stored, barred_refusals, missing_or}
-use Rattle.msi_database_cells.specs.Texts.{rows_released}
+use Rattle.msi_database_changes.specs.Texts.{rows_released}
 
 -- Delete
 abbrev pub rows_meeting : List Place → TableCells → Option Expression → Bool → List (List ValueRef)

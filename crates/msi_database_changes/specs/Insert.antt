@@ -2,24 +2,24 @@
 use Rattle.std.specs.Prelude.{ℕ, ◌+◌, Bool, not, List, [], ◌∷◌, ◌++◌, map, length, Option, Some, option_map, nat_lt}
 use Rattle.std.specs.Prelude.{◌==◌, ◌&&◌, zip, Result}
 use Rattle.std.specs.List.{list_all}
-use Rattle.msi_text_base.specs.declared.errors.ErrorKind.{ErrorKind}
-use Rattle.msi_text_base.specs.declared.errors.ErrorKind.TheVariants.{InvalidData, InvalidInput}
-use Rattle.msi_text_base.specs.declared.errors.ErrorKind.TheVariants.{NotFound}
-use Rattle.msi_text_base.specs.Lists.{has_pair}
-use Rattle.msi_text_pool_base.specs.Pool.{Place}
-use Rattle.msi_text_base.specs.Refusals.{Refusals, unless_refused, or_refused, ◌>>=◌}
+use Rattle.msi_base.specs.declared.errors.ErrorKind.{ErrorKind}
+use Rattle.msi_base.specs.declared.errors.ErrorKind.TheVariants.{InvalidData, InvalidInput}
+use Rattle.msi_base.specs.declared.errors.ErrorKind.TheVariants.{NotFound}
+use Rattle.msi_base.specs.Lists.{has_pair}
+use Rattle.msi_pool_places.specs.Pool.{Place}
+use Rattle.msi_base.specs.Refusals.{Refusals, unless_refused, or_refused, ◌>>=◌}
 use Rattle.msi_table_values.specs.declared.value.Value.{Value}
 use Rattle.msi_table_cells.specs.declared.cell.ValueRef.{ValueRef}
 use Rattle.msi_table_values.specs.Columns.{ColumnDef}
 use Rattle.msi_table_values.specs.ValidValues.{is_valid_value}
 use Rattle.msi_table_cells.specs.KeyOrder.{key_of, same_key, in_key_order}
 use Rattle.msi_query.specs.Queries.{InsertQuery}
-use Rattle.msi_database_system.specs.System.{is_system_table}
+use Rattle.msi_database_schema.specs.System.{is_system_table}
 use Rattle.msi_database_changes.specs.Database.{Database, table_at, rows_of}
 use Rattle.msi_table_cells.specs.TableCells.{TableCells}
-use Rattle.msi_database_cells.specs.KeySets.{key_refusals, keys_of_rows}
+use Rattle.msi_database_changes.specs.KeySets.{key_refusals, keys_of_rows}
 use Rattle.msi_database_changes.specs.Changes.{Change, no_change, pool_of, with_stored}
-use Rattle.msi_database_cells.specs.Texts.{PoolInUse, rows_put}
+use Rattle.msi_database_changes.specs.Texts.{PoolInUse, rows_put}
 use Rattle.msi_database_changes.specs.Changes.{barred_refusals, missing_or}
 use Rattle.msi_database_changes.specs.Widening.{widening}
 

@@ -5,8 +5,8 @@ use Rattle.std.specs.FinMap.{put}
 use Rattle.std.specs.List.Sorted.{IsSortedByKey}
 use Rattle.std.specs.Ordering.{eq_by_cmp}
 use Rattle.std.specs.List.{sum_by, AllByRecursion}
-use Rattle.msi_text_pool_base.specs.FirstFitLaws.{text_at}
-use Rattle.msi_text_base.specs.Lists.{has_pair, list_cmp}
+use Rattle.msi_pool_places.specs.FirstFitLaws.{text_at}
+use Rattle.msi_base.specs.Lists.{has_pair, list_cmp}
 use Rattle.msi_table_values.specs.declared.value.Value.{Value}
 use Rattle.msi_table_values.specs.declared.value.Value.TheVariants.{Null}
 use Rattle.msi_table_values.specs.Columns.{ColumnDef, types_of, is_of_category_binary}
@@ -15,7 +15,7 @@ use Rattle.msi_table_cells.specs.SortedRows.{HoldsNumbers}
 use Rattle.msi_table_cells.specs.CellValues.{row_values}
 use Rattle.msi_table_values.specs.Values.{value_cmp}
 use Rattle.msi_database_schema.specs.Schema.{SchemaRows, schema_of}
-use Rattle.msi_database_system.specs.System.{columns_name, tables_name, validation_columns, validation_name}
+use Rattle.msi_database_schema.specs.System.{columns_name, tables_name, validation_columns, validation_name}
 use Rattle.msi_query.specs.Queries.{InsertQuery, UpdateQuery, DeleteQuery}
 use Rattle.msi_query_expressions.specs.Conditions.{meets}
 use Rattle.msi_table_cells.specs.KeyOrder.{key_of, same_key}

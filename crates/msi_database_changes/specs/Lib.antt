@@ -1,4 +1,9 @@
 -- The words of this crate.
+pub mod Texts
+pub mod Views
+pub mod KeySets
+pub mod Setting
+pub mod Storing
 pub mod Database
 pub mod Changes
 pub mod Widening

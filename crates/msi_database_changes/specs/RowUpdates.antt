@@ -5,7 +5,7 @@ use Rattle.msi_table_values.specs.Columns.{ColumnDef}
 use Rattle.msi_query.specs.declared.query.update.UpdateParts.{UpdateParts}
 use Rattle.msi_query_expressions.specs.Conditions.{meets}
 use Rattle.msi_query.specs.Queries.{UpdateQuery}
-use Rattle.msi_database_cells.specs.Setting.{values_set}
+use Rattle.msi_database_changes.specs.Setting.{values_set}
 
 -- the query of its parts
 abbrev pub update_of : UpdateParts → UpdateQuery

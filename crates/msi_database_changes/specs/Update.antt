@@ -3,11 +3,11 @@ use Rattle.std.specs.Prelude.{if◌then◌else◌, ℕ, Bool, false, not, List, 
 use Rattle.std.specs.Prelude.{◌&&◌, ◌||◌, bytes_eq, codes, Result}
 use Rattle.std.specs.Option.{option_map_or}
 use Rattle.std.specs.List.{list_any, list_all}
-use Rattle.msi_text_base.specs.declared.errors.ErrorKind.{ErrorKind}
-use Rattle.msi_text_base.specs.declared.errors.ErrorKind.TheVariants.{AlreadyExists, InvalidInput, NotFound}
-use Rattle.msi_text_base.specs.Lists.{has_pair}
-use Rattle.msi_text_pool_base.specs.Pool.{Place}
-use Rattle.msi_text_base.specs.Refusals.{Refusals, unless_refused, or_refused, ◌>>=◌}
+use Rattle.msi_base.specs.declared.errors.ErrorKind.{ErrorKind}
+use Rattle.msi_base.specs.declared.errors.ErrorKind.TheVariants.{AlreadyExists, InvalidInput, NotFound}
+use Rattle.msi_base.specs.Lists.{has_pair}
+use Rattle.msi_pool_places.specs.Pool.{Place}
+use Rattle.msi_base.specs.Refusals.{Refusals, unless_refused, or_refused, ◌>>=◌}
 use Rattle.msi_table_values.specs.declared.value.Value.{Value}
 use Rattle.msi_table_cells.specs.declared.cell.ValueRef.{ValueRef}
 use Rattle.msi_table_values.specs.Columns.{ColumnDef, column_named}
@@ -17,12 +17,12 @@ use Rattle.msi_table_cells.specs.KeyOrder.{key_of, same_key}
 use Rattle.msi_query.specs.Queries.{UpdateQuery}
 use Rattle.msi_query_expressions.specs.Conditions.{meets}
 use Rattle.msi_query.specs.Selection.{has_columns, condition_names}
-use Rattle.msi_database_system.specs.System.{validation_name, is_schema_table}
+use Rattle.msi_database_schema.specs.System.{validation_name, is_schema_table}
 use Rattle.msi_database_changes.specs.Database.{Database, table_at, rows_of}
 use Rattle.msi_table_cells.specs.TableCells.{TableCells}
-use Rattle.msi_database_cells.specs.Setting.{cells_set, values_set}
+use Rattle.msi_database_changes.specs.Setting.{cells_set, values_set}
 use Rattle.msi_database_changes.specs.Changes.{Change, no_change, pool_of, with_stored}
-use Rattle.msi_database_cells.specs.Texts.{PoolInUse, in_turn}
+use Rattle.msi_database_changes.specs.Texts.{PoolInUse, in_turn}
 use Rattle.msi_database_changes.specs.Changes.{barred_refusals, missing_or}
 use Rattle.msi_database_changes.specs.Widening.{widening}
 

@@ -2,23 +2,23 @@
 
 ghost use Rattle.std.specs.Prelude.{◌≡◌, ◌≤◌, ◌==◌, ◌&&◌, ◌||◌, IsTrue, OnOk, bytes_eq, length, true, Err};
 ghost use Rattle.std.specs.List.{AllByRecursion, list_all, list_any};
-ghost use Rattle.msi_text_categories.specs.CategoryRules.{is_identifier};
-ghost use Rattle.msi_text_base.specs.declared.errors.ErrorKind.TheVariants.{InvalidInput};
-ghost use Rattle.msi_text_base.specs.Lists.{has_pair};
-ghost use Rattle.msi_text_base.specs.Refusals.{unless_refused};
+ghost use Rattle.msi_categories.specs.CategoryRules.{is_identifier};
+ghost use Rattle.msi_base.specs.declared.errors.ErrorKind.TheVariants.{InvalidInput};
+ghost use Rattle.msi_base.specs.Lists.{has_pair};
+ghost use Rattle.msi_base.specs.Refusals.{unless_refused};
 ghost use Rattle.msi_table_values.specs.Columns.{HasShortLength, most_columns};
-ghost use Rattle.msi_database_system.specs.Description.{have_short_lengths};
-ghost use Rattle.msi_database_system.specs.Keys.{is_table_name as is_name_of_table};
+ghost use Rattle.msi_database_schema.specs.Description.{have_short_lengths};
+ghost use Rattle.msi_database_schema.specs.Keys.{is_table_name as is_name_of_table};
 ghost use Rattle.msi_database_changes.specs.Create.{column_refusals, columns_are_named, is_binary, is_too_long};
 ghost use Rattle.msi_database_changes.specs.Create.{new_table_refusals};
 
 use crate::reasons;
-use msi_database_system::names::is_table_name;
+use msi_base::errors::{Error, ErrorKind, Reason};
+use msi_base::text::{Items, Text};
+use msi_categories::category::Category;
+use msi_database_schema::names::is_table_name;
 use msi_table_cells::cell::ValueRef;
 use msi_table_values::column::{Column, ColumnType};
-use msi_text_base::errors::{Error, ErrorKind, Reason};
-use msi_text_base::text::{Items, Text};
-use msi_text_categories::category::Category;
 use std::marker::Model;
 
 /// The most columns that a table may be created with.

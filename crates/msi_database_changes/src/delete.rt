@@ -1,24 +1,24 @@
 //! Deleting rows of a table.
 
 ghost use Rattle.std.specs.Prelude.{◌≡◌, ◌∷◌, [], not, true, false, IfOk, OnOk};
-ghost use Rattle.msi_text_base.specs.Results.{OnlyMemory};
-ghost use Rattle.msi_text_base.specs.declared.errors.ErrorKind.TheVariants.{InvalidInput};
-ghost use Rattle.msi_text_base.specs.Refusals.{unless_refused};
+ghost use Rattle.msi_base.specs.Results.{OnlyMemory};
+ghost use Rattle.msi_base.specs.declared.errors.ErrorKind.TheVariants.{InvalidInput};
+ghost use Rattle.msi_base.specs.Refusals.{unless_refused};
 ghost use Rattle.msi_query.specs.Selection.{condition_names, has_columns};
 ghost use Rattle.msi_database_changes.specs.Delete.{rows_meeting};
 ghost use Rattle.msi_database_changes.specs.Insert.{table_with};
-ghost use Rattle.msi_database_cells.specs.Texts.{in_use, rows_released};
+ghost use Rattle.msi_database_changes.specs.Texts.{in_use, rows_released};
 
 use crate::conditions::knows_condition;
 use crate::reasons;
-use msi_database_cells::texts::PoolInUse;
+use crate::texts::PoolInUse;
+use msi_base::errors::{Error, ErrorKind};
+use msi_base::text::Items;
+use msi_pool::stringpool::StringPool;
 use msi_query::parts::DeleteParts;
 use msi_query_expressions::parts::RowFilter;
 use msi_table_cells::cell::ValueRef;
 use msi_table_values::column::Column;
-use msi_text_base::errors::{Error, ErrorKind};
-use msi_text_base::text::Items;
-use msi_text_pool::stringpool::StringPool;
 use std::alloc::Global;
 
 /// Refuses a delete from a table of these columns.

@@ -1,17 +1,17 @@
 //! Rows about a table that is dropped.
 
 ghost use Rattle.std.specs.Prelude.{◌≡◌, not, filter, IfOk, OnOk};
-ghost use Rattle.msi_text_base.specs.Results.{OnlyMemory};
+ghost use Rattle.msi_base.specs.Results.{OnlyMemory};
 ghost use Rattle.msi_database_changes.specs.Drop.{is_row_about as is_about};
-ghost use Rattle.msi_database_cells.specs.Texts.{in_use, rows_released};
+ghost use Rattle.msi_database_changes.specs.Texts.{in_use, rows_released};
 
-use msi_database_cells::texts::PoolInUse;
+use crate::texts::PoolInUse;
+use msi_base::errors::Error;
+use msi_base::text::Items;
+use msi_pool::stringpool::StringPool;
 use msi_table_cells::cell::ValueRef;
 use msi_table_cells::parts::view_of_cell;
 use msi_table_values::parts::ValueView;
-use msi_text_base::errors::Error;
-use msi_text_base::text::Items;
-use msi_text_pool::stringpool::StringPool;
 use std::alloc::Global;
 
 /// Returns whether a row of a system table is about the table `name`: its first value is that name.

@@ -1,25 +1,25 @@
 //! Inserting rows: why new rows are refused, and the rows of a table with new ones.
 
 ghost use Rattle.std.specs.Prelude.{◌≡◌, Some, None, IfOk, IfErr, OnOk, true};
-ghost use Rattle.msi_text_base.specs.declared.errors.ErrorKind.TheVariants.{InvalidInput};
-ghost use Rattle.msi_text_base.specs.Results.{OnlyMemory};
-ghost use Rattle.msi_text_base.specs.Refusals.{IsRefusal, first_refusal, or_refused, unless_refused};
+ghost use Rattle.msi_base.specs.declared.errors.ErrorKind.TheVariants.{InvalidInput};
+ghost use Rattle.msi_base.specs.Results.{OnlyMemory};
+ghost use Rattle.msi_base.specs.Refusals.{IsRefusal, first_refusal, or_refused, unless_refused};
 ghost use Rattle.msi_database_changes.specs.Insert.{cells_added, misfit_refusals, row_fits as fits_columns};
 ghost use Rattle.msi_database_changes.specs.Insert.{row_refusals, table_with};
-ghost use Rattle.msi_database_cells.specs.Texts.{in_use};
+ghost use Rattle.msi_database_changes.specs.Texts.{in_use};
 
+use crate::keys::refuse_clashes;
 use crate::reasons;
-use msi_database_cells::keys::refuse_clashes;
-use msi_database_cells::texts::PoolInUse;
+use crate::texts::PoolInUse;
+use msi_base::errors::{Error, ErrorKind};
+use msi_base::text::Items;
+use msi_pool::stringpool::StringPool;
 use msi_query::parts::NewRow;
 use msi_table_cells::cell::ValueRef;
 use msi_table_cells::order::sort_by_keys;
 use msi_table_cells::parts::MAX_ROWS;
 use msi_table_values::column::Column;
 use msi_table_values::value::Value;
-use msi_text_base::errors::{Error, ErrorKind};
-use msi_text_base::text::Items;
-use msi_text_pool::stringpool::StringPool;
 use std::alloc::Global;
 
 fn row_fits(columns: &[Column], row: &[Value]) -> bool

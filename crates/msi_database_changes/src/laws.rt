@@ -5,7 +5,7 @@ ghost use Rattle.msi_database_changes.specs.Laws.{DeleteRemovesItsRows, DroppedT
 ghost use Rattle.msi_database_changes.specs.Laws.{LeadingNumbersAscend, TableChangesKeep, UpdateSetsItsRows};
 ghost use Rattle.msi_database_changes.specs.Recounting.{RecountsMakeExact};
 
-use msi_text_pool::laws::{given_back_takes_one, taken_places_hold_their_text};
+use msi_pool::laws::{given_back_takes_one, taken_places_hold_their_text};
 
 /// An accepted insert adds exactly its rows, and every other table has the rows that it had.
 pub fn inserts_add_their_rows()

@@ -2,10 +2,17 @@
 #![tactic(auto)]
 
 mod conditions;
+pub mod counting;
 pub mod create;
 pub mod delete;
 pub mod drop;
 pub mod insert;
+pub mod keys;
 pub mod laws;
+pub mod parts;
 mod reasons;
+pub mod setting;
+mod storing;
+pub mod texts;
 pub mod update;
+pub mod views;

@@ -1,6 +1,6 @@
 //! Why a change is refused: a sentence for each rule.
 
-use msi_text_base::errors::Reason;
+use msi_base::errors::Reason;
 
 pub(crate) const NEW_VALUE: Reason = Reason(
     "a column that is to be set isn't there, or doesn't take its new value",
@@ -33,3 +33,9 @@ pub(crate) const BINARY_MARKED: Reason = Reason(
 );
 
 pub(crate) const SEMICOLON: Reason = Reason("a listed text of a new column has no semicolon");
+
+pub(crate) const KEY_SHARED: Reason = Reason("two rows of the table share a key");
+
+pub(crate) const KEY_HELD: Reason = Reason("the table has a row with this key already");
+
+pub(crate) const KEY_TWICE: Reason = Reason("two of the new rows share a key");

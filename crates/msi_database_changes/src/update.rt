@@ -3,34 +3,34 @@
 ghost use Rattle.std.specs.Prelude.{◌≡◌, ◌∷◌, [], map, IfOk, IfErr, OnOk, Some, bytes_eq, codes, false, true};
 ghost use Rattle.std.specs.List.{list_all};
 ghost use Rattle.std.specs.Option.{option_map_or};
-ghost use Rattle.msi_text_base.specs.Lists.{has_pair};
-ghost use Rattle.msi_text_base.specs.Results.{OnlyMemory};
-ghost use Rattle.msi_text_base.specs.declared.errors.ErrorKind.TheVariants.{AlreadyExists, InvalidInput};
-ghost use Rattle.msi_text_base.specs.Refusals.{IsRefusal, or_refused, unless_refused};
+ghost use Rattle.msi_base.specs.Lists.{has_pair};
+ghost use Rattle.msi_base.specs.Results.{OnlyMemory};
+ghost use Rattle.msi_base.specs.declared.errors.ErrorKind.TheVariants.{AlreadyExists, InvalidInput};
+ghost use Rattle.msi_base.specs.Refusals.{IsRefusal, or_refused, unless_refused};
 ghost use Rattle.msi_table_values.specs.Columns.{column_named};
 ghost use Rattle.msi_table_cells.specs.CellValues.{row_values};
 ghost use Rattle.msi_database_changes.specs.Insert.{table_with};
 ghost use Rattle.msi_table_cells.specs.KeyOrder.{key_of, same_key};
 ghost use Rattle.msi_database_changes.specs.RowUpdates.{row_set, update_of};
-ghost use Rattle.msi_database_cells.specs.Texts.{in_turn, in_use};
+ghost use Rattle.msi_database_changes.specs.Texts.{in_turn, in_use};
 ghost use Rattle.msi_database_changes.specs.Update.{is_update_barred, keys_collide, row_updated, set_is_valid};
 ghost use Rattle.msi_database_changes.specs.Update.{set_refusals, sets_key as sets_a_key, values_after};
 
 use crate::conditions::knows_condition;
+use crate::keys::{Key, distinct_keys};
 use crate::reasons;
-use msi_database_cells::keys::{Key, distinct_keys};
-use msi_database_cells::setting::{places_of, set_cells, set_views};
-use msi_database_cells::texts::PoolInUse;
-use msi_database_cells::views::views_of_cells;
-use msi_database_system::system::{VALIDATION, is_schema_table};
+use crate::setting::{places_of, set_cells, set_views};
+use crate::texts::PoolInUse;
+use crate::views::views_of_cells;
+use msi_base::errors::{Error, ErrorKind};
+use msi_base::text::Items;
+use msi_database_schema::system::{VALIDATION, is_schema_table};
+use msi_pool::stringpool::StringPool;
 use msi_query::parts::{Assignment, UpdateParts};
 use msi_query_expressions::parts::RowFilter;
 use msi_table_cells::cell::ValueRef;
 use msi_table_values::column::Column;
 use msi_table_values::parts::column_index;
-use msi_text_base::errors::{Error, ErrorKind};
-use msi_text_base::text::Items;
-use msi_text_pool::stringpool::StringPool;
 use std::alloc::Global;
 use std::marker::Model;
 
@@ -108,7 +108,7 @@ impl<'a> Model for RowUpdate<'a> {
     ghost use Rattle.std.specs.Coded.{codes};
     ghost use Rattle.msi_query_expressions.specs.ExpressionCode.{expression_code};
     ghost use Rattle.msi_database_changes.specs.RowUpdates.{RowUpdateDef, update_of};
-    ghost use Rattle.msi_database_cells.specs.Setting.{index_of};
+    ghost use Rattle.msi_database_changes.specs.Setting.{index_of};
 
     ghost Value = { RowUpdateDef };
 

@@ -9,19 +9,19 @@ use Rattle.std.specs.Cmp.Lexicographic.{lists_total}
 use Rattle.std.proofs.Math.Bool.{and-false}
 use Rattle.std.proofs.lemmas.List.Elements.{filter-append}
 use Rattle.std.proofs.lemmas.Bool.{or_parts, or_from, and_parts, false_from_ne_true, or_right, not-false}
-use Rattle.msi_text_base.specs.Lists.{has_pair, list_cmp}
+use Rattle.msi_base.specs.Lists.{has_pair, list_cmp}
 use Rattle.msi_table_values.specs.declared.value.Value.{Value}
 use Rattle.msi_table_values.specs.declared.value.Value.TheVariants.{Int, Str}
 use Rattle.msi_table_values.specs.Columns.{ColumnDef}
 use Rattle.msi_table_values.specs.OrderLaws.{value_eq-Decides}
-use Rattle.msi_database_system.specs.Description as description
-use Rattle.msi_database_system.specs.Keys.{is_pool_name}
-use Rattle.msi_database_system.specs.System.{columns_columns, columns_name, is_schema_table, tables_columns, tables_name}
+use Rattle.msi_database_schema.specs.Description as description
+use Rattle.msi_database_schema.specs.Keys.{is_pool_name}
+use Rattle.msi_database_schema.specs.System.{columns_columns, columns_name, is_schema_table, tables_columns, tables_name}
 use Rattle.msi_table_values.specs.Values.{is_null}
 use Rattle.msi_database_schema.specs.Schema.{text_of, SchemaRows, columns_of, counted, describes_column, has_null, lacks_value, listed_names, schema_of, share_key, text_at, value_at}
 use Rattle.msi_database_schema.proofs.ColumnBackLemmas.{row_of_column}
-use Rattle.msi_text_base.proofs.ListLemmas.{filter_all, list_any-map, In, all_at, all_from, all_joined, any_at, any_joined, no_pair_joined, none_pass, none_passes}
-use Rattle.msi_text_base.proofs.BoolLemmas.{by_test, yes_is_no}
+use Rattle.msi_base.proofs.ListLemmas.{filter_all, list_any-map, In, all_at, all_from, all_joined, any_at, any_joined, no_pair_joined, none_pass, none_passes}
+use Rattle.msi_base.proofs.BoolLemmas.{by_test, yes_is_no}
 use Rattle.msi_database_schema.proofs.SchemaLemmas.{Described, Describes, NoFault, describes_from, is_listed, names_tie, schema_from, table_of}
 use Rattle.msi_database_schema.proofs.OrderlessLemmas.{HasKinds, IsColumnRow, IsReordered, IsValidationRow, describes_reordered_too, is_counted, shared_two, table_same, texts_same}
 use Rattle.msi_database_schema.proofs.AddedRowsLemmas.{all_about, none_about, IsNew, added, new_column_rows, new_columns, old_column_rows, old_columns, rows_from, same_text, pos_same}

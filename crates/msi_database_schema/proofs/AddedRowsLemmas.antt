@@ -8,17 +8,17 @@ use Rattle.std.proofs.lemmas.List.{append-nil}
 use Rattle.std.proofs.lemmas.List.Elements.{filter-append}
 use Rattle.std.proofs.lemmas.Slice.Eq.{bytes_eq-Decides}
 use Rattle.std.proofs.lemmas.Bool.{or_parts, and_parts, false_from_ne_true}
-use Rattle.msi_text_base.specs.Lists.{has_pair}
+use Rattle.msi_base.specs.Lists.{has_pair}
 use Rattle.msi_table_values.specs.declared.value.Value.{Value}
 use Rattle.msi_table_values.specs.declared.value.Value.TheVariants.{Str}
 use Rattle.msi_table_values.specs.Columns.{ColumnDef}
-use Rattle.msi_database_system.specs.Keys.{is_pool_name}
-use Rattle.msi_database_system.specs.System.{is_schema_table}
-use Rattle.msi_database_system.specs.Description as description
+use Rattle.msi_database_schema.specs.Keys.{is_pool_name}
+use Rattle.msi_database_schema.specs.System.{is_schema_table}
+use Rattle.msi_database_schema.specs.Description as description
 use Rattle.msi_database_schema.specs.Schema.{SchemaRows, column_of_row, column_rows, columns_of, has_number, is_about, share_key, text_at, validation_row}
 use Rattle.msi_database_schema.proofs.ColumnBackLemmas.{IsDescribable, column_back, row_of_column}
-use Rattle.msi_text_base.proofs.ListLemmas.{In, In-slice_get, all_at, all_from, each_present, filter_all, filter_none, find_back, find_front, none_passes, list_any-filter}
-use Rattle.msi_text_base.proofs.BoolLemmas.{yes_is_no}
+use Rattle.msi_base.proofs.ListLemmas.{In, In-slice_get, all_at, all_from, each_present, filter_all, filter_none, find_back, find_front, none_passes, list_any-filter}
+use Rattle.msi_base.proofs.BoolLemmas.{yes_is_no}
 use Rattle.msi_database_schema.proofs.SchemaLemmas.{NoFault, is_listed}
 use Rattle.msi_database_schema.proofs.OrderlessLemmas.{columns_same, filter-filter, is_counted, number_is, texts_same, validates}
 

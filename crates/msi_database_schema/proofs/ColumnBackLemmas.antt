@@ -7,9 +7,9 @@ use Rattle.std.proofs.lemmas.Int.{ints}
 use Rattle.std.proofs.lemmas.List.Elements.{All-cons, All-nil}
 use Rattle.std.proofs.lemmas.List.Splits.{slice_split_none, slice_split_at}
 use Rattle.std.proofs.lemmas.Bool.{or_parts}
-use Rattle.msi_text_categories.specs.declared.category.Category.{Category}
-use Rattle.msi_text_categories.specs.declared.category.Category.TheVariants as category
-use Rattle.msi_text_categories.specs.Categories.{category_name}
+use Rattle.msi_categories.specs.declared.category.Category.{Category}
+use Rattle.msi_categories.specs.declared.category.Category.TheVariants as category
+use Rattle.msi_categories.specs.Categories.{category_name}
 use Rattle.msi_table_values.specs.declared.value.Value.{Value}
 use Rattle.msi_table_values.specs.declared.value.Value.TheVariants.{Int, Str}
 use Rattle.msi_table_values.specs.declared.column.ColumnType.{ColumnType}
@@ -17,7 +17,7 @@ use Rattle.msi_table_values.specs.declared.column.ColumnType.TheVariants as colt
 use Rattle.msi_table_values.specs.Columns.{ColumnDef, HasShortLength, IsPlainIfBinary, begun_column, bit_if, has_bit, kind_bits, type_bits, with_bits}
 use Rattle.msi_table_values.proofs.TypeBitsLemmas.{bits_tell}
 use Rattle.msi_database_schema.specs.Schema as schema
-use Rattle.msi_database_system.specs.Description as description
+use Rattle.msi_database_schema.specs.Description as description
 
 -- the bits of a type fit a signed number of 16 bits
 bits_below : (kind : ℕ) (l n k : Bool) → kind ≤ 3583 → kind + bit_if l 0x200 + bit_if n 0x1000 + bit_if k 0x2000 < 32768

@@ -6,14 +6,14 @@ use Rattle.std.proofs.lemmas.List.Sorted.{IsPermutation-refl}
 use Rattle.std.proofs.lemmas.Slice.Eq.{bytes_eq-Decides}
 use Rattle.std.proofs.lemmas.Bool.{not-true}
 use denote.Ref.{Bor}
-use Rattle.msi_text_base.specs.Lists.{has_pair, stable_sort}
+use Rattle.msi_base.specs.Lists.{has_pair, stable_sort}
 use Rattle.msi_table_values.specs.declared.value.Value.{Value}
-use Rattle.msi_database_system.specs.Keys.{is_pool_name}
+use Rattle.msi_database_schema.specs.Keys.{is_pool_name}
 use Rattle.msi_database_schema.specs.RowOrders.{by_texts, has_faulty_row, rows_of, shares_key, texts_at, texts_cmp}
 use Rattle.msi_database_schema.specs.Schema.{SchemaRows, counted, describes_column, has_null, is_about, is_faulty, lacks_value, listed_names, share_key, text_at}
-use Rattle.msi_database_system.specs.System.{is_schema_table}
-use Rattle.msi_text_base.proofs.ListLemmas.{list_any-filter, list_any_same}
-use Rattle.msi_text_base.proofs.BoolLemmas.{by_test, same_truth}
+use Rattle.msi_database_schema.specs.System.{is_schema_table}
+use Rattle.msi_base.proofs.ListLemmas.{list_any-filter, list_any_same}
+use Rattle.msi_base.proofs.BoolLemmas.{by_test, same_truth}
 use Rattle.msi_database_schema.proofs.OrderLemmas.{sorted_is}
 use Rattle.msi_database_schema.proofs.OrderlessLemmas.{any_column_is, is_counted, listed_is, texts_same}
 use Rattle.msi_database_schema.proofs.RowOrderLemmas.{texts_total}

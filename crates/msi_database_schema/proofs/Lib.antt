@@ -1,4 +1,7 @@
 -- The lemmas of this crate.
+pub mod DescriptionLemmas
+pub mod KeyLemmas
+pub mod NamesLemmas
 pub mod AccountLemmas
 pub mod AddedLemmas
 pub mod AddedRowsLemmas

@@ -4,8 +4,8 @@ use Rattle.std.specs.Prelude.{◌||◌, Option, option_map, slice_index_or}
 use Rattle.std.proofs.lemmas.List.{take_more}
 use Rattle.std.proofs.lemmas.List.Sorted.{list_any-IsPermutation}
 use Rattle.std.proofs.lemmas.Bool.{or_parts}
-use Rattle.msi_text_base.specs.Lists.{all_present, stable_sort}
-use Rattle.msi_text_base.proofs.BoolLemmas.{by_test}
+use Rattle.msi_base.specs.Lists.{all_present, stable_sort}
+use Rattle.msi_base.proofs.BoolLemmas.{by_test}
 use Rattle.msi_table_values.specs.declared.value.Value.{Value}
 use Rattle.msi_table.specs.Tables.{TableDef}
 use Rattle.msi_database_schema.specs.ListedTables.{by_names, listed_table, listed_tables, with_system}

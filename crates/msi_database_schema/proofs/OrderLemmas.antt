@@ -10,11 +10,11 @@ use Rattle.std.specs.declared.cmp.Ordering.TheVariants.{Less, Equal, Greater}
 use Rattle.std.proofs.lemmas.List.Sorted.{list_any-IsPermutation, ranks_by, sorted_far, IsPermutation-sym}
 use Rattle.std.proofs.lemmas.Bool.{or_from}
 use Rattle.std.proofs.lemmas.List.Elements.{filter_agree}
-use Rattle.msi_text_base.specs.Lists.{has_pair, stable_sort}
+use Rattle.msi_base.specs.Lists.{has_pair, stable_sort}
 use Rattle.msi_table_cells.specs.SortedRows.{IsStableSort}
 use Rattle.msi_table_cells.proofs.StableSortLemmas.{only_stable_sort, Ascends}
-use Rattle.msi_text_base.proofs.ListLemmas.{found_in, found_none, none_pass, no_pair_permuted, not_found, all_weaker, all_from_places}
-use Rattle.msi_text_base.proofs.BoolLemmas.{by_test, yes_is_no}
+use Rattle.msi_base.proofs.ListLemmas.{found_in, found_none, none_pass, no_pair_permuted, not_found, all_weaker, all_from_places}
+use Rattle.msi_base.proofs.BoolLemmas.{by_test, yes_is_no}
 
 -- ---- what is found first
 

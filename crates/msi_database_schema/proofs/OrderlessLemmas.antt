@@ -9,20 +9,20 @@ use Rattle.std.proofs.lemmas.List.Sums.{length-filter}
 use Rattle.std.proofs.lemmas.Slice.Eq.{bytes_eq-Decides}
 use Rattle.std.proofs.lemmas.Bool.{and_parts, and_from}
 use Rattle.std.proofs.lemmas.Bool.Decides.{same_from_decides}
-use Rattle.msi_text_base.specs.Lists.{all_present, has_pair, tabulated}
+use Rattle.msi_base.specs.Lists.{all_present, has_pair, tabulated}
 use Rattle.msi_table_values.specs.declared.value.Value.{Value}
 use Rattle.msi_table_values.specs.declared.value.Value.TheVariants.{Int, Str}
 use Rattle.msi_table_values.specs.Values.{value_cmp, is_null}
 use Rattle.msi_table_values.specs.OrderLaws.{value_eq-Decides}
 use Rattle.msi_table_values.specs.Columns.{ColumnDef, begun_column, column_of_bits}
-use Rattle.msi_database_system.specs.Keys.{is_pool_name}
-use Rattle.msi_database_system.specs.System.{columns_columns, columns_name, is_schema_table, tables_columns, tables_name}
+use Rattle.msi_database_schema.specs.Keys.{is_pool_name}
+use Rattle.msi_database_schema.specs.System.{columns_columns, columns_name, is_schema_table, tables_columns, tables_name}
 use Rattle.msi_database_schema.specs.Schema.{SchemaRows, bits_in, column_rows, columns_of, counted, described}
 use Rattle.msi_database_schema.specs.Schema.{describes_column, has_number, is_about, lacks_value, listed_names}
 use Rattle.msi_database_schema.specs.Schema.{number_of, numbered_row, share_key, text_at, validation_row, value_at}
-use Rattle.msi_text_base.proofs.ListLemmas.{find-filter, find_permuted, has_pair-filter, list_any-filter, list_any-map}
-use Rattle.msi_text_base.proofs.ListLemmas.{list_any_same, no_pair_permuted, no_pair_weaker}
-use Rattle.msi_text_base.proofs.BoolLemmas.{by_test}
+use Rattle.msi_base.proofs.ListLemmas.{find-filter, find_permuted, has_pair-filter, list_any-filter, list_any-map}
+use Rattle.msi_base.proofs.ListLemmas.{list_any_same, no_pair_permuted, no_pair_weaker}
+use Rattle.msi_base.proofs.BoolLemmas.{by_test}
 use Rattle.msi_database_schema.proofs.SchemaLemmas.{Described, Describes, NoFault, is_listed, table_of}
 
 -- ---- kinds of the values that tell rows apart, as the columns of the three tables ask

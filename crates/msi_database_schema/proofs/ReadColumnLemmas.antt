@@ -4,19 +4,19 @@ use Rattle.std.specs.Prelude.{◌&&◌, ◌||◌, not, Option, option_map, if◌
 use Rattle.std.specs.Option.{option_map_or}
 use Rattle.std.proofs.lemmas.Slice.Eq.{bytes_eq-Decides}
 use Rattle.std.proofs.lemmas.Bool.{or_parts}
-use Rattle.msi_text_base.specs.Results.{FailsAs, Gives}
-use Rattle.msi_text_base.specs.declared.errors.ErrorKind.{ErrorKind}
-use Rattle.msi_text_base.specs.declared.errors.ErrorKind.TheVariants.{InvalidData}
-use Rattle.msi_text_base.specs.declared.errors.ErrorKind.TheVariants as kind
-use Rattle.msi_text_categories.specs.declared.category.Category.{Category}
-use Rattle.msi_text_categories.specs.declared.category.Category.TheVariants as category
-use Rattle.msi_text_categories.specs.Categories.{all_categories, category_in, category_name, other_name}
+use Rattle.msi_base.specs.Results.{FailsAs, Gives}
+use Rattle.msi_base.specs.declared.errors.ErrorKind.{ErrorKind}
+use Rattle.msi_base.specs.declared.errors.ErrorKind.TheVariants.{InvalidData}
+use Rattle.msi_base.specs.declared.errors.ErrorKind.TheVariants as kind
+use Rattle.msi_categories.specs.declared.category.Category.{Category}
+use Rattle.msi_categories.specs.declared.category.Category.TheVariants as category
+use Rattle.msi_categories.specs.Categories.{all_categories, category_in, category_name, other_name}
 use Rattle.msi_table_values.specs.declared.value.Value.{Value}
 use Rattle.msi_table_values.specs.declared.column.ColumnType.{ColumnType}
 use Rattle.msi_table_values.specs.Columns.{ColumnDef, begun_column, column_of_bits, has_bit, type_of_bits, with_bits}
 use Rattle.msi_database_schema.specs.Schema.{both_set, category_named, described, has_long_number, is_of_16_bits, number_of, text_at, text_of, value_at, values_in}
-use Rattle.msi_text_base.proofs.ListLemmas.{find_same}
-use Rattle.msi_text_base.proofs.BoolLemmas.{by_test, yes_is_no, or_first}
+use Rattle.msi_base.proofs.ListLemmas.{find_same}
+use Rattle.msi_base.proofs.BoolLemmas.{by_test, yes_is_no, or_first}
 
 -- the parts that a row of `_Validation` gives, one after the other
 abbrev pub with_nullable : Bool → ColumnDef → ColumnDef

@@ -11,11 +11,11 @@ use Rattle.std.specs.Cmp.Lexicographic.{lists_total}
 use Rattle.std.proofs.lemmas.Map.Text.{is_eq-slice_cmp}
 use Rattle.std.proofs.lemmas.Slice.Eq.{bytes_eq-Decides}
 use Rattle.std.proofs.lemmas.Bool.{or_parts, or_from, or_right}
-use Rattle.msi_text_base.specs.Lists.{all_present, has_pair, list_cmp}
-use Rattle.msi_text_base.proofs.BoolLemmas.{by_test}
+use Rattle.msi_base.specs.Lists.{all_present, has_pair, list_cmp}
+use Rattle.msi_base.proofs.BoolLemmas.{by_test}
 use Rattle.msi_table_values.specs.Columns.{ColumnDef}
-use Rattle.msi_database_system.specs.Keys.{is_pool_name}
-use Rattle.msi_database_system.specs.System.{columns_columns, columns_name, tables_columns, tables_name}
+use Rattle.msi_database_schema.specs.Keys.{is_pool_name}
+use Rattle.msi_database_schema.specs.System.{columns_columns, columns_name, tables_columns, tables_name}
 use Rattle.msi_database_schema.specs.Schema.{SchemaRows, by_name, columns_of, counted, has_null, is_faulty, lacks_value, listed_names, schema_of, share_key, text_at}
 
 abbrev pub Described : Type 0

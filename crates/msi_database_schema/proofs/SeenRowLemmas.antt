@@ -3,8 +3,8 @@ use Rattle.std.proofs.Common.{◌≡◌, ℕ, List, slice_get}
 use Rattle.std.specs.Prelude.{option_map}
 use Rattle.std.specs.List.{list_any}
 use Rattle.std.proofs.lemmas.Option.{slice_get-map}
-use Rattle.msi_text_base.proofs.ListLemmas.{list_any-map}
-use Rattle.msi_text_pool_base.specs.Pool.{Place}
+use Rattle.msi_base.proofs.ListLemmas.{list_any-map}
+use Rattle.msi_pool_places.specs.Pool.{Place}
 use Rattle.msi_table_cells.specs.declared.cell.ValueRef.{ValueRef}
 use Rattle.msi_table_cells.specs.CellValues.{row_values, value_of_cell}
 use Rattle.msi_table_values.specs.Values.{is_null}

@@ -10,7 +10,7 @@ use Rattle.std.proofs.lemmas.List.Sorted.{IsPermutation-sym, sum_by-IsPermutatio
 use Rattle.std.proofs.lemmas.Bool.{eqb-true, or_parts, or_from, and_from, false_from_ne_true}
 use Rattle.std.proofs.lemmas.Map.Text.{is_eq-slice_cmp}
 use Rattle.std.proofs.lemmas.List.Elements.{filter_agree}
-use Rattle.msi_text_base.specs.Lists.{all_present, has_pair, list_cmp, placed, stable_sort, tabulated}
+use Rattle.msi_base.specs.Lists.{all_present, has_pair, list_cmp, placed, stable_sort, tabulated}
 use Rattle.msi_table_values.specs.declared.value.Value.{Value}
 use Rattle.msi_table_values.specs.declared.value.Value.TheVariants.{Null, Int, Str, Binary}
 use Rattle.msi_table_values.specs.Columns.{ColumnDef}
@@ -21,9 +21,9 @@ use Rattle.msi_database_schema.specs.ListedTables.{by_names, listed_table, liste
 use Rattle.msi_database_schema.specs.RowOrders.{by_numbers, by_texts, describing, number_in, numbers_cmp, texts_at, texts_cmp}
 use Rattle.msi_table_values.specs.Values.{is_text}
 use Rattle.msi_database_schema.specs.Schema.{SchemaRows, by_name, column_rows, column_of_row, columns_of, counted, has_long_number, has_number, has_odd_name, is_about, is_faulty, is_of_16_bits, listed_names, number_of, numbered_row, share_key, table_with, tables_of, text_at, text_of, validation_row, value_at}
-use Rattle.msi_database_system.specs.System.{columns_columns, columns_name, is_schema_table, tables_columns, tables_name}
-use Rattle.msi_text_base.proofs.ListLemmas.{all_kept, find_same, no_pair_weaker, none_passes, not_found, has_pair-map, tabulated_at}
-use Rattle.msi_text_base.proofs.BoolLemmas.{by_test, yes_is_no}
+use Rattle.msi_database_schema.specs.System.{columns_columns, columns_name, is_schema_table, tables_columns, tables_name}
+use Rattle.msi_base.proofs.ListLemmas.{all_kept, find_same, no_pair_weaker, none_passes, not_found, has_pair-map, tabulated_at}
+use Rattle.msi_base.proofs.BoolLemmas.{by_test, yes_is_no}
 use Rattle.msi_database_schema.proofs.OrderLemmas.{find_sorted, order-weak, sorted_is}
 use Rattle.msi_database_schema.proofs.OrderlessLemmas.{IsReordered, StartsWithText, columns_same, filter-filter, is_counted, length_of_columns, number_is, numbered_is, sound_reordered, texts_same}
 use Rattle.msi_database_schema.proofs.RowOrderLemmas.{at_number, at_texts, names_total, numbers_total, texts_total}

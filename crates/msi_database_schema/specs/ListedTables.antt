@@ -1,10 +1,10 @@
 -- The tables that `_Tables` lists, one by one, and the two that are always there.
 use Rattle.std.specs.Prelude.{ℕ, Bool, List, [], ◌∷◌, ◌++◌, map, Option, option_map}
 use Rattle.std.specs.declared.cmp.Ordering.{Ordering}
-use Rattle.msi_text_base.specs.Lists.{all_present, list_cmp}
+use Rattle.msi_base.specs.Lists.{all_present, list_cmp}
 use Rattle.msi_table.specs.Tables.{TableDef}
 use Rattle.msi_database_schema.specs.Schema.{SchemaRows, columns_of, listed_names, table_with}
-use Rattle.msi_database_system.specs.System.{columns_columns, columns_name, tables_columns, tables_name}
+use Rattle.msi_database_schema.specs.System.{columns_columns, columns_name, tables_columns, tables_name}
 
 abbrev pub listed_table : Bool → SchemaRows → List ℕ → Option TableDef
 listed_table long s name = option_map (λ columns. table_with long (name, columns)) (columns_of s name)

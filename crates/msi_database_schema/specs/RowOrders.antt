@@ -3,11 +3,11 @@ use Rattle.std.specs.Prelude.{ℕ, ℤ, Bool, not, ◌&&◌, ◌||◌, List, [],
 use Rattle.std.specs.List.{list_any}
 use Rattle.std.specs.Ordering.{int_cmp, ordering_then}
 use Rattle.std.specs.declared.cmp.Ordering.{Ordering}
-use Rattle.msi_text_base.specs.Lists.{has_pair, list_cmp}
+use Rattle.msi_base.specs.Lists.{has_pair, list_cmp}
 use Rattle.msi_table_values.specs.declared.value.Value.{Value}
 use Rattle.msi_table_values.specs.Values.{value_cmp}
-use Rattle.msi_database_system.specs.Keys.{is_pool_name}
-use Rattle.msi_database_system.specs.System.{is_schema_table}
+use Rattle.msi_database_schema.specs.Keys.{is_pool_name}
+use Rattle.msi_database_schema.specs.System.{is_schema_table}
 use Rattle.msi_database_schema.specs.Schema.{SchemaRows, counted, has_null, lacks_value, listed_names, number_of}
 use Rattle.msi_database_schema.specs.Schema.{share_key, text_at, value_at}
 

@@ -6,18 +6,18 @@ use Rattle.std.specs.List.{list_any, list_all, slice_split}
 use Rattle.std.specs.Ordering.{is_eq, int_cmp, eq_by_cmp}
 use Rattle.std.specs.FinMap.{put}
 use Rattle.std.specs.Int.{w16, cast_unsigned}
-use Rattle.msi_text_categories.specs.declared.category.Category.{Category}
-use Rattle.msi_text_categories.specs.Categories.{category_name, all_categories}
-use Rattle.msi_text_base.specs.Lists.{all_present, tabulated, has_pair, list_cmp}
+use Rattle.msi_categories.specs.declared.category.Category.{Category}
+use Rattle.msi_categories.specs.Categories.{category_name, all_categories}
+use Rattle.msi_base.specs.Lists.{all_present, tabulated, has_pair, list_cmp}
 use Rattle.msi_table_values.specs.declared.value.Value.{Value}
 use Rattle.msi_table_values.specs.declared.value.Value.TheVariants.{Null, Int, Str}
 use Rattle.msi_table_values.specs.Values.{is_null, is_text, value_cmp}
 use Rattle.msi_table_values.specs.Columns.{ColumnDef, begun_column, column_of_bits, greatest_16}
 use Rattle.msi_table.specs.Tables.{TableDef}
-use Rattle.msi_database_system.specs.Keys.{is_pool_name}
-use Rattle.msi_database_system.specs.System.{tables_name, columns_name, is_schema_table, tables_columns}
-use Rattle.msi_database_system.specs.System.{columns_columns}
-use Rattle.msi_text_categories.specs.declared.category.Category.TheVariants as category
+use Rattle.msi_database_schema.specs.Keys.{is_pool_name}
+use Rattle.msi_database_schema.specs.System.{tables_name, columns_name, is_schema_table, tables_columns}
+use Rattle.msi_database_schema.specs.System.{columns_columns}
+use Rattle.msi_categories.specs.declared.category.Category.TheVariants as category
 
 -- a row's value at a place, as a text and as a number
 abbrev pub value_at : ℕ → List Value → Value

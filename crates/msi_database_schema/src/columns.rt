@@ -5,26 +5,26 @@ ghost use Rattle.std.specs.Prelude.{◌≡◌, ◌≤◌, [], IfOk, Some, bytes_
 ghost use Rattle.std.specs.Prelude.{option_and_then, option_map, true};
 ghost use Rattle.std.specs.Option.{option_map_or};
 ghost use Rattle.std.specs.List.Sorted.{IsSorted};
-ghost use Rattle.msi_text_base.specs.Results.{Gives, OnlyMemory};
-ghost use Rattle.msi_text_base.specs.declared.errors.ErrorKind.TheVariants.{InvalidData};
+ghost use Rattle.msi_base.specs.Results.{Gives, OnlyMemory};
+ghost use Rattle.msi_base.specs.declared.errors.ErrorKind.TheVariants.{InvalidData};
 ghost use Rattle.msi_table_values.specs.Columns.{begun_column, most_columns};
 ghost use Rattle.msi_database_schema.specs.RowOrders.{by_numbers, by_texts, describing};
 ghost use Rattle.msi_database_schema.specs.Schema.{bits_in as bits_of_row, both_set, category_named};
 ghost use Rattle.msi_database_schema.specs.Schema.{column_of_row as column_described, columns_of, described};
 ghost use Rattle.msi_database_schema.specs.Schema.{has_long_number, is_of_16_bits, number_of, numbered_row};
 ghost use Rattle.msi_database_schema.specs.Schema.{text_at as text_in, text_of, validation_row, value_at, values_in};
-ghost use Rattle.msi_database_system.specs.System.{is_schema_table};
+ghost use Rattle.msi_database_schema.specs.System.{is_schema_table};
 
 use crate::orders::{count_about, find_by_number, find_by_texts};
 use crate::reasons;
 use crate::rows::{SchemaRow, is_null_at, number_at, shared_text_at, shared_values_at, text_at};
+use msi_base::errors::{Error, ErrorKind};
+use msi_base::shared_text::SharedText;
+use msi_base::text::Items;
+use msi_categories::category::Category;
 use msi_table::table::MAX_COLUMNS;
 use msi_table_values::column::{Column, ColumnBuilder};
 use msi_table_values::parts::{column_of_bits, with_shared_values};
-use msi_text_base::errors::{Error, ErrorKind};
-use msi_text_base::shared_text::SharedText;
-use msi_text_base::text::Items;
-use msi_text_categories::category::Category;
 use std::alloc::Global;
 
 fn with_nullable(builder: ColumnBuilder, row: &SchemaRow) -> ColumnBuilder

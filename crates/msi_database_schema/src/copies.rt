@@ -3,16 +3,16 @@
 ghost use Rattle.std.specs.Prelude.{◌≡◌, ◌==◌, ℕ, Contains, IfOk, IfSome, map};
 ghost use Rattle.std.specs.List.{slice_split};
 ghost use Rattle.std.specs.List.Sorted.{IsStrictlyIncreasing};
-ghost use Rattle.msi_text_base.specs.Results.{OnlyMemory};
-ghost use Rattle.msi_text_pool_base.specs.FirstFitLaws.{text_at};
+ghost use Rattle.msi_base.specs.Results.{OnlyMemory};
+ghost use Rattle.msi_pool_places.specs.FirstFitLaws.{text_at};
 ghost use Rattle.msi_database_schema.specs.Copies.{list_copy, parted, text_copy};
 
+use msi_base::errors::Error;
+use msi_base::shared_text::SharedText;
+use msi_base::text::Items;
+use msi_pool::stringpool::{StringPool, StringRef};
 use msi_table_cells::cell::ValueRef;
 use msi_table_values::parts::{SharedTexts, copied_list};
-use msi_text_base::errors::Error;
-use msi_text_base::shared_text::SharedText;
-use msi_text_base::text::Items;
-use msi_text_pool::stringpool::{StringPool, StringRef};
 use std::alloc::{AllocError, Global};
 use std::marker::Model;
 
@@ -28,7 +28,7 @@ pub(crate) struct Copies<'a> {
 
 impl<'a> Model for Copies<'a> {
     ghost use Rattle.std.specs.Prelude.{All, List};
-    ghost use Rattle.msi_text_pool_base.specs.Pool as pools;
+    ghost use Rattle.msi_pool_places.specs.Pool as pools;
     ghost use Rattle.msi_database_schema.specs.Copies.{IsListCopy, IsTextCopy};
 
     ghost Value = { List pools.Place };

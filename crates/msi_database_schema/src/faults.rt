@@ -3,9 +3,9 @@
 ghost use Rattle.std.specs.Prelude.{◌≡◌, ◌≤◌, ◌+◌, ◌&&◌, ◌||◌, [], IfOk, bytes_eq, not};
 ghost use Rattle.std.specs.List.{list_any};
 ghost use Rattle.std.specs.List.Sorted.{IsSorted};
-ghost use Rattle.msi_text_base.specs.Lists.{has_pair};
-ghost use Rattle.msi_text_base.specs.Results.{OnlyMemory};
-ghost use Rattle.msi_database_system.specs.Keys.{is_pool_name as is_of_pool_name};
+ghost use Rattle.msi_base.specs.Lists.{has_pair};
+ghost use Rattle.msi_base.specs.Results.{OnlyMemory};
+ghost use Rattle.msi_database_schema.specs.Keys.{is_pool_name as is_of_pool_name};
 ghost use Rattle.msi_database_schema.specs.RowOrders.{by_texts, has_faulty_row, listing, rows_of, shares_key};
 ghost use Rattle.msi_database_schema.specs.Schema.{counted, describes_column as is_described};
 ghost use Rattle.msi_database_schema.specs.Schema.{has_long_number as has_long, has_odd_name as has_odd};
@@ -13,13 +13,13 @@ ghost use Rattle.msi_database_schema.specs.Schema.{has_null as has_one_null, is_
 ghost use Rattle.msi_database_schema.specs.Schema.{is_of_16_bits as fits_16_bits, lacks_value as lacks_one};
 ghost use Rattle.msi_database_schema.specs.Schema.{listed_names, number_of, share_key, text_at as text_in, value_at};
 ghost use Rattle.msi_table_values.specs.Values.{is_text};
-ghost use Rattle.msi_database_system.specs.System.{is_schema_table as is_of_schema};
+ghost use Rattle.msi_database_schema.specs.System.{is_schema_table as is_of_schema};
 
+use crate::names::is_pool_name;
 use crate::orders::{find_by_texts, has_repeat, sort_by_texts};
 use crate::rows::{SchemaRow, holds_null, is_null_at, is_text_at, number_at, text_at};
-use msi_database_system::names::is_pool_name;
-use msi_database_system::system::is_schema_table;
-use msi_text_base::errors::Error;
+use crate::system::is_schema_table;
+use msi_base::errors::Error;
 
 fn is_of_16_bits(number: i32) -> bool
     ensures { result ≡ fits_16_bits number }

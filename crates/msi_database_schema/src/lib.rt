@@ -3,9 +3,12 @@
 
 mod columns;
 mod copies;
+pub mod description;
 mod faults;
+pub mod names;
 mod orders;
 pub mod parts;
 mod reasons;
 mod rows;
 pub mod schema;
+pub mod system;

@@ -5,14 +5,14 @@ ghost use Rattle.std.specs.Prelude.{pos, slice_get};
 ghost use Rattle.std.specs.List.{IsAllAdjacentAnswer};
 ghost use Rattle.std.specs.List.Sorted.{IsSorted};
 ghost use Rattle.std.specs.Ordering.{is_lt};
-ghost use Rattle.msi_text_base.specs.Lists.{has_pair, list_cmp, stable_sort};
-ghost use Rattle.msi_text_base.specs.Results.{OnlyMemory};
+ghost use Rattle.msi_base.specs.Lists.{has_pair, list_cmp, stable_sort};
+ghost use Rattle.msi_base.specs.Results.{OnlyMemory};
 ghost use Rattle.msi_database_schema.specs.RowOrders.{by_numbers, by_texts, by_values, number_in, numbers_cmp};
 ghost use Rattle.msi_database_schema.specs.RowOrders.{texts_at, texts_cmp};
 ghost use Rattle.msi_database_schema.specs.Schema.{has_number, is_about as is_of_table, share_key, text_at as text_in};
 
 use crate::rows::{SchemaRow, compare_at, number_at, text_at};
-use msi_text_base::errors::Error;
+use msi_base::errors::Error;
 use std::cmp::Ordering;
 
 fn texts_order(row: &SchemaRow, place: usize, table: &str, text: &str) -> Ordering

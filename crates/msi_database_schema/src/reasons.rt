@@ -1,6 +1,6 @@
 //! Why the rows of the system tables are refused: a sentence for each rule.
 
-use msi_text_base::errors::Reason;
+use msi_base::errors::Reason;
 
 pub(crate) const ODD_VALUE: Reason = Reason(
     "`_Tables` or `_Columns` has a value that its cells can't hold",

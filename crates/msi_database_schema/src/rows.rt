@@ -2,20 +2,20 @@
 
 ghost use Rattle.std.specs.Prelude.{◌≡◌, IfOk, map};
 ghost use Rattle.std.specs.List.{list_any};
-ghost use Rattle.msi_text_base.specs.Results.{OnlyMemory};
+ghost use Rattle.msi_base.specs.Results.{OnlyMemory};
 ghost use Rattle.msi_table_cells.specs.CellValues.{row_values, value_of_cell};
 ghost use Rattle.msi_table_values.specs.Values.{value_cmp, is_null, is_text};
 ghost use Rattle.msi_table_values.specs.Views.{seen_value};
 ghost use Rattle.msi_database_schema.specs.Schema.{number_of, text_at as text_in, value_at, values_in};
 
 use crate::copies::Copies;
+use msi_base::errors::Error;
+use msi_base::shared_text::SharedText;
+use msi_base::text::Items;
+use msi_pool::stringpool::StringPool;
 use msi_table_cells::cell::ValueRef;
 use msi_table_cells::parts::view_of_cell;
 use msi_table_values::parts::{SharedTexts, ValueView};
-use msi_text_base::errors::Error;
-use msi_text_base::shared_text::SharedText;
-use msi_text_base::text::Items;
-use msi_text_pool::stringpool::StringPool;
 use std::alloc::Global;
 use std::cmp::Ordering;
 use std::marker::Model;

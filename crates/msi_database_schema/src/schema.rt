@@ -3,8 +3,8 @@
 ghost use Rattle.std.specs.Prelude.{◌≡◌, ◌≤◌, ◌||◌, Bool, false, IfErr, IfOk, OnOk, length, map};
 ghost use Rattle.std.specs.Prelude.{option_map};
 ghost use Rattle.std.specs.List.Sorted.{IsSorted};
-ghost use Rattle.msi_text_base.specs.Lists.{stable_sort};
-ghost use Rattle.msi_text_base.specs.Results.{FailsAs, Gives, OnlyMemory};
+ghost use Rattle.msi_base.specs.Lists.{stable_sort};
+ghost use Rattle.msi_base.specs.Results.{FailsAs, Gives, OnlyMemory};
 ghost use Rattle.msi_table_cells.specs.CellValues.{row_values};
 ghost use Rattle.msi_table_values.specs.Columns.{most_columns};
 ghost use Rattle.msi_database_schema.specs.ListedTables.{by_names, listed_table as table_listed};
@@ -13,7 +13,7 @@ ghost use Rattle.msi_database_schema.specs.ListedTables.{system_tables as tables
 ghost use Rattle.msi_database_schema.specs.RowOrders.{by_numbers, by_texts, describing, rows_of};
 ghost use Rattle.msi_database_schema.specs.Schema.{has_long_number as has_long, has_odd_name as has_odd};
 ghost use Rattle.msi_database_schema.specs.Schema.{is_faulty as breaks_rule, table_with, tables_of};
-ghost use Rattle.msi_database_system.specs.System.{is_schema_table};
+ghost use Rattle.msi_database_schema.specs.System.{is_schema_table};
 
 use crate::columns::columns_of_table;
 use crate::copies::Copies;
@@ -21,14 +21,14 @@ use crate::faults::{has_odd_value, is_counted, is_faulty};
 use crate::orders::{sort_by_numbers, sort_by_texts};
 use crate::reasons;
 use crate::rows::{SchemaRow, rows_of_cells, text_at};
-use msi_database_system::system::{COLUMNS, TABLES, columns_columns, tables_columns};
+use crate::system::{COLUMNS, TABLES, columns_columns, tables_columns};
+use msi_base::errors::{Error, ErrorKind};
+use msi_base::text::{IntoText, Items};
+use msi_pool::stringpool::StringPool;
 use msi_table::parts::table;
 use msi_table::table::Table;
 use msi_table_cells::cell::ValueRef;
 use msi_table_values::column::Column;
-use msi_text_base::errors::{Error, ErrorKind};
-use msi_text_base::text::{IntoText, Items};
-use msi_text_pool::stringpool::StringPool;
 use std::alloc::Global;
 
 pub(crate) fn named_table(

@@ -7,7 +7,7 @@ use Rattle.std.specs.Ordering.{is_lt, ordering_reverse}
 use Rattle.std.specs.declared.cmp.Ordering.{Ordering}
 use Rattle.std.specs.declared.cmp.Ordering.TheVariants.{Less, Equal, Greater}
 use Rattle.std.proofs.lemmas.List.{append-nil, nil_from_length}
-use Rattle.msi_text_base.proofs.BoolLemmas.{T_second}
+use Rattle.msi_base.proofs.BoolLemmas.{T_second}
 use Rattle.msi_container_format.specs.Names.{name_cmp}
 use Rattle.msi_container_format.specs.Streams as maps
 use Rattle.msi_container_format.proofs.NamesLemmas.{names_total}

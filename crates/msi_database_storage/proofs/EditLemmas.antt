@@ -5,7 +5,7 @@ use Rattle.std.specs.List.{list_any, AllByRecursion}
 use Rattle.std.specs.FinMap.{find, put}
 use Rattle.std.proofs.lemmas.Bool.{or_parts, or_from, true≢false}
 use Rattle.std.proofs.lemmas.Slice.Eq.{bytes_eq-Decides}
-use Rattle.msi_text_base.specs.Lists.{list_cmp}
+use Rattle.msi_base.specs.Lists.{list_cmp}
 use Rattle.msi_table_cells.specs.declared.cell.ValueRef.{ValueRef}
 use Rattle.msi_table_values.specs.Columns.{ColumnDef, types_of}
 use Rattle.msi_table.specs.Cells.{table_bytes}
@@ -13,20 +13,20 @@ use Rattle.msi_table_cells.specs.StoredOrder.{row_cmp, in_stored_order}
 use Rattle.msi_table_cells.proofs.RowOrderLemmas.{row_cmp-weak}
 use Rattle.msi_table_cells.proofs.StableSortLemmas.{length_sorted}
 use Rattle.msi_table_cells.specs.TableCells.{TableCells}
-use Rattle.msi_database_system.specs.Keys.{is_table_name, table_key}
-use Rattle.msi_database_system.specs.System.{tables_name, columns_name, validation_name}
+use Rattle.msi_database_schema.specs.Keys.{is_table_name, table_key}
+use Rattle.msi_database_schema.specs.System.{tables_name, columns_name, validation_name}
 use Rattle.msi_database_schema.proofs.RowOrderLemmas.{names_total}
 use Rattle.msi_database_changes.specs.Database.{Database, Tables, table_at, with_table}
 use Rattle.msi_database_changes.specs.Changes.{Change, no_change, with_stored}
-use Rattle.msi_database_cells.specs.Texts.{PoolInUse}
+use Rattle.msi_database_changes.specs.Texts.{PoolInUse}
 use Rattle.msi_database_changes.specs.Create.{with_new_table}
 use Rattle.msi_database_changes.specs.Drop.{table_released}
 use Rattle.msi_database_storage.specs.Streams.{Streams, table_stream, stream_of_rows, stored_stream, stored_streams}
-use Rattle.msi_database_cells.specs.declared.storing.Stored.{Stored}
-use Rattle.msi_database_cells.specs.Storing.{HaveOwnNames}
+use Rattle.msi_database_changes.specs.declared.storing.Stored.{Stored}
+use Rattle.msi_database_changes.specs.Storing.{HaveOwnNames}
 use Rattle.msi_database_storage.specs.Storing.{stored_in, tables_stored}
 use Rattle.msi_database_storage.proofs.MapLemmas as maps
-use Rattle.msi_database_system.proofs.KeyLemmas.{table_keys_tell_names}
+use Rattle.msi_database_schema.proofs.KeyLemmas.{table_keys_tell_names}
 use Rattle.msi_database_storage.proofs.StreamLemmas.{list_cmp_exact}
 use Rattle.msi_database_storage.proofs.StoredLemmas.{AreNames}
 

@@ -1,37 +1,37 @@
 -- First rows of tables, one after the other: what the calls of a new database make is `fresh`.
 use Rattle.msi_database_changes.proofs.TurnLemmas.{map_some as some_mapped}
-use Rattle.msi_database_cells.proofs.NarrowLemmas.{rows_put_extends}
+use Rattle.msi_database_changes.proofs.NarrowLemmas.{rows_put_extends}
 use Rattle.std.proofs.Common.{◌≡◌, ℕ, Bool, true, false, ◌&&◌, List, [], ◌∷◌, ◌++◌, length, Option, Some, None, is_some, Result, Ok, Err, IfErr, refl, sym, ap, ap₂, subst, ◌∙◌, option_map, inl, inr, arith, nat_lt, nat_le}
 use Rattle.std.specs.Prelude.{IfOk, IsSomeAnd, option_and_then, unwrap_or}
 use Rattle.std.specs.List.{list_all}
 use Rattle.std.proofs.lemmas.Bool.{and_parts, true≢false}
 use Rattle.std.proofs.lemmas.Bool.Decides.{nat_tests}
 use Rattle.std.proofs.lemmas.Option.{same_Some}
-use Rattle.msi_text_base.specs.declared.errors.ErrorKind.{ErrorKind}
-use Rattle.msi_text_base.specs.declared.errors.ErrorKind.TheVariants.{InvalidInput}
-use Rattle.msi_text_base.specs.Results.{OnlyMemory}
-use Rattle.msi_text_base.proofs.OptionLemmas.{mapped_twice}
+use Rattle.msi_base.specs.declared.errors.ErrorKind.{ErrorKind}
+use Rattle.msi_base.specs.declared.errors.ErrorKind.TheVariants.{InvalidInput}
+use Rattle.msi_base.specs.Results.{OnlyMemory}
+use Rattle.msi_base.proofs.OptionLemmas.{mapped_twice}
 use Rattle.msi_table_values.specs.declared.value.Value.{Value}
 use Rattle.msi_table_values.specs.declared.value.Value.TheVariants.{Str}
 use Rattle.msi_table_cells.specs.declared.cell.ValueRef.{ValueRef}
 use Rattle.msi_table_values.specs.Columns.{ColumnDef, types_of}
 use Rattle.msi_table.specs.Tables.{TableDef, CanStore}
-use Rattle.msi_text_base.specs.Refusals.{IsRefusal, or_refused}
+use Rattle.msi_base.specs.Refusals.{IsRefusal, or_refused}
 use Rattle.msi_table_cells.specs.TableCells.{TableCells}
-use Rattle.msi_database_system.specs.Description.{column_rows, validation_rows}
-use Rattle.msi_database_system.specs.Keys.{table_key}
-use Rattle.msi_database_system.specs.System.{columns_name, tables_name, validation_name}
+use Rattle.msi_database_schema.specs.Description.{column_rows, validation_rows}
+use Rattle.msi_database_schema.specs.Keys.{table_key}
+use Rattle.msi_database_schema.specs.System.{columns_name, tables_name, validation_name}
 use Rattle.msi_database_schema.proofs.RowOrderLemmas.{names_total}
 use Rattle.msi_database_changes.specs.Database.{Database, table_at}
 use Rattle.msi_database_changes.specs.Changes.{Change, no_change, pool_of, with_stored}
-use Rattle.msi_database_cells.specs.Texts.{PoolInUse, UsedPool, in_use, rows_put}
+use Rattle.msi_database_changes.specs.Texts.{PoolInUse, UsedPool, in_use, rows_put}
 use Rattle.msi_database_changes.specs.Create.{added_to, described_by_rows}
 use Rattle.msi_database_changes.specs.Insert.{cells_added, rows_added}
 use Rattle.msi_table_cells.specs.KeyOrder.{in_key_order}
 use Rattle.msi_database_changes.proofs.FitTestLemmas.{cells_fit, each_fits}
 use Rattle.msi_database_storage.specs.Streams.{stream_of_rows}
-use Rattle.msi_database_cells.specs.declared.storing.Stored.{Stored}
-use Rattle.msi_database_cells.specs.Storing.{HaveOwnNames}
+use Rattle.msi_database_changes.specs.declared.storing.Stored.{Stored}
+use Rattle.msi_database_changes.specs.Storing.{HaveOwnNames}
 use Rattle.msi_database_storage.specs.Storing.{tables_stored}
 use Rattle.msi_database_storage.specs.Fresh.{empty_table}
 use Rattle.msi_database_storage.specs.FreshParts.{Begins, CanBegin}

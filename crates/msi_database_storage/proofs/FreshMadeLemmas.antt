@@ -2,19 +2,19 @@
 use Rattle.std.proofs.Common.{◌≡◌, true, false, List, [], ◌∷◌, length, Some, refl, sym, ap, ap₂, subst, ◌∙◌}
 use Rattle.std.specs.Prelude.{IsTrue, unwrap_or}
 use Rattle.msi_container_format.specs.Names.{is_name_length}
-use Rattle.msi_text_pool_base.specs.Pool.{Pool}
+use Rattle.msi_pool_places.specs.Pool.{Pool}
 use Rattle.msi_table_values.specs.declared.value.Value.{Value}
 use Rattle.msi_table_values.specs.Columns.{ColumnDef}
 use Rattle.msi_table.specs.Tables.{TableDef}
-use Rattle.msi_database_system.specs.Description.{column_rows, have_short_lengths, tables_row, validation_rows}
-use Rattle.msi_database_system.specs.Keys.{table_key}
-use Rattle.msi_database_system.specs.System.{columns_columns, columns_name, tables_columns, tables_name, validation_columns, validation_name}
-use Rattle.msi_database_cells.specs.Texts.{PoolInUse, UsedPool, in_use, settled}
+use Rattle.msi_database_schema.specs.Description.{column_rows, have_short_lengths, tables_row, validation_rows}
+use Rattle.msi_database_schema.specs.Keys.{table_key}
+use Rattle.msi_database_schema.specs.System.{columns_columns, columns_name, tables_columns, tables_name, validation_columns, validation_name}
+use Rattle.msi_database_changes.specs.Texts.{PoolInUse, UsedPool, in_use, settled}
 use Rattle.msi_database_changes.specs.Changes.{no_change, pool_of}
 use Rattle.msi_database_changes.specs.Create.{described_by_rows}
 use Rattle.msi_database_changes.specs.Insert.{cells_added}
-use Rattle.msi_database_cells.specs.declared.storing.Stored.{Stored}
-use Rattle.msi_database_cells.specs.Storing.{HaveOwnNames}
+use Rattle.msi_database_changes.specs.declared.storing.Stored.{Stored}
+use Rattle.msi_database_changes.specs.Storing.{HaveOwnNames}
 use Rattle.msi_database_storage.specs.Fresh.{fresh_change}
 use Rattle.msi_database_storage.specs.FreshParts.{Begins, CanBegin, columns_table, fresh_pool, fresh_stored, tables_table, unused_pool, validation_table}
 use Rattle.msi_database_storage.proofs.FreshCallLemmas.{AreBare, Describes, begins_as, begun, can_as, describes, listing, stream_begun}

@@ -3,11 +3,11 @@ use Rattle.std.proofs.Common.{◌≡◌, true, false, List, [], length, Some, re
 use Rattle.std.specs.Prelude.{IsTrue}
 use Rattle.msi_container_format.specs.Names.{is_name_length}
 use Rattle.msi_table_values.specs.declared.value.Value.{Value}
-use Rattle.msi_database_system.specs.Description.{column_rows, have_short_lengths, validation_rows}
-use Rattle.msi_database_system.specs.Keys.{table_key}
-use Rattle.msi_database_system.specs.System.{columns_name, tables_name, validation_columns, validation_name}
+use Rattle.msi_database_schema.specs.Description.{column_rows, have_short_lengths, validation_rows}
+use Rattle.msi_database_schema.specs.Keys.{table_key}
+use Rattle.msi_database_schema.specs.System.{columns_name, tables_name, validation_columns, validation_name}
 use Rattle.msi_database_changes.specs.Database.{Database, table_at}
-use Rattle.msi_database_cells.specs.Texts.{PoolInUse, in_use}
+use Rattle.msi_database_changes.specs.Texts.{PoolInUse, in_use}
 use Rattle.msi_database_changes.specs.Changes.{no_change, pool_of}
 use Rattle.msi_database_changes.specs.Insert.{cells_added}
 use Rattle.msi_database_storage.specs.Fresh.{bare_database, empty_table}

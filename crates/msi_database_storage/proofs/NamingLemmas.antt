@@ -7,17 +7,17 @@ use Rattle.std.proofs.lemmas.List.{map_push, take_more}
 use Rattle.std.proofs.lemmas.List.Folds.{list_any-append}
 use Rattle.std.proofs.lemmas.Option.{get_or_from_slice_get}
 use Rattle.std.proofs.Math.Seq.{take-length}
-use Rattle.msi_text_base.specs.Lists.{tabulated}
-use Rattle.msi_text_base.proofs.ListLemmas.{all_dropped, drop_next, tabulated_at}
-use Rattle.msi_text_pool_base.specs.Pool.{Pool, without_unnamed_texts}
-use Rattle.msi_text_pool.proofs.ForgottenLemmas.{marks_stand}
+use Rattle.msi_base.specs.Lists.{tabulated}
+use Rattle.msi_base.proofs.ListLemmas.{all_dropped, drop_next, tabulated_at}
+use Rattle.msi_pool_places.specs.Pool.{Pool, without_unnamed_texts}
+use Rattle.msi_pool.proofs.ForgottenLemmas.{marks_stand}
 use Rattle.msi_table_values.specs.Columns.{types_of}
 use Rattle.msi_table.specs.Cells.{rows_in}
 use Rattle.msi_table.specs.Census.{CensusDef, CountsMore, IsCensus, numbers_of_rows}
 use Rattle.msi_table.specs.Tables.{TableDef, rows_spelled}
 use Rattle.msi_table.proofs.CensusLemmas.{any_counted}
 use Rattle.msi_table.proofs.ReadRowsLemmas.{length-tabulated}
-use Rattle.msi_database_system.specs.Keys.{table_key}
+use Rattle.msi_database_schema.specs.Keys.{table_key}
 use Rattle.msi_database_changes.specs.Database.{rows_of}
 use Rattle.msi_database_storage.specs.Streams.{Streams, stream_at}
 use Rattle.msi_database_storage.specs.Kept.{AreAsLong, table_kept}

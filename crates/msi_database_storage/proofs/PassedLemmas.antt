@@ -1,9 +1,9 @@
 -- An error that is passed on: there is no value, and its kind stays.
 use Rattle.std.proofs.Common.{◌≡◌, ◌∙◌, Result, Ok, Err, inl}
 use Rattle.std.specs.Prelude.{IfErr, IfOk, IsErrAnd, OnErr}
-use Rattle.msi_text_base.specs.declared.errors.ErrorKind.{ErrorKind}
-use Rattle.msi_text_base.specs.declared.errors.ErrorKind.TheVariants.{OutOfMemory}
-use Rattle.msi_text_base.specs.Refusals.{IsRefusal}
+use Rattle.msi_base.specs.declared.errors.ErrorKind.{ErrorKind}
+use Rattle.msi_base.specs.declared.errors.ErrorKind.TheVariants.{OutOfMemory}
+use Rattle.msi_base.specs.Refusals.{IsRefusal}
 
 -- there is no value
 pub no_value : {A : Type 0} (P : A → Type 0) (r : Result A ErrorKind) (kind : ErrorKind) → IsErrAnd r (λ e. e ≡ kind) → IfOk r P

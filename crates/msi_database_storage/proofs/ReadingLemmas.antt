@@ -6,12 +6,12 @@ use Rattle.std.proofs.lemmas.Bool.{cases_Bool, le-leb, true≢false}
 use Rattle.std.proofs.lemmas.Option.{none-some, same_Some}
 use Rattle.std.proofs.lemmas.Bool.Decides.{nat_tests}
 use Rattle.std.proofs.lemmas.Int.{ints}
-use Rattle.msi_text_base.specs.Lists.{all_present}
-use Rattle.msi_text_base.specs.declared.errors.ErrorKind.{ErrorKind}
-use Rattle.msi_text_base.specs.declared.errors.ErrorKind.TheVariants.{InvalidData, OutOfMemory}
-use Rattle.msi_text_base.specs.declared.errors.ErrorKind.TheVariants as kinds
-use Rattle.msi_text_base.specs.Results.{FailsAs, Gives}
-use Rattle.msi_text_pool_base.specs.Pool.{Place, Pool}
+use Rattle.msi_base.specs.Lists.{all_present}
+use Rattle.msi_base.specs.declared.errors.ErrorKind.{ErrorKind}
+use Rattle.msi_base.specs.declared.errors.ErrorKind.TheVariants.{InvalidData, OutOfMemory}
+use Rattle.msi_base.specs.declared.errors.ErrorKind.TheVariants as kinds
+use Rattle.msi_base.specs.Results.{FailsAs, Gives}
+use Rattle.msi_pool_places.specs.Pool.{Place, Pool}
 use Rattle.msi_container_format.specs.Names.{is_name_length}
 use Rattle.msi_table_values.specs.declared.column.ColumnType.TheVariants as coltype
 use Rattle.msi_table_values.specs.declared.value.Value.{Value}
@@ -21,12 +21,12 @@ use Rattle.msi_table_cells.specs.CellValues.{value_of_cell, row_values}
 use Rattle.msi_table_values.specs.Columns.{ColumnDef, greatest_16, types_of}
 use Rattle.msi_table.specs.Tables.{TableDef}
 use Rattle.msi_table_cells.specs.Fitting.{FitsColumn, FitsRow, FitsTable}
-use Rattle.msi_text_base.specs.Refusals.{IsRefusal, or_refused}
+use Rattle.msi_base.specs.Refusals.{IsRefusal, or_refused}
 use Rattle.msi_database_schema.specs.RowOrders.{rows_of}
 use Rattle.msi_table_values.specs.Values.{is_null, is_text}
 use Rattle.msi_database_schema.specs.Schema.{SchemaRows, by_name, columns_of, listed_names, has_long_number, has_null, has_odd_name, is_faulty, is_of_16_bits, number_of, schema_of, table_with, tables_of}
 use Rattle.msi_database_schema.proofs.SchemaLemmas.{no_fault}
-use Rattle.msi_database_system.specs.System.{columns_columns, columns_name, tables_columns, tables_name, validation_columns, validation_name}
+use Rattle.msi_database_schema.specs.System.{columns_columns, columns_name, tables_columns, tables_name, validation_columns, validation_name}
 use Rattle.msi_database_storage.specs.Streams.{Streams, stored_rows}
 use Rattle.msi_database_storage.specs.StreamNames.{HaveShortNames, HoldBytes}
 use Rattle.msi_database_storage.specs.Kept.{AreAsLong, schema_listed}

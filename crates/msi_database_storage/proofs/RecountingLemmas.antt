@@ -6,9 +6,9 @@ use Rattle.msi_table_cells.specs.declared.cell.ValueRef.{ValueRef}
 use Rattle.msi_table.specs.Tables.{rows_spelled, TableDef}
 use Rattle.msi_table.specs.Census.{CensusDef, CountsMore, IsCensus, numbers_of_rows}
 use Rattle.msi_table.proofs.CensusLemmas.{all_counted}
-use Rattle.msi_database_system.specs.Keys.{table_key}
+use Rattle.msi_database_schema.specs.Keys.{table_key}
 use Rattle.msi_database_schema.specs.Schema.{table_with}
-use Rattle.msi_database_system.specs.System.{validation_columns, validation_name}
+use Rattle.msi_database_schema.specs.System.{validation_columns, validation_name}
 use Rattle.msi_database_changes.specs.Database.{Database, named_numbers}
 use Rattle.msi_database_changes.specs.Recounting.{cell_counts, counts_fit}
 use Rattle.msi_database_changes.proofs.RecountingLemmas.{cells_at, many_counts}

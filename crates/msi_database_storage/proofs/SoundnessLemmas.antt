@@ -8,18 +8,18 @@ use Rattle.std.proofs.lemmas.Bool.{cases_eq, false_from_ne_true, le-leb, leb-tru
 use Rattle.std.proofs.lemmas.Bool.Decides.{nat_tests}
 use Rattle.std.proofs.lemmas.List.{map_push, take_more}
 use Rattle.std.proofs.lemmas.List.Folds.{list_all-append, list_all-map, list_all_at}
-use Rattle.msi_text_base.specs.Lists.{numbers_from, tabulated}
-use Rattle.msi_text_base.proofs.ListLemmas.{each_number}
-use Rattle.msi_text_pool_base.specs.Pool.{Place, Pool}
-use Rattle.msi_text_pool_base.specs.FirstFit.{count_of}
-use Rattle.msi_text_pool_base.specs.FirstFitLaws.{count_at}
+use Rattle.msi_base.specs.Lists.{numbers_from, tabulated}
+use Rattle.msi_base.proofs.ListLemmas.{each_number}
+use Rattle.msi_pool_places.specs.Pool.{Place, Pool}
+use Rattle.msi_pool_places.specs.FirstFit.{count_of}
+use Rattle.msi_pool_places.specs.FirstFitLaws.{count_at}
 use Rattle.msi_table_values.specs.Columns.{ColumnDef}
 use Rattle.msi_table.specs.Census.{CensusDef, IsCensus, most_counted, times_named}
 use Rattle.msi_table.specs.Tables.{TableDef}
 use Rattle.msi_table.proofs.CensusLemmas.{all_counted, counted_past, few, fits_by}
 use Rattle.msi_table.proofs.PlacesLemmas.{tabulated_more}
 use Rattle.msi_table_cells.specs.TableCells.{TableCells}
-use Rattle.msi_database_system.specs.System.{validation_columns, validation_name}
+use Rattle.msi_database_schema.specs.System.{validation_columns, validation_name}
 use Rattle.msi_database_changes.specs.Database.{Database, are_alike, counts_suffice, is_readable_table, is_sound, names_stay_in_pool, pool_fits_width, tables_are_readable, validation_is_standard}
 use Rattle.msi_database_changes.proofs.SoundLemmas.{numbers_all}
 use Rattle.msi_database_storage.specs.Streams.{Streams}

@@ -5,7 +5,7 @@ use Rattle.std.specs.List.{list_any, AllByRecursion}
 use Rattle.std.specs.FinMap.{find}
 use Rattle.std.proofs.lemmas.Bool.{or_parts, true≢false, ne_eqb, cases_Bool}
 use Rattle.std.proofs.lemmas.Slice.Eq.{bytes_eq-Decides}
-use Rattle.msi_text_base.specs.Lists.{list_cmp}
+use Rattle.msi_base.specs.Lists.{list_cmp}
 use Rattle.msi_table_cells.specs.declared.cell.ValueRef.{ValueRef}
 use Rattle.msi_table_values.specs.declared.column.ColumnType.{ColumnType}
 use Rattle.msi_table_values.specs.Columns.{ColumnDef, types_of}
@@ -13,12 +13,12 @@ use Rattle.msi_table.specs.Cells.{rows_in, table_bytes, widths}
 use Rattle.msi_table_cells.specs.Fitting.{FitsTable}
 use Rattle.msi_table.proofs.ReadBackLemmas.{rows_in-table_bytes}
 use Rattle.msi_table_cells.specs.TableCells.{TableCells}
-use Rattle.msi_database_system.specs.Keys.{is_table_name, table_key, summary_key, string_pool_name, string_data_name}
+use Rattle.msi_database_schema.specs.Keys.{is_table_name, table_key, summary_key, string_pool_name, string_data_name}
 use Rattle.msi_database_changes.specs.Database.{Database, Tables, table_at}
 use Rattle.msi_database_changes.proofs.TracksLemmas.{TableFits}
 use Rattle.msi_database_storage.specs.Streams.{Streams, stream_at, with_stream_or_none, stored_rows, stored_stream, stored_streams}
 use Rattle.msi_database_storage.specs.Agreement.{TablesAre}
-use Rattle.msi_database_system.proofs.KeyLemmas.{table_keys_tell_names, table_key≢summary_key, table_key≢pool}
+use Rattle.msi_database_schema.proofs.KeyLemmas.{table_keys_tell_names, table_key≢summary_key, table_key≢pool}
 use Rattle.msi_database_storage.proofs.StreamLemmas.{stream_at_put, stream_at_other_put, stream_at_removed, stream_at_other_removed, AreSorted, sorted_put, sorted_removed, with_or_none_either, names_put, TablesSorted, tables_found}
 
 -- each other stream stays

@@ -4,7 +4,7 @@ use Rattle.std.specs.Prelude.{T}
 use Rattle.std.specs.List.{AllByRecursion}
 use Rattle.std.specs.FinMap.{find, is_sorted, IsAntisymmetric, nat_cmp-IsAntisymmetric, slice_cmp-IsAntisymmetric}
 use Rattle.std.specs.Ordering.{eq_by_cmp}
-use Rattle.msi_text_base.specs.Lists.{list_cmp}
+use Rattle.msi_base.specs.Lists.{list_cmp}
 use Rattle.msi_container_format.specs.Names.{name_cmp}
 use Rattle.msi_container_format.proofs.NamesLemmas.{names_total, exact_names}
 use Rattle.msi_database_schema.proofs.RowOrderLemmas.{names_total as list_cmp_total}

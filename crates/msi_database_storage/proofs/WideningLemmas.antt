@@ -7,7 +7,7 @@ use Rattle.msi_container_format.proofs.NamesLemmas.{names_total as key_names_tot
 use Rattle.msi_table.specs.Cells.{table_bytes}
 use Rattle.msi_table_cells.specs.declared.cell.ValueRef.{ValueRef}
 use Rattle.msi_table_values.specs.Columns.{ColumnDef, types_of}
-use Rattle.msi_database_system.specs.Keys.{table_key}
+use Rattle.msi_database_schema.specs.Keys.{table_key}
 use Rattle.msi_database_changes.specs.Insert.{table_with}
 use Rattle.msi_database_storage.specs.Streams.{with_stream}
 use Rattle.msi_database_storage.specs.Widening.{with_long_rows}

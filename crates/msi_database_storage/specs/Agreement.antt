@@ -2,12 +2,12 @@
 use Rattle.std.specs.Prelude.{◌≡◌, ℕ, ◌==◌, Bool, List, [], ◌++◌, map, Option, Some, option_map, option_and_then}
 use Rattle.std.specs.Prelude.{unwrap_or, MatchBool}
 use Rattle.std.specs.List.{AllByRecursion, list_any}
-use Rattle.msi_text_pool_base.specs.Pool.{Pool}
+use Rattle.msi_pool_places.specs.Pool.{Pool}
 use Rattle.msi_table_values.specs.declared.value.Value.{Value}
 use Rattle.msi_table_values.specs.Columns.{ColumnDef}
 use Rattle.msi_table_cells.specs.CellValues.{row_values}
-use Rattle.msi_database_system.specs.System.{tables_name, columns_name, validation_name, tables_columns}
-use Rattle.msi_database_system.specs.System.{columns_columns, validation_columns}
+use Rattle.msi_database_schema.specs.System.{tables_name, columns_name, validation_name, tables_columns}
+use Rattle.msi_database_schema.specs.System.{columns_columns, validation_columns}
 use Rattle.msi_database_schema.specs.Schema.{SchemaRows, schema_of}
 use Rattle.msi_table.specs.Census.{numbers_of_rows}
 use Rattle.msi_database_changes.specs.Database.{Database, has_table, named_numbers, columns_by_name}

@@ -1,10 +1,10 @@
 -- A new database: `_Validation`, described by itself.
 use Rattle.std.specs.Prelude.{false, List, [], ◌∷◌, Some, unwrap_or}
-use Rattle.msi_text_base.specs.declared.codepage.CodePage.TheVariants as page
+use Rattle.msi_base.specs.declared.codepage.CodePage.TheVariants as page
 use Rattle.msi_table_values.specs.Columns.{ColumnDef}
 use Rattle.msi_table_cells.specs.TableCells.{TableCells}
-use Rattle.msi_database_system.specs.System.{columns_columns, columns_name, tables_columns, tables_name}
-use Rattle.msi_database_system.specs.System.{validation_columns, validation_name}
+use Rattle.msi_database_schema.specs.System.{columns_columns, columns_name, tables_columns, tables_name}
+use Rattle.msi_database_schema.specs.System.{validation_columns, validation_name}
 use Rattle.msi_database_changes.specs.Database.{Database}
 use Rattle.msi_database_changes.specs.Changes.{Change, no_change}
 use Rattle.msi_database_changes.specs.Create.{described_by_rows}

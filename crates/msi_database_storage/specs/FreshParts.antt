@@ -1,14 +1,14 @@
 -- The parts of a new database, and the first rows of a table.
 use Rattle.std.specs.Prelude.{◌≡◌, false, List, [], IsSomeAnd}
-use Rattle.msi_text_pool_base.specs.Pool.{Pool}
+use Rattle.msi_pool_places.specs.Pool.{Pool}
 use Rattle.msi_table_values.specs.declared.value.Value.{Value}
 use Rattle.msi_table.specs.Tables.{TableDef, CanStore}
-use Rattle.msi_database_system.specs.Keys.{table_key}
-use Rattle.msi_database_system.specs.System.{columns_columns, columns_name, tables_columns, tables_name}
-use Rattle.msi_database_system.specs.System.{validation_columns, validation_name}
-use Rattle.msi_database_cells.specs.Texts.{PoolInUse, UsedPool}
+use Rattle.msi_database_schema.specs.Keys.{table_key}
+use Rattle.msi_database_schema.specs.System.{columns_columns, columns_name, tables_columns, tables_name}
+use Rattle.msi_database_schema.specs.System.{validation_columns, validation_name}
+use Rattle.msi_database_changes.specs.Texts.{PoolInUse, UsedPool}
 use Rattle.msi_database_changes.specs.Insert.{cells_added}
-use Rattle.msi_database_cells.specs.declared.storing.Stored.{Stored}
+use Rattle.msi_database_changes.specs.declared.storing.Stored.{Stored}
 use Rattle.msi_database_storage.specs.Storing.{tables_stored}
 use Rattle.msi_database_storage.specs.Streams.{stream_of_rows}
 use Rattle.msi_database_storage.specs.Fresh.{bare_database, fresh_change}

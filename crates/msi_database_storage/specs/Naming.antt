@@ -2,9 +2,9 @@
 use Rattle.std.specs.Prelude.{ℕ, ◌+◌, ◌==◌, ◌||◌, Bool, List, ◌++◌, count_by, length, map, nat_le, nat_lt, slice_get}
 use Rattle.std.specs.Prelude.{slice_index}
 use Rattle.std.specs.List.{flat_map, list_all, list_any}
-use Rattle.msi_text_base.specs.Lists.{tabulated}
-use Rattle.msi_text_pool_base.specs.FirstFit.{count_of}
-use Rattle.msi_text_pool_base.specs.Pool.{Place, Pool, with_named_texts}
+use Rattle.msi_base.specs.Lists.{tabulated}
+use Rattle.msi_pool_places.specs.FirstFit.{count_of}
+use Rattle.msi_pool_places.specs.Pool.{Place, Pool, with_named_texts}
 use Rattle.msi_table_cells.specs.declared.cell.ValueRef.{ValueRef}
 use Rattle.msi_table.specs.Census.{CensusDef, numbers_of_rows}
 use Rattle.msi_table.specs.Tables.{TableDef}

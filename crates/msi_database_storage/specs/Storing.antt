@@ -1,8 +1,8 @@
 -- What becomes of the streams of tables that are stored together.
 use Rattle.std.specs.Prelude.{ℕ, List, [], ◌∷◌, map, None}
-use Rattle.msi_database_system.specs.Keys.{table_key}
+use Rattle.msi_database_schema.specs.Keys.{table_key}
 use Rattle.msi_database_changes.specs.Database.{Database, table_at}
-use Rattle.msi_database_cells.specs.declared.storing.Stored.{Stored}
+use Rattle.msi_database_changes.specs.declared.storing.Stored.{Stored}
 use Rattle.msi_database_storage.specs.Streams.{Streams, with_stream_or_none, table_stream}
 
 -- a table's stream that goes

@@ -4,8 +4,8 @@ use Rattle.std.specs.List.{fold}
 use Rattle.msi_table_values.specs.Columns.{types_of}
 use Rattle.msi_table.specs.Cells.{table_bytes}
 use Rattle.msi_table_cells.specs.TableCells.{TableCells}
-use Rattle.msi_database_system.specs.Keys.{table_key}
-use Rattle.msi_database_system.specs.System.{validation_columns, validation_name}
+use Rattle.msi_database_schema.specs.Keys.{table_key}
+use Rattle.msi_database_schema.specs.System.{validation_columns, validation_name}
 use Rattle.msi_database_changes.specs.Database.{Database, rows_of}
 use Rattle.msi_database_storage.specs.Streams.{Streams, with_stream}
 

@@ -1,10 +1,10 @@
 //! Copies of streams.
 
 ghost use Rattle.std.specs.Prelude.{◌≡◌, IfOk};
-ghost use Rattle.msi_text_base.specs.Results.{OnlyMemory};
+ghost use Rattle.msi_base.specs.Results.{OnlyMemory};
 
+use msi_base::errors::Error;
 use msi_container_format::contents::{Bytes, StreamMap};
-use msi_text_base::errors::Error;
 use std::alloc::{AllocError, Global};
 
 /// Returns a copy of bytes. The only error is that memory was refused.

@@ -2,20 +2,20 @@
 
 ghost use Rattle.std.specs.Prelude.{◌≡◌, [], IfErr, IfOk, Some, is_some, option_map, unwrap_or};
 ghost use Rattle.std.specs.FinMap.{entries};
-ghost use Rattle.msi_text_base.specs.declared.errors.ErrorKind.TheVariants.{InvalidData};
-ghost use Rattle.msi_text_base.specs.Refusals.{IsRefusal, or_refused};
+ghost use Rattle.msi_base.specs.declared.errors.ErrorKind.TheVariants.{InvalidData};
+ghost use Rattle.msi_base.specs.Refusals.{IsRefusal, or_refused};
 ghost use Rattle.msi_table.specs.Rows.{table_rows as rows_with};
-ghost use Rattle.msi_database_system.specs.Keys.{table_key as key_of};
+ghost use Rattle.msi_database_schema.specs.Keys.{table_key as key_of};
 ghost use Rattle.msi_database_storage.specs.StreamNames.{HaveShortNames};
 ghost use Rattle.msi_database_storage.specs.Streams.{stored_rows as rows_stored, stream_at};
 
+use msi_base::errors::Error;
+use msi_base::text::Items;
 use msi_container_format::contents::StreamMap;
-use msi_database_system::names::table_key;
+use msi_database_schema::names::table_key;
 use msi_table::Table;
 use msi_table::parts::{StoredRows, can_read_rows, read_rows, rows_in_place};
 use msi_table_cells::cell::ValueRef;
-use msi_text_base::errors::Error;
-use msi_text_base::text::Items;
 use std::alloc::Global;
 
 /// Returns no bytes where the stream doesn't exist.

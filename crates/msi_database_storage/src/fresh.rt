@@ -2,32 +2,31 @@
 
 ghost use Rattle.std.specs.Prelude.{◌≡◌, ◌∷◌, [], IfOk, OnOk, Some, false, is_some, length, true};
 ghost use Rattle.msi_container_format.specs.Names.{is_name_length};
-ghost use Rattle.msi_text_base.specs.Results.{OnlyMemory};
-ghost use Rattle.msi_text_pool_base.specs.Pool.{unindexed};
-ghost use Rattle.msi_database_system.specs.Keys.{table_key as key_of};
+ghost use Rattle.msi_base.specs.Results.{OnlyMemory};
+ghost use Rattle.msi_pool_places.specs.Pool.{unindexed};
+ghost use Rattle.msi_database_schema.specs.Keys.{table_key as key_of};
 ghost use Rattle.msi_database_changes.specs.Insert.{cells_added};
-ghost use Rattle.msi_database_cells.specs.Texts.{in_use};
+ghost use Rattle.msi_database_changes.specs.Texts.{in_use};
 ghost use Rattle.msi_database_storage.specs.FreshParts.{Begins, CanBegin, columns_table, fresh_pool, fresh_stored};
 ghost use Rattle.msi_database_storage.specs.FreshParts.{tables_table, unused_pool, validation_table};
 
 use crate::storing::stream_of;
-use msi_database_cells::parts::Stored;
-use msi_database_cells::texts::PoolInUse;
+use msi_base::codepage::CodePage;
+use msi_base::errors::Error;
+use msi_base::text::Items;
 use msi_database_changes::insert::add_rows;
-use msi_database_schema::parts::named_table;
-use msi_database_system::description::{tables_row, validation_rows};
-use msi_database_system::parts::column_rows;
-use msi_database_system::system::{
+use msi_database_changes::parts::Stored;
+use msi_database_changes::texts::PoolInUse;
+use msi_database_schema::description::{tables_row, validation_rows};
+use msi_database_schema::parts::{column_rows, named_table};
+use msi_database_schema::system::{
     COLUMNS, TABLES, VALIDATION, columns_columns, tables_columns, validation_columns,
 };
+use msi_pool::stringpool::StringPool;
 use msi_table::Table;
 use msi_table_cells::cell::ValueRef;
 use msi_table_values::column::Column;
 use msi_table_values::value::Value;
-use msi_text_base::codepage::CodePage;
-use msi_text_base::errors::Error;
-use msi_text_base::text::Items;
-use msi_text_pool::stringpool::StringPool;
 use std::alloc::Global;
 
 /// What a new database is made of.

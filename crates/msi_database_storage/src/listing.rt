@@ -3,13 +3,13 @@
 ghost use Rattle.std.specs.Prelude.{◌≡◌, ◌≤◌, ◌++◌, IfOk, OnOk, is_some, length, option_copied};
 ghost use Rattle.std.specs.List.{prefix_len};
 ghost use Rattle.std.specs.Ordering.{is_lt};
-ghost use Rattle.msi_text_base.specs.Lists.{list_cmp};
-ghost use Rattle.msi_text_base.specs.Results.{OnlyMemory};
+ghost use Rattle.msi_base.specs.Lists.{list_cmp};
+ghost use Rattle.msi_base.specs.Results.{OnlyMemory};
 ghost use Rattle.msi_database_storage.specs.Kept.{table_kept_at, with_table_kept, without_table_kept};
 
+use msi_base::errors::Error;
+use msi_base::text::Items;
 use msi_table::Table;
-use msi_text_base::errors::Error;
-use msi_text_base::text::Items;
 use std::alloc::Global;
 
 /// Returns the table of this name among these.

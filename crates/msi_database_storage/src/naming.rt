@@ -2,23 +2,23 @@
 
 ghost use Rattle.std.specs.Prelude.{◌≡◌, ◌≤◌, ◌++◌, ◌||◌, ℕ, Bool, IfOk, List, length, map, nat_lt};
 ghost use Rattle.std.specs.FinMap.{entries};
-ghost use Rattle.msi_text_base.specs.Lists.{tabulated};
-ghost use Rattle.msi_text_base.specs.Results.{OnlyMemory};
-ghost use Rattle.msi_text_pool_base.specs.Pool.{CountsFit, unindexed};
+ghost use Rattle.msi_base.specs.Lists.{tabulated};
+ghost use Rattle.msi_base.specs.Results.{OnlyMemory};
+ghost use Rattle.msi_pool_places.specs.Pool.{CountsFit, unindexed};
 ghost use Rattle.msi_table.specs.Census.{IsCensus, numbers_of_rows};
 ghost use Rattle.msi_database_storage.specs.Kept.{AreAsLong, table_kept};
 ghost use Rattle.msi_database_storage.specs.Naming.{is_named_in, numbers_of_tables, pool_shown};
 ghost use Rattle.msi_database_storage.specs.StreamNames.{HaveShortNames};
 
 use crate::decoding::stream_bytes;
+use msi_base::errors::Error;
+use msi_base::text::Items;
 use msi_container_format::contents::StreamMap;
+use msi_pool::parts::{forget_texts, free_places_are_empty};
+use msi_pool::stringpool::StringPool;
 use msi_table::Table;
 use msi_table::parts::Census;
 use msi_table_cells::cell::ValueRef;
-use msi_text_base::errors::Error;
-use msi_text_base::text::Items;
-use msi_text_pool::parts::{forget_texts, free_places_are_empty};
-use msi_text_pool::stringpool::StringPool;
 use std::alloc::Global;
 
 /// Returns the census of the cells of tables, for a pool of so many places. It makes no row. A table that can't be

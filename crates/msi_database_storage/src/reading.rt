@@ -2,13 +2,13 @@
 
 ghost use Rattle.std.specs.Prelude.{◌≡◌, [], ◌<◌, ◌≤◌, All, IfErr, IfOk, Some, if◌then◌else◌, is_some, length};
 ghost use Rattle.std.specs.FinMap.{entries};
-ghost use Rattle.msi_text_base.specs.declared.errors.ErrorKind.TheVariants.{InvalidData};
-ghost use Rattle.msi_text_base.specs.Results.{OnlyMemory};
+ghost use Rattle.msi_base.specs.declared.errors.ErrorKind.TheVariants.{InvalidData};
+ghost use Rattle.msi_base.specs.Results.{OnlyMemory};
 ghost use Rattle.msi_table_values.specs.Columns.{most_columns};
-ghost use Rattle.msi_text_pool_base.specs.Pool.{unindexed};
-ghost use Rattle.msi_text_base.specs.Refusals.{IsRefusal, or_refused};
+ghost use Rattle.msi_pool_places.specs.Pool.{unindexed};
+ghost use Rattle.msi_base.specs.Refusals.{IsRefusal, or_refused};
 ghost use Rattle.msi_database_schema.specs.Schema.{table_with};
-ghost use Rattle.msi_database_system.specs.System.{validation_columns as columns_of_validation, validation_name};
+ghost use Rattle.msi_database_schema.specs.System.{validation_columns as columns_of_validation, validation_name};
 ghost use Rattle.msi_database_storage.specs.Agreement.{described_by, schema_in};
 ghost use Rattle.msi_database_storage.specs.Kept.{AreAsLong, schema_listed, table_kept_at};
 ghost use Rattle.msi_database_storage.specs.StreamNames.{HaveShortNames, HoldBytes};
@@ -16,18 +16,18 @@ ghost use Rattle.msi_database_storage.specs.Streams.{stored_rows as rows_stored}
 
 use crate::decoding::stored_rows;
 use crate::listing::table_named;
+use msi_base::errors::Error;
+use msi_base::text::Items;
 use msi_container_format::contents::StreamMap;
 use msi_database_schema::parts::named_table;
 use msi_database_schema::schema::tables_of_cells;
-use msi_database_system::system::{
+use msi_database_schema::system::{
     COLUMNS, TABLES, VALIDATION, columns_columns, tables_columns, validation_columns,
 };
+use msi_pool::stringpool::StringPool;
 use msi_table::Table;
 use msi_table_cells::cell::ValueRef;
 use msi_table_values::column::Column;
-use msi_text_base::errors::Error;
-use msi_text_base::text::Items;
-use msi_text_pool::stringpool::StringPool;
 use std::alloc::Global;
 
 /// The tables that the system tables describe, and what is read for that of `_Validation`.

@@ -2,11 +2,11 @@
 
 ghost use Rattle.std.specs.Prelude.{◌≡◌, IfOk};
 ghost use Rattle.std.specs.FinMap.{entries};
-ghost use Rattle.msi_text_base.specs.Results.{OnlyMemory};
-ghost use Rattle.msi_text_pool_base.specs.Pool.{Pool};
+ghost use Rattle.msi_base.specs.Results.{OnlyMemory};
+ghost use Rattle.msi_pool_places.specs.Pool.{Pool};
 ghost use Rattle.msi_table.specs.Census.{CountsMore, IsCensus, numbers_of_rows};
 ghost use Rattle.msi_database_schema.specs.Schema.{table_with};
-ghost use Rattle.msi_database_system.specs.System.{validation_columns, validation_name};
+ghost use Rattle.msi_database_schema.specs.System.{validation_columns, validation_name};
 ghost use Rattle.msi_database_changes.specs.Database.{named_numbers};
 ghost use Rattle.msi_database_storage.specs.Kept.{AreAsLong, database_kept, unlisted_kept};
 ghost use Rattle.msi_database_storage.specs.StreamNames.{HaveShortNames};
@@ -14,12 +14,12 @@ ghost use Rattle.msi_database_storage.specs.StreamNames.{HaveShortNames};
 use crate::decoding::stream_bytes;
 use crate::listing::table_named;
 use crate::naming::tables_census;
+use msi_base::errors::Error;
 use msi_container_format::contents::StreamMap;
-use msi_database_cells::counting::count_beside;
-use msi_database_system::system::VALIDATION;
+use msi_database_changes::counting::count_beside;
+use msi_database_schema::system::VALIDATION;
 use msi_table::Table;
 use msi_table::parts::Census;
-use msi_text_base::errors::Error;
 use std::alloc::Global;
 
 /// Counts the cells of the stream of `_Validation`, where that is no table, by its standard columns.

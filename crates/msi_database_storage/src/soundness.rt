@@ -4,10 +4,10 @@ ghost use Rattle.std.specs.Prelude.{◌≡◌, ◌&&◌, ℕ, Bool, List, bytes_
 ghost use Rattle.std.specs.FinMap.{entries};
 ghost use Rattle.std.specs.List.{list_all};
 ghost use Rattle.std.specs.Option as options;
-ghost use Rattle.msi_text_pool_base.specs.FirstFit.{most_places as most_of};
-ghost use Rattle.msi_text_pool_base.specs.Pool.{unindexed};
+ghost use Rattle.msi_pool_places.specs.FirstFit.{most_places as most_of};
+ghost use Rattle.msi_pool_places.specs.Pool.{unindexed};
 ghost use Rattle.msi_table.specs.Census.{IsCensus};
-ghost use Rattle.msi_database_system.specs.System.{validation_columns, validation_name};
+ghost use Rattle.msi_database_schema.specs.System.{validation_columns, validation_name};
 ghost use Rattle.msi_database_changes.specs.Database.{are_alike as alike, is_readable_table, is_sound as is_sound_one};
 ghost use Rattle.msi_database_changes.specs.Database.{named_numbers, same_bool, same_kind as same_kinds};
 ghost use Rattle.msi_database_storage.specs.Kept.{AreAsLong, database_kept, table_kept, table_kept_at};
@@ -17,13 +17,13 @@ ghost use Rattle.msi_database_storage.specs.StreamNames.{HaveShortNames};
 use crate::decoding::is_readable;
 use crate::listing::table_named;
 use msi_container_format::contents::StreamMap;
-use msi_database_system::names::is_table_name;
-use msi_database_system::system::VALIDATION;
+use msi_database_schema::names::is_table_name;
+use msi_database_schema::system::VALIDATION;
+use msi_pool::parts::{most_places, string_ref};
+use msi_pool::stringpool::StringPool;
 use msi_table::Table;
 use msi_table::parts::Census;
 use msi_table_values::column::{Column, ColumnType};
-use msi_text_pool::parts::{most_places, string_ref};
-use msi_text_pool::stringpool::StringPool;
 
 /// Returns whether the pool has no more places than its references can name.
 pub fn fits_width(pool: &StringPool) -> bool

@@ -2,20 +2,20 @@
 
 ghost use Rattle.std.specs.Prelude.{◌≡◌, IfOk, length, true};
 ghost use Rattle.msi_container_format.specs.Names.{is_name_length};
-ghost use Rattle.msi_text_base.specs.Results.{OnlyMemory};
+ghost use Rattle.msi_base.specs.Results.{OnlyMemory};
 ghost use Rattle.msi_table.specs.Tables.{CanStore};
-ghost use Rattle.msi_database_system.specs.Keys.{is_table_name, table_key as key_of};
+ghost use Rattle.msi_database_schema.specs.Keys.{is_table_name, table_key as key_of};
 ghost use Rattle.msi_database_storage.specs.Storing.{stream_gone};
 ghost use Rattle.msi_database_storage.specs.Streams.{stream_of_rows};
 
+use msi_base::errors::Error;
+use msi_base::text::Items;
 use msi_container_format::contents::Bytes;
-use msi_database_cells::parts::Stored;
-use msi_database_system::parts::short_table_key;
+use msi_database_changes::parts::Stored;
+use msi_database_schema::parts::short_table_key;
 use msi_table::Table;
 use msi_table::parts::write_rows;
 use msi_table_cells::cell::ValueRef;
-use msi_text_base::errors::Error;
-use msi_text_base::text::Items;
 use std::alloc::Global;
 
 /// Returns the stream of a table whose rows become these: none where there is no row. The table has a name that a

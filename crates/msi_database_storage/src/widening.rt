@@ -3,20 +3,20 @@
 ghost use Rattle.std.specs.Prelude.{◌≡◌, ℕ, IfOk, List, OnOk, length, map, true};
 ghost use Rattle.std.specs.FinMap.{entries};
 ghost use Rattle.msi_container_format.specs.Names.{is_name_length};
-ghost use Rattle.msi_text_base.specs.Results.{OnlyMemory};
+ghost use Rattle.msi_base.specs.Results.{OnlyMemory};
 ghost use Rattle.msi_table_cells.specs.TableCells.{TableCells};
 ghost use Rattle.msi_table.specs.Tables.{CanStore, long_table_of};
-ghost use Rattle.msi_database_system.specs.Keys.{table_key as key_of};
+ghost use Rattle.msi_database_schema.specs.Keys.{table_key as key_of};
 ghost use Rattle.msi_database_changes.specs.Insert.{table_with};
 ghost use Rattle.msi_database_storage.specs.Widening.{with_long_rows};
 
+use msi_base::errors::Error;
+use msi_base::text::Items;
 use msi_container_format::contents::{Bytes, StreamMap};
-use msi_database_system::parts::short_table_key;
+use msi_database_schema::parts::short_table_key;
 use msi_table::Table;
 use msi_table::parts::{long_table, write_long_rows};
 use msi_table_cells::cell::ValueRef;
-use msi_text_base::errors::Error;
-use msi_text_base::text::Items;
 use std::alloc::Global;
 
 /// Copies of tables with long references.

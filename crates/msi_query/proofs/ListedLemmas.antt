@@ -4,7 +4,7 @@ use Rattle.std.proofs.lemmas.List.{append-nil, map-append, take_more}
 use Rattle.std.proofs.Output.{then_text_assoc}
 use Rattle.std.specs.List.{flat_map, join_by}
 use Rattle.std.specs.Fmt.{◌++?◌}
-use Rattle.msi_text_base.specs.Lists.{all_present}
+use Rattle.msi_base.specs.Lists.{all_present}
 use Rattle.msi_query_tokens.specs.Names.{name_text}
 use Rattle.msi_query.specs.QueryTexts.{columns_text, listed}
 

@@ -1,8 +1,8 @@
 -- Worked texts of queries.
 use Rattle.std.proofs.Common.{◌≡◌, ℕ, pos, List, [], ◌∷◌, Some, None, codes, refl}
 use Rattle.msi_table_values.specs.declared.value.Value.TheVariants.{Null, Int, Str}
-use Rattle.msi_query_operators.specs.declared.operators.BinaryOp.TheVariants as two
-use Rattle.msi_query_operators.specs.declared.joins.JoinKind.TheVariants.{Inner, Left}
+use Rattle.msi_query_expressions.specs.declared.operators.BinaryOp.TheVariants as two
+use Rattle.msi_query_expressions.specs.declared.joins.JoinKind.TheVariants.{Inner, Left}
 use Rattle.msi_query_expressions.specs.Expressions.{Expression, literal, column, binary, either}
 use Rattle.msi_query.specs.Queries.{Query, table, join, narrowed, no_clauses}
 use Rattle.msi_query_tokens.specs.Tokens.{kind_of_word, same_kind}

@@ -6,17 +6,17 @@ use Rattle.std.proofs.lemmas.List.{append-nil, map-append, length-map, take_more
 use Rattle.std.proofs.lemmas.List.Elements.{filter_map-append}
 use Rattle.std.proofs.lemmas.Option.{slice_get-map}
 use Rattle.std.proofs.lemmas.Bool.{eqb-true, true≢false}
-use Rattle.msi_text_base.specs.declared.errors.ErrorKind.{ErrorKind}
-use Rattle.msi_text_pool_base.specs.Pool.{Place}
+use Rattle.msi_base.specs.declared.errors.ErrorKind.{ErrorKind}
+use Rattle.msi_pool_places.specs.Pool.{Place}
 use Rattle.msi_table_cells.specs.declared.cell.ValueRef.{ValueRef}
 use Rattle.msi_table_cells.specs.declared.cell.ValueRef.TheVariants as cell
 use Rattle.msi_table_values.specs.declared.value.Value.{Value}
 use Rattle.msi_table_values.specs.declared.value.Value.TheVariants as value
 use Rattle.msi_table_cells.specs.CellValues.{value_of_cell, row_values}
 use Rattle.msi_table_values.specs.Columns.{ColumnDef, column_index, column_named}
-use Rattle.msi_query_operators.specs.declared.joins.JoinKind.{JoinKind}
-use Rattle.msi_query_operators.specs.declared.joins.JoinKind.TheVariants.{Inner, Left}
-use Rattle.msi_query_operators.specs.Joins.{is_left}
+use Rattle.msi_query_expressions.specs.declared.joins.JoinKind.{JoinKind}
+use Rattle.msi_query_expressions.specs.declared.joins.JoinKind.TheVariants.{Inner, Left}
+use Rattle.msi_query_expressions.specs.Joins.{is_left}
 use Rattle.msi_query_expressions.specs.Expressions.{Expression}
 use Rattle.msi_query_expressions.specs.Conditions.{meets, value_in}
 use Rattle.msi_query.specs.Queries.{Clauses}

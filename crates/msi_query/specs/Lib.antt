@@ -8,11 +8,11 @@ pub mod Selection
 pub mod Rows
 pub mod Selected
 -- The words of the crates below, which public clauses cite.
-pub use Rattle.msi_text_base.specs.declared.errors.ErrorKind
+pub use Rattle.msi_base.specs.declared.errors.ErrorKind
 pub use Rattle.msi_table_values.specs.declared.value.Value
 pub use Rattle.msi_table_cells.specs.CellValues
-pub use Rattle.msi_query_operators.specs.declared.joins.JoinKind
-pub use Rattle.msi_query_operators.specs.Joins
+pub use Rattle.msi_query_expressions.specs.declared.joins.JoinKind
+pub use Rattle.msi_query_expressions.specs.Joins
 pub use Rattle.msi_query_expressions.specs.UnaryOp
 pub use Rattle.msi_query_expressions.specs.BinaryOp
 pub use Rattle.msi_query_expressions.specs.OperatorValues

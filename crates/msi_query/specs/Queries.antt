@@ -1,7 +1,7 @@
 -- Queries as values.
 use Rattle.std.specs.Prelude.{ℕ, List, [], Option, Some, None}
 use Rattle.msi_table_values.specs.declared.value.Value.{Value}
-use Rattle.msi_query_operators.specs.declared.joins.JoinKind.{JoinKind}
+use Rattle.msi_query_expressions.specs.declared.joins.JoinKind.{JoinKind}
 use Rattle.msi_query_expressions.specs.Expressions.{Expression, both}
 
 -- the columns to keep, where none keeps all, and the condition, if any

@@ -3,12 +3,12 @@ use Rattle.std.specs.Prelude.{ℕ, List, [], ◌∷◌, ◌++◌, map, length, O
 use Rattle.std.specs.Prelude.{if◌then◌else◌, codes}
 use Rattle.std.specs.List.{join_by}
 use Rattle.std.specs.Fmt.{◌++?◌}
-use Rattle.msi_text_base.specs.Lists.{all_present}
+use Rattle.msi_base.specs.Lists.{all_present}
 use Rattle.msi_table_values.specs.declared.value.Value.{Value}
 use Rattle.msi_table_values.specs.Values.{value_text}
 use Rattle.msi_query_tokens.specs.Names.{name_text}
-use Rattle.msi_query_operators.specs.declared.joins.JoinKind.{JoinKind}
-use Rattle.msi_query_operators.specs.declared.joins.JoinKind.TheVariants.{Inner, Left}
+use Rattle.msi_query_expressions.specs.declared.joins.JoinKind.{JoinKind}
+use Rattle.msi_query_expressions.specs.declared.joins.JoinKind.TheVariants.{Inner, Left}
 use Rattle.msi_query_expressions.specs.Assignments.{set_text}
 use Rattle.msi_query_expressions.specs.Expressions.{Expression}
 use Rattle.msi_query_expressions.specs.Printing.{expression_text}

@@ -1,6 +1,6 @@
 -- The rows that a query gives, as callers see them.
 use Rattle.std.specs.Prelude.{◌≡◌, Result, Ok, Err}
-use Rattle.msi_text_base.specs.declared.errors.ErrorKind.{ErrorKind}
+use Rattle.msi_base.specs.declared.errors.ErrorKind.{ErrorKind}
 use Rattle.msi_table.specs.Rows.{RowsDef}
 use Rattle.msi_query.specs.Rows.{rows_values}
 use Rattle.msi_query.specs.Selection.{Relation}

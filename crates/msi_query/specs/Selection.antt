@@ -2,19 +2,19 @@
 use Rattle.std.specs.Prelude.{ℕ, Bool, true, false, not, List, [], ◌∷◌, ◌++◌, map, length, filter, replicate, Option}
 use Rattle.std.specs.Prelude.{Some, None, ◌==◌, if◌then◌else◌, Result}
 use Rattle.std.specs.List.{flat_map, list_all, filter_map}
-use Rattle.msi_text_base.specs.declared.errors.ErrorKind.{ErrorKind}
-use Rattle.msi_text_base.specs.declared.errors.ErrorKind.TheVariants.{InvalidData, InvalidInput, NotFound}
+use Rattle.msi_base.specs.declared.errors.ErrorKind.{ErrorKind}
+use Rattle.msi_base.specs.declared.errors.ErrorKind.TheVariants.{InvalidData, InvalidInput, NotFound}
 use Rattle.msi_table_values.specs.declared.value.Value.{Value}
 use Rattle.msi_table_values.specs.declared.value.Value.TheVariants.{Null}
 use Rattle.msi_table_values.specs.Columns.{ColumnDef, column_named, has_column}
-use Rattle.msi_query_operators.specs.declared.joins.JoinKind.{JoinKind}
-use Rattle.msi_query_operators.specs.declared.joins.JoinKind.TheVariants.{Left}
-use Rattle.msi_query_operators.specs.Joins.{is_left}
+use Rattle.msi_query_expressions.specs.declared.joins.JoinKind.{JoinKind}
+use Rattle.msi_query_expressions.specs.declared.joins.JoinKind.TheVariants.{Left}
+use Rattle.msi_query_expressions.specs.Joins.{is_left}
 use Rattle.msi_query_expressions.specs.Expressions.{Expression, names_in}
 use Rattle.msi_query_expressions.specs.Conditions.{meets, value_in}
 use Rattle.msi_query.specs.Queries.{Query, Clauses, table, join}
-use Rattle.msi_text_base.specs.Refusals.{Refusals, earlier, refusal_of, unless_refused, or_refused}
-use Rattle.msi_text_base.specs.Refusals.{◌>>=◌}
+use Rattle.msi_base.specs.Refusals.{Refusals, earlier, refusal_of, unless_refused, or_refused}
+use Rattle.msi_base.specs.Refusals.{◌>>=◌}
 
 -- a table as queries see it; no rows where it can't be read
 pub record TableValues : Type 0 where

@@ -1,7 +1,7 @@
 //! Queries as values: how they are built, and how they print.
 
 ghost use Rattle.std.specs.Prelude.{◌≡◌, IfOk, IfErr, Some};
-ghost use Rattle.msi_text_base.specs.declared.errors.ErrorKind.TheVariants.{OutOfMemory};
+ghost use Rattle.msi_base.specs.declared.errors.ErrorKind.TheVariants.{OutOfMemory};
 ghost use Rattle.msi_query.specs.Queries.{narrowed as narrowed_by};
 
 pub(crate) mod clauses;
@@ -14,9 +14,9 @@ pub(crate) mod update;
 
 pub use delete::Delete;
 pub use insert::Insert;
+use msi_base::errors::Error;
 use msi_query_expressions::Expr;
-pub use msi_query_operators::joins::JoinKind;
-use msi_text_base::errors::Error;
+pub use msi_query_expressions::joins::JoinKind;
 pub use select::Select;
 use std::alloc::Global;
 pub use update::Update;

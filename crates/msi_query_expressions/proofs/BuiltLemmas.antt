@@ -5,12 +5,12 @@ use Rattle.std.specs.Int.{w32, int_bit_and, int_bit_or, int_bit_xor, int_shl, in
 use Rattle.std.proofs.lemmas.Bool.{and_parts}
 use Rattle.msi_table_values.specs.declared.value.Value.{Value}
 use Rattle.msi_table_values.specs.declared.value.Value.TheVariants.{Null, Int, Str}
-use Rattle.msi_query_operators.specs.declared.operators.UnaryOp.{UnaryOp}
-use Rattle.msi_query_operators.specs.declared.operators.UnaryOp.TheVariants as one
-use Rattle.msi_query_operators.specs.declared.operators.BinaryOp.{BinaryOp}
-use Rattle.msi_query_operators.specs.declared.operators.BinaryOp.TheVariants as two
+use Rattle.msi_query_expressions.specs.declared.operators.UnaryOp.{UnaryOp}
+use Rattle.msi_query_expressions.specs.declared.operators.UnaryOp.TheVariants as one
+use Rattle.msi_query_expressions.specs.declared.operators.BinaryOp.{BinaryOp}
+use Rattle.msi_query_expressions.specs.declared.operators.BinaryOp.TheVariants as two
 use Rattle.msi_query_expressions.specs.Expressions.{Expression, literal}
-use Rattle.msi_query_operators.specs.OperatorValues.{is_i32, is_zero, is_distance, number, truth, of_numbers, of_operands, unary_value, binary_value}
+use Rattle.msi_query_expressions.specs.OperatorValues.{is_i32, is_zero, is_distance, number, truth, of_numbers, of_operands, unary_value, binary_value}
 use Rattle.msi_query_expressions.specs.Folding.{folded_unary, folded_binary, fits_literal, literals_fit, is_folded, is_built}
 use Rattle.msi_query_expressions.proofs.FoldingLemmas.{and_both, is_folded-folded_unary, is_folded-folded_binary}
 

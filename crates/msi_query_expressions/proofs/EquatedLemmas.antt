@@ -8,9 +8,9 @@ use Rattle.msi_table_values.specs.declared.value.Value.TheVariants.{Null}
 use Rattle.msi_table_values.specs.Values.{is_true, value_cmp}
 use Rattle.msi_table_values.specs.Columns.{ColumnDef}
 use Rattle.msi_table_values.specs.OrderLaws.{value_eq-Decides}
-use Rattle.msi_query_operators.specs.declared.operators.BinaryOp.TheVariants as two
+use Rattle.msi_query_expressions.specs.declared.operators.BinaryOp.TheVariants as two
 use Rattle.msi_query_expressions.specs.Expressions.{Expression, literal, column, unary, binary, both, either}
-use Rattle.msi_query_operators.specs.OperatorValues.{truth}
+use Rattle.msi_query_expressions.specs.OperatorValues.{truth}
 use Rattle.msi_query_expressions.specs.Evaluation.{value_of}
 use Rattle.msi_query_expressions.specs.Conditions.{meets, value_at_place, value_in}
 use Rattle.msi_query_expressions.specs.Equated.{PassesWithEqual, column_place, equated, one_of_each}

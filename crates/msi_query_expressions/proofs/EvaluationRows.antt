@@ -2,8 +2,8 @@
 use Rattle.std.specs.Prelude.{◌≡◌, ℕ, List, [], ◌∷◌, refl, codes, map, pos, negsuc, ℤ, if◌then◌else◌, bytes_eq}
 use Rattle.msi_table_values.specs.declared.value.Value.{Value}
 use Rattle.msi_table_values.specs.declared.value.Value.TheVariants.{Null, Int, Str}
-use Rattle.msi_query_operators.specs.declared.operators.UnaryOp.TheVariants as one
-use Rattle.msi_query_operators.specs.declared.operators.BinaryOp.TheVariants as two
+use Rattle.msi_query_expressions.specs.declared.operators.UnaryOp.TheVariants as one
+use Rattle.msi_query_expressions.specs.declared.operators.BinaryOp.TheVariants as two
 use Rattle.msi_query_expressions.specs.Expressions.{Expression, literal, column, unary, binary, both, either, names_in}
 use Rattle.msi_query_expressions.specs.Evaluation.{value_of}
 use Rattle.msi_query_expressions.specs.Folding.{folded_unary, folded_binary}

@@ -3,10 +3,10 @@ use Rattle.std.proofs.Common.{◌≡◌, ℕ, List, Bool, true, false, refl, ap,
 use Rattle.std.specs.Prelude.{IsTrue}
 use Rattle.msi_table_values.specs.declared.value.Value.{Value}
 use Rattle.msi_table_values.specs.Values.{is_true}
-use Rattle.msi_query_operators.specs.declared.operators.UnaryOp.{UnaryOp}
-use Rattle.msi_query_operators.specs.declared.operators.BinaryOp.{BinaryOp}
+use Rattle.msi_query_expressions.specs.declared.operators.UnaryOp.{UnaryOp}
+use Rattle.msi_query_expressions.specs.declared.operators.BinaryOp.{BinaryOp}
 use Rattle.msi_query_expressions.specs.Expressions.{Expression, literal, column, unary, binary, both, either}
-use Rattle.msi_query_operators.specs.OperatorValues.{truth, unary_value, binary_value}
+use Rattle.msi_query_expressions.specs.OperatorValues.{truth, unary_value, binary_value}
 use Rattle.msi_query_expressions.specs.Evaluation.{value_of}
 use Rattle.msi_query_expressions.specs.Folding.{folded_unary, folded_binary, folded, is_folded, FoldingKeepsValues, ConstructorsFold}
 

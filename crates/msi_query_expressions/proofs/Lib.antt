@@ -1,4 +1,5 @@
 -- The lemmas of this crate.
+pub mod OperatorRows
 pub mod FoldingLemmas
 pub mod BuiltLemmas
 pub mod TreeLemmas

@@ -7,7 +7,7 @@ use Rattle.std.specs.HashSet.{HashSet, Updates}
 use Rattle.std.proofs.lemmas.Cmp.{nat_list_eq_equiv}
 use Rattle.std.proofs.lemmas.Map.Views.{list_any-from_Contains, Contains-from_any}
 use Rattle.std.proofs.lemmas.Slice.Eq.{bytes_eq-Decides}
-use Rattle.msi_text_base.proofs.BoolLemmas.{first_or_second}
+use Rattle.msi_base.proofs.BoolLemmas.{first_or_second}
 use Rattle.msi_query_expressions.specs.Names.{has_name}
 
 -- a name that is inserted is there, and the others are as before

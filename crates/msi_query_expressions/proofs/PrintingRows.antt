@@ -1,8 +1,8 @@
 -- Worked rows of printed expressions, by computation.
 use Rattle.std.proofs.Common.{◌≡◌, ℕ, true, List, [], ◌∷◌, Some, refl, codes, map, pos, negsuc, ℤ}
 use Rattle.msi_table_values.specs.declared.value.Value.TheVariants.{Null, Int, Str}
-use Rattle.msi_query_operators.specs.declared.operators.UnaryOp.TheVariants as one
-use Rattle.msi_query_operators.specs.declared.operators.BinaryOp.TheVariants as two
+use Rattle.msi_query_expressions.specs.declared.operators.UnaryOp.TheVariants as one
+use Rattle.msi_query_expressions.specs.declared.operators.BinaryOp.TheVariants as two
 use Rattle.msi_query_expressions.specs.Expressions.{Expression, literal, column, unary, binary, both, either}
 use Rattle.msi_query_expressions.specs.Folding.{is_built, folded_binary}
 use Rattle.msi_query_tokens.specs.Tokens.{kind_of_word, same_kind}

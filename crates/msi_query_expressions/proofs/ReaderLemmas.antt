@@ -3,14 +3,14 @@
 -- by where it stands. A name in back quotes ends at one behind which there is no other.
 use Rattle.std.proofs.Common.{ℕ, suc, ◌+◌, ◌-◌, ◌*◌, Bool, true, false, not, List, [], ◌∷◌, ◌++◌, drop, nat_lt, ◌==◌, if◌then◌else◌, codes, bytes_eq, pos, negsuc}
 use Rattle.std.specs.Char.{is_ascii_digit}
-use Rattle.msi_text_categories.specs.CategoryRules.{starts_name, continues_name}
+use Rattle.msi_categories.specs.CategoryRules.{starts_name, continues_name}
 use Rattle.msi_table_values.specs.declared.value.Value.TheVariants.{Null, Int, Str}
-use Rattle.msi_query_operators.specs.declared.operators.UnaryOp.{UnaryOp}
-use Rattle.msi_query_operators.specs.declared.operators.UnaryOp.TheVariants as one
-use Rattle.msi_query_operators.specs.declared.operators.BinaryOp.{BinaryOp}
-use Rattle.msi_query_operators.specs.declared.operators.BinaryOp.TheVariants as two
+use Rattle.msi_query_expressions.specs.declared.operators.UnaryOp.{UnaryOp}
+use Rattle.msi_query_expressions.specs.declared.operators.UnaryOp.TheVariants as one
+use Rattle.msi_query_expressions.specs.declared.operators.BinaryOp.{BinaryOp}
+use Rattle.msi_query_expressions.specs.declared.operators.BinaryOp.TheVariants as two
 use Rattle.msi_query_expressions.specs.Expressions.{Expression, literal, column, unary, binary, both, either}
-use Rattle.msi_query_operators.specs.OperatorTexts.{op_level, op_text}
+use Rattle.msi_query_expressions.specs.OperatorTexts.{op_level, op_text}
 
 -- what stands between two operands
 pub data Link : Type 0 where

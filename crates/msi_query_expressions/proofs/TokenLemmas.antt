@@ -6,10 +6,10 @@ use Rattle.std.specs.Fmt.{decimal, debug_escape}
 use Rattle.std.proofs.lemmas.Fmt.{decimal_by_steps}
 use Rattle.std.proofs.lemmas.Bool.{and_parts, ltb-true, not-true, cond-true, cond-false}
 use Rattle.std.proofs.lemmas.Bool.Decides.{nat_tests}
-use Rattle.msi_text_categories.specs.CategoryRules.{starts_name, continues_name, is_identifier}
+use Rattle.msi_categories.specs.CategoryRules.{starts_name, continues_name, is_identifier}
 use Rattle.msi_table_values.specs.declared.value.Value.TheVariants.{Str}
 use Rattle.msi_query_tokens.specs.Names.{doubled, doubled_byte}
-use Rattle.msi_query_operators.specs.declared.operators.BinaryOp.TheVariants as two
+use Rattle.msi_query_expressions.specs.declared.operators.BinaryOp.TheVariants as two
 use Rattle.msi_query_expressions.specs.Expressions.{literal}
 use Rattle.msi_query_expressions.proofs.ReaderLemmas.{Link, by, link_level, link_text, Frame, Place, place, settle, State, wanting, word, number, quoted_name, name_end, quote, after, right_of, step, step_after, run, is_ready, place_of}
 

@@ -3,9 +3,9 @@ use Rattle.std.proofs.Common.{◌≡◌, ℕ, List, Bool, ◌&&◌, ◌||◌, re
 use Rattle.msi_table_values.specs.declared.value.Value.{Value}
 use Rattle.msi_table_values.specs.Values.{is_true}
 use Rattle.msi_query_expressions.specs.declared.expr.Tree.{Tree, Literal, Column, Unary', Binary', And', Or'}
-use Rattle.msi_query_operators.specs.OperatorValues.{is_sum}
+use Rattle.msi_query_expressions.specs.OperatorValues.{is_sum}
 use Rattle.msi_query_expressions.specs.Conditions.{has_sum}
-use Rattle.msi_query_operators.specs.OperatorValues.{truth, unary_value, binary_value}
+use Rattle.msi_query_expressions.specs.OperatorValues.{truth, unary_value, binary_value}
 use Rattle.msi_query_expressions.specs.Evaluation.{value_of}
 use Rattle.msi_query_expressions.specs.Trees.{expression_of, tree_has_sum, tree_value}
 

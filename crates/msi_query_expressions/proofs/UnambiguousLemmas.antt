@@ -5,19 +5,19 @@ use Rattle.std.specs.Char.{is_ascii}
 use Rattle.std.specs.Fmt.{decimal, debug_escape, ◌++?◌}
 use Rattle.std.proofs.lemmas.Bool.{and_parts, lt-ltb, le-ltb, leb-true, not-true, cond-true, cond-false, ltb-false, not_from_false}
 use Rattle.std.proofs.lemmas.Slice.Eq.{bytes_eq-Decides}
-use Rattle.msi_text_categories.specs.CategoryRules.{is_identifier}
+use Rattle.msi_categories.specs.CategoryRules.{is_identifier}
 use Rattle.msi_query_tokens.specs.declared.token.Kind.TheVariants as k
 use Rattle.msi_query_tokens.specs.Tokens.{kind_of_word, same_kind}
 use Rattle.msi_query_tokens.specs.Names.{is_plain_name, doubled, name_text}
 use Rattle.msi_table_values.specs.declared.value.Value.{Value}
 use Rattle.msi_table_values.specs.declared.value.Value.TheVariants.{Null, Int, Str, Binary}
-use Rattle.msi_query_operators.specs.declared.operators.UnaryOp.{UnaryOp}
-use Rattle.msi_query_operators.specs.declared.operators.UnaryOp.TheVariants as one
-use Rattle.msi_query_operators.specs.declared.operators.BinaryOp.TheVariants as two
+use Rattle.msi_query_expressions.specs.declared.operators.UnaryOp.{UnaryOp}
+use Rattle.msi_query_expressions.specs.declared.operators.UnaryOp.TheVariants as one
+use Rattle.msi_query_expressions.specs.declared.operators.BinaryOp.TheVariants as two
 use Rattle.msi_query_expressions.specs.Expressions.{Expression, literal, column, unary, binary, both, either}
-use Rattle.msi_query_operators.specs.OperatorValues.{is_i32}
+use Rattle.msi_query_expressions.specs.OperatorValues.{is_i32}
 use Rattle.msi_query_expressions.specs.Folding.{fits_literal, is_built, is_folded, is_literal, literals_fit}
-use Rattle.msi_query_operators.specs.OperatorTexts.{op_level, unary_text}
+use Rattle.msi_query_expressions.specs.OperatorTexts.{op_level, unary_text}
 use Rattle.msi_query_expressions.specs.Printing.{expression_text, level, bracketed}
 use Rattle.msi_query_expressions.specs.Vocabulary.{is_plain, is_plain_value, PrintsAlone}
 use Rattle.msi_query_expressions.proofs.ReaderLemmas.{Link, by, and_link, or_link, linked, link_level, link_text, Frame, prefix, left, bracket, frame_level, top_level, prefixed, filled, place, settle, settled, State, wanting, word, name_end, number, after, right_of, closed, run, is_ready, place_of, read}

@@ -5,7 +5,7 @@ use Rattle.msi_table_values.specs.declared.value.Value.{Value}
 use Rattle.msi_table_values.specs.declared.value.Value.TheVariants.{Null}
 use Rattle.msi_table_values.specs.Values.{is_true}
 use Rattle.msi_table_values.specs.Columns.{ColumnDef, column_index}
-use Rattle.msi_query_operators.specs.OperatorValues.{is_sum}
+use Rattle.msi_query_expressions.specs.OperatorValues.{is_sum}
 use Rattle.msi_query_expressions.specs.Expressions.{Expression, literal, column, unary, binary, both, either}
 use Rattle.msi_query_expressions.specs.Evaluation.{value_of}
 

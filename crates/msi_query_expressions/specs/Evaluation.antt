@@ -5,8 +5,8 @@ use Rattle.msi_table_values.specs.declared.value.Value.{Value}
 use Rattle.msi_table_values.specs.declared.value.Value.TheVariants.{Null}
 use Rattle.msi_table_values.specs.Values.{is_true}
 use Rattle.msi_table_values.specs.Columns.{ColumnDef, has_column}
-use Rattle.msi_table_rows.specs.Row.{RowDef, value_named}
-use Rattle.msi_query_operators.specs.OperatorValues.{truth, unary_value, binary_value}
+use Rattle.msi_table_values.specs.Row.{RowDef, value_named}
+use Rattle.msi_query_expressions.specs.OperatorValues.{truth, unary_value, binary_value}
 use Rattle.msi_query_expressions.specs.Expressions.{Expression, literal, column, unary, binary, both, either, names_in}
 
 -- the value, where `at` gives the value of each column

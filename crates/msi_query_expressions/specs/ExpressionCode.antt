@@ -4,8 +4,8 @@ use Rattle.std.proofs.Common.{◌∙◌, ap}
 use Rattle.std.specs.Coded.{Coded, code_by}
 use Rattle.msi_table_values.specs.declared.value.Value.{Value}
 use Rattle.msi_table_values.specs.declared.value.Value.TheVariants as values
-use Rattle.msi_query_operators.specs.declared.operators.UnaryOp.{UnaryOp}
-use Rattle.msi_query_operators.specs.declared.operators.BinaryOp.{BinaryOp}
+use Rattle.msi_query_expressions.specs.declared.operators.UnaryOp.{UnaryOp}
+use Rattle.msi_query_expressions.specs.declared.operators.BinaryOp.{BinaryOp}
 use Rattle.msi_query_expressions.specs.Expressions.{Expression, literal, column, unary, binary, both, either}
 
 pub data Symbol : Type 0 where

@@ -1,8 +1,8 @@
 -- Expressions as values.
 use Rattle.std.specs.Prelude.{ℕ, List, [], ◌∷◌, ◌++◌}
 use Rattle.msi_table_values.specs.declared.value.Value.{Value}
-use Rattle.msi_query_operators.specs.declared.operators.UnaryOp.{UnaryOp}
-use Rattle.msi_query_operators.specs.declared.operators.BinaryOp.{BinaryOp}
+use Rattle.msi_query_expressions.specs.declared.operators.UnaryOp.{UnaryOp}
+use Rattle.msi_query_expressions.specs.declared.operators.BinaryOp.{BinaryOp}
 
 pub data Expression : Type 0 where
   literal : Value → Expression

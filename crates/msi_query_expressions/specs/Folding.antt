@@ -2,10 +2,10 @@
 use Rattle.std.specs.Prelude.{◌≡◌, ℕ, Bool, true, false, not, List, ◌&&◌, IsTrue}
 use Rattle.msi_table_values.specs.declared.value.Value.{Value}
 use Rattle.msi_table_values.specs.declared.value.Value.TheVariants.{Null, Int, Str, Binary}
-use Rattle.msi_query_operators.specs.declared.operators.UnaryOp.{UnaryOp}
-use Rattle.msi_query_operators.specs.declared.operators.BinaryOp.{BinaryOp}
+use Rattle.msi_query_expressions.specs.declared.operators.UnaryOp.{UnaryOp}
+use Rattle.msi_query_expressions.specs.declared.operators.BinaryOp.{BinaryOp}
 use Rattle.msi_query_expressions.specs.Expressions.{Expression, literal, column, unary, binary, both, either}
-use Rattle.msi_query_operators.specs.OperatorValues.{is_i32, unary_value, binary_value}
+use Rattle.msi_query_expressions.specs.OperatorValues.{is_i32, unary_value, binary_value}
 use Rattle.msi_query_expressions.specs.Evaluation.{value_of}
 
 -- literals under unary and binary operators fold

@@ -1,4 +1,8 @@
 -- The words of this crate.
+pub mod OperatorValues
+pub mod OperatorTexts
+pub mod Operands
+pub mod Joins
 pub mod Expressions
 pub mod ExpressionCode
 pub mod Evaluation
@@ -12,8 +16,5 @@ pub mod Printing
 pub mod Vocabulary
 pub mod Utf8Expressions
 pub mod Assignments
--- The words of the crate below, which public clauses cite.
-pub use Rattle.msi_query_operators.specs.declared.operators.UnaryOp
-pub use Rattle.msi_query_operators.specs.declared.operators.BinaryOp
-pub use Rattle.msi_query_operators.specs.OperatorValues
-pub use Rattle.msi_query_operators.specs.OperatorTexts
+pub use Rattle.msi_query_expressions.specs.declared.operators.UnaryOp
+pub use Rattle.msi_query_expressions.specs.declared.operators.BinaryOp

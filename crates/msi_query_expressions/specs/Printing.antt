@@ -3,7 +3,7 @@ use Rattle.std.specs.Prelude.{ℕ, List, Option, Some, nat_lt, if◌then◌else�
 use Rattle.std.specs.Fmt.{◌++?◌}
 use Rattle.msi_table_values.specs.Values.{value_text}
 use Rattle.msi_query_tokens.specs.Names.{name_text}
-use Rattle.msi_query_operators.specs.OperatorTexts.{op_level, op_text, right_level, unary_text}
+use Rattle.msi_query_expressions.specs.OperatorTexts.{op_level, op_text, right_level, unary_text}
 use Rattle.msi_query_expressions.specs.Expressions.{Expression, literal, column, unary, binary, both, either}
 
 abbrev pub level : Expression → ℕ

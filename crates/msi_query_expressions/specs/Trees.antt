@@ -4,8 +4,8 @@ use Rattle.msi_table_values.specs.declared.value.Value.{Value}
 use Rattle.msi_table_values.specs.Values.{is_true}
 use Rattle.msi_query_expressions.specs.declared.expr.Tree.{Tree, Literal, Column, Unary', Binary', And', Or'}
 use Rattle.msi_query_expressions.specs.Expressions.{Expression, literal, column, unary, binary, both, either}
-use Rattle.msi_query_operators.specs.OperatorValues.{truth, unary_value, binary_value}
-use Rattle.msi_query_operators.specs.OperatorValues.{is_sum}
+use Rattle.msi_query_expressions.specs.OperatorValues.{truth, unary_value, binary_value}
+use Rattle.msi_query_expressions.specs.OperatorValues.{is_sum}
 
 -- the expression of a tree in which columns stand as their names
 abbrev pub expression_of : Tree (List ℕ) → Expression

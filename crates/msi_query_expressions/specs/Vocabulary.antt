@@ -1,6 +1,6 @@
 -- No two expressions print alike, where literal texts are ASCII.
 use Rattle.std.specs.Prelude.{◌≡◌, Bool, true, ◌&&◌, IsTrue}
-use Rattle.msi_text_base.specs.Pages.{is_ascii}
+use Rattle.msi_base.specs.Pages.{is_ascii}
 use Rattle.msi_table_values.specs.declared.value.Value.{Value}
 use Rattle.msi_table_values.specs.declared.value.Value.TheVariants.{Str}
 use Rattle.msi_query_expressions.specs.Expressions.{Expression, literal, column, unary, binary, both, either}

@@ -3,9 +3,9 @@
 ghost use Rattle.std.specs.Prelude.{◌≡◌};
 ghost use Rattle.msi_query_expressions.specs.Assignments.{set_text};
 
+use msi_base::text::Text;
 use msi_query_tokens::names::write_name;
 use msi_table_values::value::Value;
-use msi_text_base::text::Text;
 use std::fmt;
 use std::marker::Model;
 

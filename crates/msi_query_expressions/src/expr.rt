@@ -1,13 +1,13 @@
 //! Expressions on rows: how they are built, their values, and which columns they name.
 
 ghost use Rattle.std.specs.Prelude.{◌≡◌, ◌||◌, IfOk, IfErr, IsErr, IsTrue, ◌↔◌, Contains, ℕ, List};
-ghost use Rattle.msi_text_base.specs.declared.errors.ErrorKind.TheVariants.{OutOfMemory};
+ghost use Rattle.msi_base.specs.declared.errors.ErrorKind.TheVariants.{OutOfMemory};
 ghost use Rattle.msi_table_values.specs.declared.value.Value.TheVariants.{Null, Int, Str};
 ghost use Rattle.msi_query_expressions.specs.Expressions.{literal, column, both, either, names_in};
 ghost use Rattle.msi_table_values.specs.Values.{is_text};
 ghost use Rattle.msi_query_expressions.specs.Conditions.{has_sum};
 ghost use Rattle.msi_query_expressions.specs.Equated.{equated as equated_in};
-ghost use Rattle.msi_query_operators.specs.OperatorValues.{truth};
+ghost use Rattle.msi_query_expressions.specs.OperatorValues.{truth};
 ghost use Rattle.msi_query_expressions.specs.Evaluation.{knows_names as knows_each, value_of, value_at};
 ghost use Rattle.msi_query_expressions.specs.Evaluation.{HasColumnsOf};
 ghost use Rattle.msi_query_expressions.specs.Folding.{folded_unary, folded_binary};
@@ -22,15 +22,15 @@ mod names;
 mod printing;
 mod texts;
 
+pub use crate::operators::{BinaryOp, UnaryOp};
 use equated::equated_places;
 use evaluation::operand_of;
 use folding::{fold_binary, fold_unary};
-pub use msi_query_operators::operators::{BinaryOp, UnaryOp};
-use msi_table_rows::row::Row;
+use msi_base::errors::Error;
+use msi_base::text::{IntoText, Text};
 use msi_table_values::column::Column;
+use msi_table_values::row::Row;
 use msi_table_values::value::Value;
-use msi_text_base::errors::Error;
-use msi_text_base::text::{IntoText, Text};
 use names::{collect_names, knows_names};
 use std::alloc::Global;
 use std::collections::HashSet;

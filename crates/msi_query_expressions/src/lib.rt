@@ -3,7 +3,14 @@
 
 mod assignment;
 pub mod expr;
+pub mod joins;
 pub mod laws;
+mod operands;
+pub mod operators;
 pub mod parts;
+mod printing;
+mod results;
 
 pub use expr::Expr;
+pub use joins::JoinKind;
+pub use operators::{BinaryOp, UnaryOp};

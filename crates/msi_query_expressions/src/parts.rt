@@ -8,6 +8,9 @@ ghost use Rattle.msi_query_expressions.specs.Evaluation.{knows_names as knows_ea
 pub use crate::assignment::Assignment;
 use crate::expr::Expr;
 pub use crate::expr::filter::RowFilter;
+pub use crate::operands::Operand;
+pub use crate::printing::{operator_level, operator_text, prefix_text, right_operand_level};
+pub use crate::results::{binary_value, unary_value};
 use msi_table_values::column::Column;
 
 /// Returns whether each name in a condition is that of a column. It takes no memory.

@@ -1,8 +1,8 @@
 -- Worked rows of texts, by computation: their symbols, what they spell, and where they are refused.
 use Rattle.std.proofs.Common.{◌≡◌, true, false, [], ◌∷◌, Err, refl, codes, map, pos}
 use Rattle.msi_table_values.specs.declared.value.Value.TheVariants.{Int}
-use Rattle.msi_query_operators.specs.declared.operators.UnaryOp.TheVariants as one
-use Rattle.msi_query_operators.specs.declared.operators.BinaryOp.TheVariants as two
+use Rattle.msi_query_expressions.specs.declared.operators.UnaryOp.TheVariants as one
+use Rattle.msi_query_expressions.specs.declared.operators.BinaryOp.TheVariants as two
 use Rattle.msi_query_expressions.specs.Expressions.{column, binary}
 use Rattle.msi_query_tokens.specs.declared.token.Kind.TheVariants as k
 use Rattle.msi_query_tokens.specs.declared.refusal.Expected.TheVariants as expected

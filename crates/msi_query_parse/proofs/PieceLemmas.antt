@@ -1,12 +1,12 @@
 -- The marks and key words that printing writes, with the blanks beside them.
 use Rattle.std.proofs.Common.{ℕ, List, [], ◌∷◌, ◌++◌, codes, refl, sym, subst}
-use Rattle.msi_query_operators.specs.declared.operators.UnaryOp.{UnaryOp}
-use Rattle.msi_query_operators.specs.declared.operators.UnaryOp.TheVariants as one
-use Rattle.msi_query_operators.specs.declared.operators.BinaryOp.{BinaryOp}
-use Rattle.msi_query_operators.specs.declared.operators.BinaryOp.TheVariants as two
-use Rattle.msi_query_operators.specs.OperatorTexts.{op_text, unary_text}
-use Rattle.msi_query_operators.specs.declared.joins.JoinKind.{JoinKind}
-use Rattle.msi_query_operators.specs.declared.joins.JoinKind.TheVariants.{Inner, Left}
+use Rattle.msi_query_expressions.specs.declared.operators.UnaryOp.{UnaryOp}
+use Rattle.msi_query_expressions.specs.declared.operators.UnaryOp.TheVariants as one
+use Rattle.msi_query_expressions.specs.declared.operators.BinaryOp.{BinaryOp}
+use Rattle.msi_query_expressions.specs.declared.operators.BinaryOp.TheVariants as two
+use Rattle.msi_query_expressions.specs.OperatorTexts.{op_text, unary_text}
+use Rattle.msi_query_expressions.specs.declared.joins.JoinKind.{JoinKind}
+use Rattle.msi_query_expressions.specs.declared.joins.JoinKind.TheVariants.{Inner, Left}
 use Rattle.msi_query.specs.QueryTexts.{join_word}
 use Rattle.msi_query_tokens.specs.declared.token.Kind.{Kind}
 use Rattle.msi_query_tokens.specs.declared.token.Kind.TheVariants as k

@@ -8,10 +8,10 @@ use Rattle.std.proofs.lemmas.Bool.{and_parts, and_from, leb-true, le-leb, not-tr
 use Rattle.msi_table_values.specs.declared.value.Value.{Value}
 use Rattle.msi_table_values.specs.declared.value.Value.TheVariants as v
 use Rattle.msi_table_values.specs.Values.{value_text}
-use Rattle.msi_query_operators.specs.declared.operators.UnaryOp.{UnaryOp}
-use Rattle.msi_query_operators.specs.declared.operators.BinaryOp.{BinaryOp}
-use Rattle.msi_query_operators.specs.declared.operators.BinaryOp.TheVariants as two
-use Rattle.msi_query_operators.specs.OperatorTexts.{op_level, op_text, unary_text}
+use Rattle.msi_query_expressions.specs.declared.operators.UnaryOp.{UnaryOp}
+use Rattle.msi_query_expressions.specs.declared.operators.BinaryOp.{BinaryOp}
+use Rattle.msi_query_expressions.specs.declared.operators.BinaryOp.TheVariants as two
+use Rattle.msi_query_expressions.specs.OperatorTexts.{op_level, op_text, unary_text}
 use Rattle.msi_query_expressions.specs.Expressions.{Expression, literal, column, unary, binary, both, either, names_in}
 use Rattle.msi_query_expressions.specs.Folding.{folded_unary, folded_binary, fits_literal, is_built, is_folded, is_literal, literals_fit}
 use Rattle.msi_query_expressions.specs.Printing.{expression_text, level, bracketed}

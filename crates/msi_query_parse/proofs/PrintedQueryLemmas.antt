@@ -3,13 +3,13 @@ use Rattle.std.proofs.Common.{◌≡◌, ℕ, suc, Bool, true, false, not, cond,
 use Rattle.std.specs.List.{list_all, join_by}
 use Rattle.std.specs.Fmt.{◌++?◌}
 use Rattle.std.proofs.lemmas.Bool.{and_parts, and_from}
-use Rattle.msi_text_base.specs.Lists.{all_present}
+use Rattle.msi_base.specs.Lists.{all_present}
 use Rattle.msi_table_values.specs.declared.value.Value.{Value}
 use Rattle.msi_table_values.specs.Values.{value_text}
-use Rattle.msi_query_operators.specs.declared.operators.BinaryOp.TheVariants as two
+use Rattle.msi_query_expressions.specs.declared.operators.BinaryOp.TheVariants as two
 use Rattle.msi_query_expressions.specs.Expressions.{Expression}
 use Rattle.msi_query_expressions.specs.Printing.{expression_text}
-use Rattle.msi_query_operators.specs.declared.joins.JoinKind.{JoinKind}
+use Rattle.msi_query_expressions.specs.declared.joins.JoinKind.{JoinKind}
 use Rattle.msi_query.specs.Queries.{Clauses, Query, table, join, no_clauses, projected_query}
 use Rattle.msi_query_expressions.specs.Assignments.{set_text}
 use Rattle.msi_query.specs.QueryTexts.{listed, where_text, columns_text, select_text, join_word, bare_name, or_bracketed, side_text, query_text, row_text, rows_text, insert_text, sets_text, update_text, delete_text}

@@ -2,8 +2,8 @@
 use Rattle.std.proofs.Common.{◌≡◌, ℕ, zero, suc, ◌+◌, ◌-◌, ◌^◌, ◌==◌, ◌<◌, ◌≤◌, ◌⊎◌, inl, inr, max, min, true, false, ◌||◌, if◌then◌else◌, List, [], ◌∷◌, ◌++◌, map, length, Option, Some, None, option_map, Ok, Err, refl, sym, ◌∙◌, ap, arith}
 use Rattle.std.specs.List.{list_all}
 use Rattle.std.proofs.lemmas.Bool.{leb-true}
-use Rattle.msi_query_operators.specs.declared.joins.JoinKind.{JoinKind}
-use Rattle.msi_query_operators.specs.declared.joins.JoinKind.TheVariants.{Inner, Left}
+use Rattle.msi_query_expressions.specs.declared.joins.JoinKind.{JoinKind}
+use Rattle.msi_query_expressions.specs.declared.joins.JoinKind.TheVariants.{Inner, Left}
 use Rattle.msi_query.specs.Queries.{Query, table, join, no_clauses, narrowed_query, projected_query}
 use Rattle.msi_query_tokens.specs.declared.token.Kind.{Kind}
 use Rattle.msi_query_tokens.specs.declared.token.Kind.TheVariants as k

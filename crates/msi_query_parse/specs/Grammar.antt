@@ -4,12 +4,12 @@ use Rattle.std.specs.Prelude.{List, [], ◌∷◌, ◌++◌, map, Option, Some, 
 use Rattle.std.specs.List.{list_all}
 use Rattle.msi_table_values.specs.declared.value.Value.{Value}
 use Rattle.msi_table_values.specs.declared.value.Value.TheVariants as v
-use Rattle.msi_query_operators.specs.declared.operators.UnaryOp.{UnaryOp}
-use Rattle.msi_query_operators.specs.declared.operators.UnaryOp.TheVariants as one
+use Rattle.msi_query_expressions.specs.declared.operators.UnaryOp.{UnaryOp}
+use Rattle.msi_query_expressions.specs.declared.operators.UnaryOp.TheVariants as one
 use Rattle.msi_query_expressions.specs.Expressions.{Expression, literal, column}
 use Rattle.msi_query_expressions.specs.Folding.{folded_unary}
-use Rattle.msi_query_operators.specs.declared.joins.JoinKind.{JoinKind}
-use Rattle.msi_query_operators.specs.declared.joins.JoinKind.TheVariants.{Inner, Left}
+use Rattle.msi_query_expressions.specs.declared.joins.JoinKind.{JoinKind}
+use Rattle.msi_query_expressions.specs.declared.joins.JoinKind.TheVariants.{Inner, Left}
 use Rattle.msi_query.specs.Queries.{Query, table, join, no_clauses, narrowed_query, projected_query}
 use Rattle.msi_query.specs.Queries.{InsertQuery, UpdateQuery, DeleteQuery}
 use Rattle.msi_query_tokens.specs.declared.token.Kind.{Kind}

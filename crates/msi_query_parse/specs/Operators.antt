@@ -1,6 +1,6 @@
 -- Operators: how tightly they bind, as printing has it, and what they make.
 use Rattle.std.specs.Prelude.{ℕ}
-use Rattle.msi_query_operators.specs.declared.operators.BinaryOp.TheVariants as two
+use Rattle.msi_query_expressions.specs.declared.operators.BinaryOp.TheVariants as two
 use Rattle.msi_query_expressions.specs.Expressions.{Expression, both, either}
 use Rattle.msi_query_expressions.specs.Folding.{folded_binary}
 use Rattle.msi_query_tokens.specs.declared.token.Kind.{Kind}

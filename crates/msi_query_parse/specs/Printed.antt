@@ -3,9 +3,9 @@ use Rattle.std.specs.Prelude.{◌≡◌, ℕ, Bool, true, List, map, Option, Som
 use Rattle.std.specs.Prelude.{if◌then◌else◌, IsTrue}
 use Rattle.std.specs.List.{list_all}
 use Rattle.std.specs.Str.{is_utf8}
-use Rattle.msi_query_operators.specs.declared.operators.BinaryOp.{BinaryOp}
-use Rattle.msi_query_operators.specs.declared.operators.BinaryOp.TheVariants as two
-use Rattle.msi_query_operators.specs.OperatorTexts.{op_level, right_level}
+use Rattle.msi_query_expressions.specs.declared.operators.BinaryOp.{BinaryOp}
+use Rattle.msi_query_expressions.specs.declared.operators.BinaryOp.TheVariants as two
+use Rattle.msi_query_expressions.specs.OperatorTexts.{op_level, right_level}
 use Rattle.msi_query_expressions.specs.Expressions.{Expression, literal, column, unary, binary, both, either, names_in}
 use Rattle.msi_query_expressions.specs.Folding.{is_built}
 use Rattle.msi_query_expressions.specs.Printing.{level, expression_text}

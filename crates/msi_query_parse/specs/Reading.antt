@@ -3,10 +3,10 @@ use Rattle.std.specs.Prelude.{◌≡◌, ◌≢◌, ℕ, zero, suc, ◌+◌, Boo
 use Rattle.std.specs.Prelude.{List, [], ◌∷◌, ◌++◌, Option, Some, None, Result, Ok, Err, codes}
 use Rattle.msi_table_values.specs.declared.value.Value.{Value}
 use Rattle.msi_table_values.specs.declared.value.Value.TheVariants as v
-use Rattle.msi_query_operators.specs.declared.operators.UnaryOp.TheVariants as one
+use Rattle.msi_query_expressions.specs.declared.operators.UnaryOp.TheVariants as one
 use Rattle.msi_query_expressions.specs.Expressions.{Expression, literal, column as column_of}
 use Rattle.msi_query_expressions.specs.Folding.{folded_unary}
-use Rattle.msi_query_operators.specs.declared.joins.JoinKind.TheVariants.{Inner, Left}
+use Rattle.msi_query_expressions.specs.declared.joins.JoinKind.TheVariants.{Inner, Left}
 use Rattle.msi_query.specs.Queries.{Query, table, join, no_clauses, narrowed as narrowed_by, narrowed_query}
 use Rattle.msi_query.specs.Queries.{projected_query, InsertQuery, UpdateQuery, DeleteQuery}
 use Rattle.msi_query_tokens.specs.declared.token.Kind.{Kind}

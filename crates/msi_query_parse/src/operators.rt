@@ -3,9 +3,9 @@
 ghost use Rattle.std.specs.Prelude.{◌≡◌, ◌≤◌, IfOk};
 ghost use Rattle.msi_query_parse.specs.Operators as spec;
 
+use msi_base::errors::Error;
 use msi_query_expressions::expr::Expr;
 use msi_query_tokens::token::Kind;
-use msi_text_base::errors::Error;
 use std::alloc::Global;
 
 /// Returns how tightly an operator between two operands binds; 0 for all other tokens.

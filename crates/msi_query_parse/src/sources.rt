@@ -8,13 +8,13 @@ ghost use Rattle.msi_query_parse.specs.Nests.{NestsQueries};
 
 use crate::grammar::condition;
 use crate::names::{name, selected};
+use msi_base::errors::Error;
+use msi_base::text::Text;
 use msi_query::Select;
 use msi_query_expressions::expr::Expr;
 use msi_query_tokens::refusal::{Expected, ParseError};
 use msi_query_tokens::token::Kind;
 use msi_query_tokens::tokens::{MAX_HEIGHT, Tokens};
-use msi_text_base::errors::Error;
-use msi_text_base::text::Text;
 use std::alloc::Global;
 
 /// How to read a query one level below.

@@ -4,12 +4,12 @@ ghost use Rattle.std.specs.Prelude.{◌≡◌, ◌++◌, ◌∷◌, [], IfOk};
 ghost use Rattle.msi_query_tokens.specs.Input.{Reads};
 ghost use Rattle.msi_query_parse.specs.Reading as spec;
 
+use msi_base::text::Items;
 use msi_query_tokens::refusal::{Expected, ParseError};
 use msi_query_tokens::texts::{negative, positive, text};
 use msi_query_tokens::token::Kind;
 use msi_query_tokens::tokens::Tokens;
 use msi_table_values::value::Value;
-use msi_text_base::text::Items;
 use std::alloc::{AllocError, Global};
 
 #[tactic(auto, unfolding(crate::specs::Reading::negative_value))]

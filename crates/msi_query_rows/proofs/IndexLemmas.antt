@@ -10,10 +10,10 @@ use Rattle.std.proofs.lemmas.List.{append-nil, length-map, map-append, take_more
 use Rattle.std.proofs.lemmas.List.Concat.{flat_map-append}
 use Rattle.std.proofs.lemmas.List.Sorted.{IsNonDecreasingBy-drop, ranks_by, searchable_from_sorted}
 use Rattle.std.proofs.lemmas.Bool.{and_parts}
-use Rattle.msi_text_base.specs.Lists.{placed, stable_sort}
-use Rattle.msi_text_base.proofs.BoolLemmas.{by_test}
-use Rattle.msi_text_base.proofs.ListLemmas.{filter_yes, filter_no, filter_same}
-use Rattle.msi_text_pool_base.specs.Pool.{Place}
+use Rattle.msi_base.specs.Lists.{placed, stable_sort}
+use Rattle.msi_base.proofs.BoolLemmas.{by_test}
+use Rattle.msi_base.proofs.ListLemmas.{filter_yes, filter_no, filter_same}
+use Rattle.msi_pool_places.specs.Pool.{Place}
 use Rattle.msi_table_cells.specs.declared.cell.ValueRef.{ValueRef}
 use Rattle.msi_table_values.specs.declared.value.Value.{Value}
 use Rattle.msi_table_cells.specs.CellValues.{value_of_cell, row_values}
@@ -21,7 +21,7 @@ use Rattle.msi_table_values.specs.Columns.{ColumnDef}
 use Rattle.msi_table_values.specs.Values.{value_cmp}
 use Rattle.msi_table_values.specs.OrderLaws.{value_cmp-total, value_eq-Decides}
 use Rattle.msi_table_cells.proofs.StableSortLemmas.{only_stable_sort}
-use Rattle.msi_query_operators.specs.declared.joins.JoinKind.{JoinKind}
+use Rattle.msi_query_expressions.specs.declared.joins.JoinKind.{JoinKind}
 use Rattle.msi_query_expressions.specs.Conditions.{RowFilterDef, meets, value_at_place}
 use Rattle.msi_query_expressions.specs.Equated.{PassesWithEqual}
 use Rattle.msi_query_expressions.specs.Expressions.{Expression}

@@ -2,21 +2,21 @@
 use Rattle.std.proofs.Common.{◌≡◌, ℕ, List, [], Option, Some, Bool, true, false, not, ap, sym, ◌∙◌, inr, length}
 use Rattle.std.specs.Prelude.{Result, Ok, Err, IfOk}
 use Rattle.std.specs.List.{flat_map}
-use Rattle.msi_text_base.specs.declared.errors.ErrorKind.{ErrorKind}
-use Rattle.msi_text_base.specs.declared.errors.ErrorKind.TheVariants.{InvalidInput}
-use Rattle.msi_text_pool_base.specs.Pool.{Place}
+use Rattle.msi_base.specs.declared.errors.ErrorKind.{ErrorKind}
+use Rattle.msi_base.specs.declared.errors.ErrorKind.TheVariants.{InvalidInput}
+use Rattle.msi_pool_places.specs.Pool.{Place}
 use Rattle.msi_table_values.specs.declared.value.Value.{Value}
 use Rattle.msi_table_cells.specs.declared.cell.ValueRef.{ValueRef}
 use Rattle.msi_table_values.specs.Columns.{ColumnDef}
-use Rattle.msi_query_operators.specs.declared.joins.JoinKind.{JoinKind}
+use Rattle.msi_query_expressions.specs.declared.joins.JoinKind.{JoinKind}
 use Rattle.msi_query_expressions.specs.Expressions.{Expression, names_in}
 use Rattle.msi_query_expressions.specs.Conditions.{RowFilterDef, meets}
 use Rattle.msi_query.specs.Queries.{Clauses, Query, table, join}
-use Rattle.msi_text_base.specs.Refusals.{IsRefusal, unless_refused, ◌>>=◌}
+use Rattle.msi_base.specs.Refusals.{IsRefusal, unless_refused, ◌>>=◌}
 use Rattle.msi_table_cells.specs.TableCells.{TableCells}
 use Rattle.msi_query.specs.Rows.{RelationCells, relation_values, rows_values, tables_values, whole_table}
 use Rattle.msi_query.specs.Selection.{Relation, TableValues, narrowed, relation_of, clause_refusals, joined, has_columns, joined_columns, joined_narrowed, rows_of_row, selected}
-use Rattle.msi_text_base.proofs.RefusalLemmas.{first_holds, first_passes, refusals-Err, refusals-Ok}
+use Rattle.msi_base.proofs.RefusalLemmas.{first_holds, first_passes, refusals-Err, refusals-Ok}
 use Rattle.msi_query_rows.proofs.WholeTableLemmas.{table_goes_on}
 
 -- a join whose condition names a column that isn't there

@@ -1,18 +1,18 @@
 -- Why queries for rows fail, step by step.
 use Rattle.std.proofs.Common.{◌≡◌, ℕ, List, Option, ap, sym, ◌∙◌, inl, inr, refl}
 use Rattle.std.specs.Prelude.{Result, Ok, Err, IfErr, IfOk, IsErrAnd}
-use Rattle.msi_text_base.specs.declared.errors.ErrorKind.{ErrorKind}
-use Rattle.msi_text_base.specs.declared.errors.ErrorKind.TheVariants.{OutOfMemory}
-use Rattle.msi_text_pool_base.specs.Pool.{Place}
+use Rattle.msi_base.specs.declared.errors.ErrorKind.{ErrorKind}
+use Rattle.msi_base.specs.declared.errors.ErrorKind.TheVariants.{OutOfMemory}
+use Rattle.msi_pool_places.specs.Pool.{Place}
 use Rattle.msi_table_values.specs.Columns.{ColumnDef}
-use Rattle.msi_query_operators.specs.declared.joins.JoinKind.{JoinKind}
+use Rattle.msi_query_expressions.specs.declared.joins.JoinKind.{JoinKind}
 use Rattle.msi_query_expressions.specs.Expressions.{Expression}
 use Rattle.msi_query.specs.Queries.{Clauses, Query, table, join}
-use Rattle.msi_text_base.specs.Refusals.{IsRefusal, unless_refused, ◌>>=◌}
+use Rattle.msi_base.specs.Refusals.{IsRefusal, unless_refused, ◌>>=◌}
 use Rattle.msi_table_cells.specs.TableCells.{TableCells}
 use Rattle.msi_query.specs.Rows.{RelationCells, relation_values, tables_values, whole_table}
 use Rattle.msi_query.specs.Selection.{Relation, TableValues, narrowed, relation_of, clause_refusals, joined_narrowed, selected}
-use Rattle.msi_text_base.proofs.RefusalLemmas.{refusals-Err, refusals-Ok}
+use Rattle.msi_base.proofs.RefusalLemmas.{refusals-Err, refusals-Ok}
 use Rattle.msi_query_rows.proofs.WholeTableLemmas.{table_goes_on}
 
 -- an error that is passed on: there is no value, and refused memory stays that

@@ -3,22 +3,22 @@
 ghost use Rattle.std.specs.Prelude.{◌≡◌, ◌++◌, ◌∷◌, ◌==◌, map, IfOk, OnOk, if◌then◌else◌, length, List, option_copied};
 ghost use Rattle.std.specs.Prelude.{string_bytes};
 ghost use Rattle.std.specs.List.{filter_map};
-ghost use Rattle.msi_text_pool_base.specs.Pool.{Place};
-ghost use Rattle.msi_text_base.specs.Results.{OnlyMemory};
+ghost use Rattle.msi_pool_places.specs.Pool.{Place};
+ghost use Rattle.msi_base.specs.Results.{OnlyMemory};
 ghost use Rattle.msi_table_values.specs.Columns.{column_index as index_of};
 ghost use Rattle.msi_query.specs.Rows.{column_at as column_there, relation_values};
 ghost use Rattle.msi_query.specs.Selection.{condition_names, has_columns as has_each};
 ghost use Rattle.msi_query.specs.Selection.{joined_columns as joined_by, nullable_if, prefixed as prefixed_by};
 
 use crate::relation::Relation;
+use msi_base::errors::Error;
+use msi_base::text::{Items, Text};
 use msi_query::query::JoinKind;
 use msi_query_expressions::expr::Expr;
+use msi_query_expressions::joins::is_left;
 use msi_query_expressions::parts::knows_names;
-use msi_query_operators::joins::is_left;
 use msi_table_values::column::Column;
 use msi_table_values::parts::{column_index, has_column, nullable, renamed};
-use msi_text_base::errors::Error;
-use msi_text_base::text::{Items, Text};
 use std::alloc::Global;
 
 pub(crate) fn has_columns(columns: &[Column], names: &[Text]) -> bool

@@ -1,8 +1,8 @@
 //! Rows in the order of their values in a column, so that those with a value are found by halving.
 
 ghost use Rattle.std.specs.Prelude.{◌≡◌, List, Some, IfSome, OnOk, filter};
-ghost use Rattle.msi_text_pool_base.specs.Pool.{Place};
-ghost use Rattle.msi_text_base.specs.Results.{OnlyMemory};
+ghost use Rattle.msi_pool_places.specs.Pool.{Place};
+ghost use Rattle.msi_base.specs.Results.{OnlyMemory};
 ghost use Rattle.msi_table_cells.specs.CellValues.{value_of_cell};
 ghost use Rattle.msi_table_cells.specs.declared.cell.ValueRef.{ValueRef as Cell};
 ghost use Rattle.msi_table_values.specs.Values.{value_cmp};
@@ -10,15 +10,15 @@ ghost use Rattle.msi_query_expressions.specs.Conditions.{meets};
 ghost use Rattle.msi_query_rows.specs.Index.{PassWithEqual, has_value, has_width as have_width, in_place_order};
 ghost use Rattle.msi_query_rows.specs.Index.{place_cmp, places_asked as asked, value_there};
 
+use msi_base::errors::Error;
+use msi_base::text::Items;
+use msi_pool::stringpool::StringPool;
 use msi_query_expressions::expr::Expr;
 use msi_query_expressions::parts::equated_places;
 use msi_table::parts::cell_of;
 use msi_table_cells::cell::ValueRef;
 use msi_table_cells::parts::compare_values;
 use msi_table_values::column::Column;
-use msi_text_base::errors::Error;
-use msi_text_base::text::Items;
-use msi_text_pool::stringpool::StringPool;
 use std::cmp::Ordering;
 
 fn has_width(width: usize, rows: &[Items<ValueRef>]) -> bool

@@ -2,7 +2,7 @@
 
 ghost use Rattle.std.specs.Prelude.{◌≡◌, IfOk, Some, length};
 ghost use Rattle.std.specs.List.{flat_map};
-ghost use Rattle.msi_text_base.specs.Results.{OnlyMemory};
+ghost use Rattle.msi_base.specs.Results.{OnlyMemory};
 ghost use Rattle.msi_query_expressions.specs.Conditions.{meets};
 ghost use Rattle.msi_query_rows.specs.Index.{PassWithEqual};
 ghost use Rattle.msi_query.specs.Rows.{rows_values};
@@ -11,15 +11,15 @@ ghost use Rattle.msi_query.specs.Selection.{rows_of_row};
 use crate::index::{places_asked, rows_with, sort_by_place};
 use crate::joins::{Join, add_row};
 use crate::relation::Relation;
+use msi_base::errors::Error;
+use msi_base::text::Items;
+use msi_pool::stringpool::StringPool;
 use msi_query::query::JoinKind;
 use msi_query_expressions::expr::Expr;
 use msi_query_expressions::parts::RowFilter;
 use msi_table::parts::cell_of;
 use msi_table_cells::cell::ValueRef;
 use msi_table_values::column::Column;
-use msi_text_base::errors::Error;
-use msi_text_base::text::Items;
-use msi_text_pool::stringpool::StringPool;
 use std::alloc::Global;
 
 fn rows_by_scan(

@@ -1,20 +1,20 @@
 //! What a join gives of a row.
 
 ghost use Rattle.std.specs.Prelude.{◌≡◌, ◌++◌, OnOk};
-ghost use Rattle.msi_text_base.specs.Results.{OnlyMemory};
+ghost use Rattle.msi_base.specs.Results.{OnlyMemory};
 ghost use Rattle.msi_table_cells.specs.CellValues.{row_values};
 ghost use Rattle.msi_query_expressions.specs.Conditions.{meets};
 ghost use Rattle.msi_query.specs.Rows.{rows_values};
 ghost use Rattle.msi_query.specs.Selection.{pairs_of, rows_of_row};
 
 use crate::rows::{pair, with_nulls};
+use msi_base::errors::Error;
+use msi_base::text::Items;
+use msi_pool::stringpool::StringPool;
 use msi_query::query::JoinKind;
+use msi_query_expressions::joins::keeps_alone;
 use msi_query_expressions::parts::RowFilter;
-use msi_query_operators::joins::keeps_alone;
 use msi_table_cells::cell::ValueRef;
-use msi_text_base::errors::Error;
-use msi_text_base::text::Items;
-use msi_text_pool::stringpool::StringPool;
 use std::alloc::Global;
 
 /// A join: its kind, its condition on pairs, and how many columns its right side has.

@@ -1,9 +1,9 @@
 //! Selection and projection.
 
 ghost use Rattle.std.specs.Prelude.{◌≡◌, map, filter, IfOk, IfErr, Ok, option_copied};
-ghost use Rattle.msi_text_base.specs.Results.{OnlyMemory};
+ghost use Rattle.msi_base.specs.Results.{OnlyMemory};
 ghost use Rattle.msi_query_expressions.specs.Conditions.{meets};
-ghost use Rattle.msi_text_base.specs.Refusals.{IsRefusal, unless_refused};
+ghost use Rattle.msi_base.specs.Refusals.{IsRefusal, unless_refused};
 ghost use Rattle.msi_table.specs.Rows.{cells_at};
 ghost use Rattle.msi_query.specs.Rows.{projected_cells, relation_values, rows_values};
 ghost use Rattle.msi_query.specs.Selection.{clause_refusals, narrowed as narrowed_by, selected as selected_by};
@@ -11,15 +11,15 @@ ghost use Rattle.msi_query.specs.Selection.{clause_refusals, narrowed as narrowe
 use crate::columns::{columns_of, has_columns, knows_condition, places_of};
 use crate::reasons;
 use crate::relation::Relation;
+use msi_base::errors::{Error, ErrorKind};
+use msi_base::text::{Items, Text};
+use msi_pool::stringpool::StringPool;
 use msi_query::parts::Clauses;
 use msi_query_expressions::expr::Expr;
 use msi_query_expressions::parts::RowFilter;
 use msi_table::parts::projected_row;
 use msi_table_cells::cell::ValueRef;
 use msi_table_values::column::Column;
-use msi_text_base::errors::{Error, ErrorKind};
-use msi_text_base::text::{Items, Text};
-use msi_text_pool::stringpool::StringPool;
 use std::alloc::Global;
 
 fn filtered(

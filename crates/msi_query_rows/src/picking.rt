@@ -1,8 +1,8 @@
 //! What a query for one table picks of its rows, which stay in the table's stream.
 
 ghost use Rattle.std.specs.Prelude.{◌≡◌, ℕ, IfErr, IfOk, List, Some, filter, length, option_copied};
-ghost use Rattle.msi_text_base.specs.Refusals.{IsRefusal};
-ghost use Rattle.msi_text_base.specs.Results.{OnlyMemory};
+ghost use Rattle.msi_base.specs.Refusals.{IsRefusal};
+ghost use Rattle.msi_base.specs.Results.{OnlyMemory};
 ghost use Rattle.msi_table.specs.Rows.{AreRowNumbers, rows_numbered};
 ghost use Rattle.msi_query_expressions.specs.Conditions.{meets};
 ghost use Rattle.msi_query.specs.Rows.{rows_values};
@@ -12,6 +12,9 @@ ghost use Rattle.msi_query.specs.Selected.{Selects};
 
 use crate::columns::{columns_of, places_of};
 use crate::narrowing::refuse_unknown;
+use msi_base::errors::Error;
+use msi_base::text::{Items, Text};
+use msi_pool::stringpool::StringPool;
 use msi_query::parts::Clauses;
 use msi_query_expressions::expr::Expr;
 use msi_query_expressions::parts::RowFilter;
@@ -19,9 +22,6 @@ use msi_table::parts::{PickedRows, StoredRows, rows_of_picked};
 use msi_table::row::Rows;
 use msi_table_values::column::Column;
 use msi_table_values::parts::copied_columns;
-use msi_text_base::errors::Error;
-use msi_text_base::text::{Items, Text};
-use msi_text_pool::stringpool::StringPool;
 use std::alloc::Global;
 
 /// Decodes one row at a time.

@@ -1,6 +1,6 @@
 //! Why a query for rows is refused: a sentence for each rule.
 
-use msi_text_base::errors::Reason;
+use msi_base::errors::Reason;
 
 pub(crate) const JOIN_COLUMN: Reason = Reason(
     "the condition of a join names a column that isn't there",

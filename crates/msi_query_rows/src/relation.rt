@@ -1,16 +1,16 @@
 //! The result of a query: a relation.
 
 ghost use Rattle.std.specs.Prelude.{◌≡◌, IfOk};
-ghost use Rattle.msi_text_base.specs.Results.{OnlyMemory};
+ghost use Rattle.msi_base.specs.Results.{OnlyMemory};
 ghost use Rattle.msi_table.specs.Rows.{AreAsWide};
 
+use msi_base::errors::Error;
+use msi_base::text::{Items, Text};
+use msi_pool::stringpool::StringPool;
 use msi_table::parts;
 use msi_table::row::Rows;
 use msi_table_cells::cell::ValueRef;
 use msi_table_values::column::Column;
-use msi_text_base::errors::Error;
-use msi_text_base::text::{Items, Text};
-use msi_text_pool::stringpool::StringPool;
 use std::alloc::Global;
 use std::marker::Model;
 

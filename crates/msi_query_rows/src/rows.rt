@@ -1,12 +1,12 @@
 //! Rows of cells.
 
 ghost use Rattle.std.specs.Prelude.{◌≡◌, ◌++◌, IfOk, replicate};
-ghost use Rattle.msi_text_base.specs.Results.{OnlyMemory};
+ghost use Rattle.msi_base.specs.Results.{OnlyMemory};
 ghost use Rattle.msi_table_cells.specs.declared.cell.ValueRef.TheVariants as cell;
 
+use msi_base::errors::Error;
+use msi_base::text::Items;
 use msi_table_cells::cell::ValueRef;
-use msi_text_base::errors::Error;
-use msi_text_base::text::Items;
 use std::alloc::Global;
 
 pub(crate) fn pair(

@@ -3,7 +3,7 @@
 ghost use Rattle.std.specs.Prelude.{◌≡◌, IfOk, IfErr, Ok};
 ghost use Rattle.msi_table.specs.Rows.{AreAsWide};
 ghost use Rattle.msi_query.specs.QueryTrees.{query_of};
-ghost use Rattle.msi_text_base.specs.Refusals.{AnswersWith, IsRefusal, unless};
+ghost use Rattle.msi_base.specs.Refusals.{AnswersWith, IsRefusal, unless};
 ghost use Rattle.msi_query.specs.Queries.{table};
 ghost use Rattle.msi_query.specs.Rows.{columns_read, relation_values, tables_values, whole_table};
 ghost use Rattle.msi_query.specs.Selection.{early_refusal, is_table as is_one_table, joined_narrowed};
@@ -16,6 +16,9 @@ use crate::narrowing::{narrowed, refuse_unknown, selected};
 use crate::picking::narrowed_rows;
 use crate::reasons;
 use crate::relation::Relation;
+use msi_base::errors::{Error, ErrorKind};
+use msi_base::text::{IntoText, Text};
+use msi_pool::stringpool::StringPool;
 use msi_query::parts::{Clauses, SelectTree, select_tree};
 use msi_query::query::{JoinKind, Select};
 use msi_query_expressions::expr::Expr;
@@ -24,9 +27,6 @@ use msi_table::parts::StoredRows;
 use msi_table::row::Rows;
 use msi_table_values::column::Column;
 use msi_table_values::parts::copied_columns;
-use msi_text_base::errors::{Error, ErrorKind};
-use msi_text_base::text::{IntoText, Text};
-use msi_text_pool::stringpool::StringPool;
 use std::alloc::Global;
 
 /// Provides tables by name.

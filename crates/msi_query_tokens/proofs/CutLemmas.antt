@@ -11,7 +11,7 @@ use Rattle.std.proofs.lemmas.Fmt.{decimal_by_steps}
 use Rattle.std.proofs.lemmas.Str.{is_utf8-from_IsUtf8, IsUtf8-from_ascii}
 use Rattle.std.proofs.lemmas.Bool.{and_parts, and_from, or_parts, ltb-true, not-true, cond-true, cond-false}
 use Rattle.std.proofs.lemmas.Bool.Decides.{nat_tests}
-use Rattle.msi_text_categories.specs.CategoryRules.{starts_name, continues_name, is_identifier}
+use Rattle.msi_categories.specs.CategoryRules.{starts_name, continues_name, is_identifier}
 use Rattle.msi_query_tokens.specs.declared.lex.Class.TheVariants as class
 use Rattle.msi_query_tokens.specs.declared.texts.Mode.{Mode}
 use Rattle.msi_query_tokens.specs.declared.texts.Mode.TheVariants as mode

@@ -14,7 +14,7 @@ use Rattle.std.proofs.lemmas.Bool.{and_parts}
 use Rattle.msi_query_tokens.specs.declared.token.Kind.TheVariants as k
 use Rattle.msi_query_tokens.specs.Names.{is_plain_name, doubled, name_text}
 use Rattle.msi_query_tokens.specs.Tokens.{token, same_kind, kind_of_word, closing, closed}
-use Rattle.msi_text_categories.specs.CategoryRules.{is_identifier}
+use Rattle.msi_categories.specs.CategoryRules.{is_identifier}
 use Rattle.msi_query_tokens.specs.Texts.{undoubled}
 use Rattle.msi_query_tokens.specs.Symbols.{named, symbol_of, with_bytes, checked_bytes}
 use Rattle.msi_query_tokens.proofs.CutLemmas.{Over, over_one, no_blank, is_apart, no_quote, inside_of, name_over}

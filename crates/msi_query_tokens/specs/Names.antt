@@ -1,6 +1,6 @@
 -- How names print.
 use Rattle.std.specs.Prelude.{ℕ, Bool, ◌&&◌, if◌then◌else◌, ◌==◌, List, [], ◌∷◌, ◌++◌, flat_map}
-use Rattle.msi_text_categories.specs.CategoryRules.{is_identifier}
+use Rattle.msi_categories.specs.CategoryRules.{is_identifier}
 use Rattle.msi_query_tokens.specs.declared.token.Kind.TheVariants as k
 use Rattle.msi_query_tokens.specs.Tokens.{kind_of_word, same_kind}
 

@@ -1,6 +1,6 @@
 -- Refusals as errors of the library.
-use Rattle.msi_text_base.specs.declared.errors.ErrorKind.{ErrorKind}
-use Rattle.msi_text_base.specs.declared.errors.ErrorKind.TheVariants as kinds
+use Rattle.msi_base.specs.declared.errors.ErrorKind.{ErrorKind}
+use Rattle.msi_base.specs.declared.errors.ErrorKind.TheVariants as kinds
 use Rattle.msi_query_tokens.specs.declared.refusal.ParseError.{ParseError}
 use Rattle.msi_query_tokens.specs.declared.refusal.ParseError.TheVariants.{OutOfMemory, Refused}
 

@@ -6,7 +6,7 @@ ghost use Rattle.msi_query_tokens.specs.Names.{doubled, is_plain_name, name_text
 
 use crate::lex::{kind_of_word, same_kind};
 use crate::token::Kind;
-use msi_text_categories::category::Category;
+use msi_categories::category::Category;
 use std::fmt;
 
 /// Whether a name is read as a name when it is written as it is.

@@ -1,11 +1,11 @@
 //! Why a text is refused, and where.
 
 ghost use Rattle.std.specs.Prelude.{◌≡◌};
-ghost use Rattle.msi_text_base.specs.declared.errors.ErrorKind.TheVariants as kinds;
+ghost use Rattle.msi_base.specs.declared.errors.ErrorKind.TheVariants as kinds;
 ghost use Rattle.msi_query_tokens.specs.Refusals.{error_kind_of};
 
-use msi_text_base::errors::{Error, ErrorKind, Reason};
-use msi_text_base::reasons;
+use msi_base::errors::{Error, ErrorKind, Reason};
+use msi_base::reasons;
 use std::alloc::{AllocError, AllocFailed};
 use std::fmt;
 

@@ -8,7 +8,7 @@ ghost use Rattle.msi_query_tokens.specs.Texts as spec;
 use crate::refusal::{Expected, ParseError};
 use crate::token::Kind;
 use crate::tokens::Tokens;
-use msi_text_base::text::Text;
+use msi_base::text::Text;
 use std::alloc::{AllocError, Global};
 use std::str;
 

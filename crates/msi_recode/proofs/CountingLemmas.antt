@@ -7,13 +7,13 @@ use Rattle.std.specs.Ordering.{nat_cmp}
 use Rattle.std.proofs.lemmas.Bool.{lt-ltb, le-ltb, or_parts, or_from}
 use Rattle.std.proofs.lemmas.Bool.Decides.{nat_tests}
 use Rattle.std.proofs.lemmas.List.{take_more, take-append-drop, drop_more}
-use Rattle.msi_text_base.specs.declared.errors.ErrorKind.{ErrorKind}
-use Rattle.msi_text_base.specs.declared.errors.ErrorKind.TheVariants as kind
-use Rattle.msi_text_base.specs.Lists.{has_pair}
-use Rattle.msi_text_base.proofs.ListLemmas.{no_pair_joined}
-use Rattle.msi_text_base.proofs.OptionLemmas.{not_given}
-use Rattle.msi_text_base.proofs.OrderingLemmas.{nat_equal}
-use Rattle.msi_text_base.proofs.ReadFieldLemmas.{IsBytes}
+use Rattle.msi_base.specs.declared.errors.ErrorKind.{ErrorKind}
+use Rattle.msi_base.specs.declared.errors.ErrorKind.TheVariants as kind
+use Rattle.msi_base.specs.Lists.{has_pair}
+use Rattle.msi_base.proofs.ListLemmas.{no_pair_joined}
+use Rattle.msi_base.proofs.OptionLemmas.{not_given}
+use Rattle.msi_base.proofs.OrderingLemmas.{nat_equal}
+use Rattle.msi_base.proofs.ReadFieldLemmas.{IsBytes}
 use Rattle.msi_summary_properties.specs.declared.propset.PropertyValue.{PropertyValue}
 use Rattle.msi_summary_properties.proofs.SpelledSetLemmas.{stands_drop}
 use Rattle.msi_recode.specs.declared.page.TextPage.{TextPage}

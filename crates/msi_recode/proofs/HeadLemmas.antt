@@ -3,14 +3,14 @@ use Rattle.std.proofs.Common.{◌≡◌, ℕ, ◌+◌, ◌-◌, ◌^◌, ◌<◌
 use Rattle.std.specs.Prelude.{option_map, if◌then◌else◌}
 use Rattle.std.specs.Int.{w32, to_le_bytes}
 use Rattle.std.proofs.lemmas.Bool.{lt-ltb, ltb-true, ltb-false, le-ltb}
-use Rattle.msi_text_base.specs.declared.errors.ErrorKind.{ErrorKind}
-use Rattle.msi_text_base.specs.declared.errors.ErrorKind.TheVariants as kind
-use Rattle.msi_text_base.specs.Numbers.{number_at}
-use Rattle.msi_text_base.specs.Results.{FailsAs}
-use Rattle.msi_text_base.proofs.ReadFieldLemmas.{IsBytes, wide32, number_takes, number_again}
-use Rattle.msi_text_base.proofs.OptionLemmas.{map_some, branch, given, some_is, not_given}
-use Rattle.msi_text_pool_base.specs.Pool.{Entry, SpellsEntries}
-use Rattle.msi_text_pool_base.proofs.ReadEntriesLemmas.{one_list}
+use Rattle.msi_base.specs.declared.errors.ErrorKind.{ErrorKind}
+use Rattle.msi_base.specs.declared.errors.ErrorKind.TheVariants as kind
+use Rattle.msi_base.specs.Numbers.{number_at}
+use Rattle.msi_base.specs.Results.{FailsAs}
+use Rattle.msi_base.proofs.ReadFieldLemmas.{IsBytes, wide32, number_takes, number_again}
+use Rattle.msi_base.proofs.OptionLemmas.{map_some, branch, given, some_is, not_given}
+use Rattle.msi_pool_places.specs.Pool.{Entry, SpellsEntries}
+use Rattle.msi_pool_places.proofs.ReadEntriesLemmas.{one_list}
 use Rattle.msi_recode.specs.declared.page.TextPage.{TextPage}
 use Rattle.msi_recode.specs.TextPages.{page_for}
 use Rattle.msi_recode.specs.PoolRecoding.{PoolHead, IsHead}

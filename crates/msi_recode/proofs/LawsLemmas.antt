@@ -1,12 +1,12 @@
 -- A pool that a package may have comes back as it is.
 use Rattle.std.proofs.Common.{◌≡◌, ℕ, Bool, List, [], ◌∷◌, length, Some, None, take, drop, refl, sym, ap, subst, ◌∙◌}
 use Rattle.std.proofs.lemmas.List.{take_at, drop_at}
-use Rattle.msi_text_base.specs.declared.codepage.CodePage.{CodePage}
-use Rattle.msi_text_base.specs.declared.codepage.CodePage.TheVariants as page
-use Rattle.msi_text_base.specs.Pages as plain
-use Rattle.msi_text_base.proofs.OptionLemmas.{some_is}
-use Rattle.msi_text_pool_base.specs.Pool.{Entry, Place, IsPool}
-use Rattle.msi_text_pool_base.specs.Pool as pools
+use Rattle.msi_base.specs.declared.codepage.CodePage.{CodePage}
+use Rattle.msi_base.specs.declared.codepage.CodePage.TheVariants as page
+use Rattle.msi_base.specs.Pages as plain
+use Rattle.msi_base.proofs.OptionLemmas.{some_is}
+use Rattle.msi_pool_places.specs.Pool.{Entry, Place, IsPool}
+use Rattle.msi_pool_places.specs.Pool as pools
 use Rattle.msi_recode.specs.declared.page.TextPage.{TextPage}
 use Rattle.msi_recode.specs.TextPages.{Reads, text_in}
 use Rattle.msi_recode.specs.PoolRecoding.{PoolHead, IsHead, SpellsTexts}

@@ -1,9 +1,9 @@
 -- Recoding gives one result.
 use Rattle.std.proofs.Common.{◌≡◌, ℕ, ◌++◌, List, Option, ap, sym, subst, ◌∙◌}
 use Rattle.msi_container_format.specs.Streams.{Streams}
-use Rattle.msi_text_base.specs.declared.codepage.CodePage.TheVariants as page
-use Rattle.msi_text_base.proofs.OptionLemmas.{some_is}
-use Rattle.msi_text_pool_base.specs.Pool.{IsPool, Place, header_of}
+use Rattle.msi_base.specs.declared.codepage.CodePage.TheVariants as page
+use Rattle.msi_base.proofs.OptionLemmas.{some_is}
+use Rattle.msi_pool_places.specs.Pool.{IsPool, Place, header_of}
 use Rattle.msi_summary_properties.specs.Properties.{Properties}
 use Rattle.msi_summary_properties.specs.PropertyStream.{Spells, property_stream}
 use Rattle.msi_summary_properties.proofs.KeptSetLemmas.{IsKept-spelled}

@@ -3,18 +3,18 @@ use Rattle.std.proofs.Common.{◌≡◌, ℕ, ◌+◌, ◌-◌, ◌<◌, Bool, t
 use Rattle.std.specs.List.{list_all}
 use Rattle.std.proofs.lemmas.Bool.{and_parts, eqb-true, lt-ltb, ltb-true, or_left}
 use Rattle.std.proofs.lemmas.Str.{encodes-IsAscii}
-use Rattle.msi_text_base.specs.declared.codepage.CodePage.{CodePage}
-use Rattle.msi_text_base.specs.declared.codepage.CodePage.TheVariants as page
-use Rattle.msi_text_base.specs.Lists.{all_present}
-use Rattle.msi_text_base.specs.Pages as plain
-use Rattle.msi_text_base.proofs.ListLemmas.{found_in}
-use Rattle.msi_text_base.proofs.OptionLemmas.{guard_held, some_is}
-use Rattle.msi_text_base.proofs.PagesLemmas.{IsAscii-from_test}
-use Rattle.msi_text_pages.specs.declared.page.Page.{Page}
-use Rattle.msi_text_pages.specs.declared.page.Page.TheVariants as tabled
-use Rattle.msi_text_pages.specs.Page.{all_pages, page_id, page_with_id}
-use Rattle.msi_text_pages.specs.Reading.{sequences, text_of, text_in}
-use Rattle.msi_text_pages.specs.Sequences.{row_among, row_of, is_lead, character_alone, character_at, character_of}
+use Rattle.msi_base.specs.declared.codepage.CodePage.{CodePage}
+use Rattle.msi_base.specs.declared.codepage.CodePage.TheVariants as page
+use Rattle.msi_base.specs.Lists.{all_present}
+use Rattle.msi_base.specs.Pages as plain
+use Rattle.msi_base.proofs.ListLemmas.{found_in}
+use Rattle.msi_base.proofs.OptionLemmas.{guard_held, some_is}
+use Rattle.msi_base.proofs.PagesLemmas.{IsAscii-from_test}
+use Rattle.msi_code_pages.specs.declared.page.Page.{Page}
+use Rattle.msi_code_pages.specs.declared.page.Page.TheVariants as tabled
+use Rattle.msi_code_pages.specs.Page.{all_pages, page_id, page_with_id}
+use Rattle.msi_code_pages.specs.Reading.{sequences, text_of, text_in}
+use Rattle.msi_code_pages.specs.Sequences.{row_among, row_of, is_lead, character_alone, character_at, character_of}
 use Rattle.msi_recode.specs.declared.page.TextPage.{TextPage}
 use Rattle.msi_recode.specs.declared.page.TextPage.TheVariants.{Plain, Tabled}
 use Rattle.msi_recode.specs.TextPages.{Reads, or_else, text_page_with_id, PackagePagesReadAlike}

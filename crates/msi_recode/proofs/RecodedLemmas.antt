@@ -4,11 +4,11 @@ use Rattle.std.specs.Prelude.{◌⊎◌, is_some, if◌then◌else◌, IsUtf8}
 use Rattle.std.proofs.lemmas.List.{append-nil, take_at, take-append-drop, length-append, length-take}
 use Rattle.std.proofs.lemmas.Bool.{or_from}
 use Rattle.std.proofs.lemmas.Grind.{flat_map-append}
-use Rattle.msi_text_base.specs.declared.errors.ErrorKind.{ErrorKind}
-use Rattle.msi_text_base.specs.declared.errors.ErrorKind.TheVariants as kind
-use Rattle.msi_text_base.proofs.ListLemmas.{any_joined, all_joined}
-use Rattle.msi_text_base.proofs.OptionLemmas.{some_is, none_there, not_given}
-use Rattle.msi_text_pool_base.specs.Pool.{Entry, Place, header_of, plain_entry}
+use Rattle.msi_base.specs.declared.errors.ErrorKind.{ErrorKind}
+use Rattle.msi_base.specs.declared.errors.ErrorKind.TheVariants as kind
+use Rattle.msi_base.proofs.ListLemmas.{any_joined, all_joined}
+use Rattle.msi_base.proofs.OptionLemmas.{some_is, none_there, not_given}
+use Rattle.msi_pool_places.specs.Pool.{Entry, Place, header_of, plain_entry}
 use Rattle.msi_recode.specs.declared.page.TextPage.{TextPage}
 use Rattle.msi_recode.specs.declared.errors.RecodeError.{RecodeError}
 use Rattle.msi_recode.specs.declared.errors.RecodeError.TheVariants as error

@@ -5,13 +5,13 @@ use Rattle.std.specs.List.{AllZip, AllByRecursion, list_any}
 use Rattle.std.specs.Int.{w32, to_le_bytes}
 use Rattle.std.proofs.lemmas.Bool.{or_from, eqb-true, eq-eqb}
 use Rattle.std.proofs.lemmas.List.{take_more}
-use Rattle.msi_text_base.specs.declared.codepage.CodePage.TheVariants as page
-use Rattle.msi_text_base.specs.Lists.{entry_where, has_pair}
-use Rattle.msi_text_base.specs.Numbers.{number_at, bytes_at}
-use Rattle.msi_text_base.specs.Results.{◌>>=◌}
-use Rattle.msi_text_base.proofs.ReadFieldLemmas.{IsBytes, IsBytes-drop, wide32, number_again}
-use Rattle.msi_text_base.proofs.OptionLemmas.{bind_some, map_some, some_is, not_given}
-use Rattle.msi_text_base.proofs.ListLemmas.{no_pair_joined}
+use Rattle.msi_base.specs.declared.codepage.CodePage.TheVariants as page
+use Rattle.msi_base.specs.Lists.{entry_where, has_pair}
+use Rattle.msi_base.specs.Numbers.{number_at, bytes_at}
+use Rattle.msi_base.specs.Results.{◌>>=◌}
+use Rattle.msi_base.proofs.ReadFieldLemmas.{IsBytes, IsBytes-drop, wide32, number_again}
+use Rattle.msi_base.proofs.OptionLemmas.{bind_some, map_some, some_is, not_given}
+use Rattle.msi_base.proofs.ListLemmas.{no_pair_joined}
 use Rattle.msi_summary_properties.specs.declared.propset.PropertyValue.{PropertyValue}
 use Rattle.msi_summary_properties.specs.declared.propset.PropertyValue.TheVariants.{Empty, Null, I1, I2, I4, LpStr, FileTime}
 use Rattle.msi_summary_properties.specs.Properties.{Properties, value_with_id, with_value, set_of}

@@ -3,9 +3,9 @@ use Rattle.std.proofs.Common.{◌≡◌, ℕ, ◌<◌, Bool, cond, eqb, ltb, Lis
 use Rattle.std.specs.Prelude.{option_map}
 use Rattle.std.specs.List.{AllZip, AllByRecursion}
 use Rattle.std.proofs.lemmas.Bool.{cases_eq, cases_Bool, eq-eqb, ne_eqb, ltb-true, ltb-false}
-use Rattle.msi_text_base.specs.Lists.{entry_where}
-use Rattle.msi_text_base.proofs.ListLemmas.{all_weaker}
-use Rattle.msi_text_base.proofs.OptionLemmas.{not_given, some_is}
+use Rattle.msi_base.specs.Lists.{entry_where}
+use Rattle.msi_base.proofs.ListLemmas.{all_weaker}
+use Rattle.msi_base.proofs.OptionLemmas.{not_given, some_is}
 use Rattle.msi_summary_properties.specs.declared.propset.PropertyValue.{PropertyValue}
 use Rattle.msi_summary_properties.specs.declared.propset.OperatingSystem.{OperatingSystem}
 use Rattle.msi_summary_properties.specs.Properties.{Properties, value_with_id}

@@ -2,14 +2,14 @@
 use Rattle.std.proofs.Common.{◌≡◌, ℕ, ◌+◌, false, List, [], length, drop, eqb, Option, Some, None, refl, sym, ap, subst, ◌∙◌, arith}
 use Rattle.std.specs.Prelude.{option_map, unwrap_or}
 use Rattle.std.specs.List.{AllByRecursion, AllZip}
-use Rattle.msi_text_base.specs.declared.codepage.CodePage.{CodePage}
-use Rattle.msi_text_base.specs.declared.codepage.CodePage.TheVariants as page
-use Rattle.msi_text_base.proofs.ListLemmas.{all_weaker}
-use Rattle.msi_text_base.proofs.PagesLemmas.{utf8_texts_come_back}
+use Rattle.msi_base.specs.declared.codepage.CodePage.{CodePage}
+use Rattle.msi_base.specs.declared.codepage.CodePage.TheVariants as page
+use Rattle.msi_base.proofs.ListLemmas.{all_weaker}
+use Rattle.msi_base.proofs.PagesLemmas.{utf8_texts_come_back}
 use Rattle.msi_summary_properties.specs.declared.propset.PropertyValue.{PropertyValue}
 use Rattle.msi_summary_properties.specs.declared.propset.PropertyValue.TheVariants.{Empty, Null, I1, I2, I4, LpStr, FileTime}
-use Rattle.msi_text_base.specs.Lists.{entry_where}
-use Rattle.msi_text_base.proofs.ReadFieldLemmas.{IsBytes, IsBytes-drop}
+use Rattle.msi_base.specs.Lists.{entry_where}
+use Rattle.msi_base.proofs.ReadFieldLemmas.{IsBytes, IsBytes-drop}
 use Rattle.msi_summary_properties.specs.Properties.{Properties, page_in, page_of, value_with_id}
 use Rattle.msi_summary_properties.specs.PropertyStream.{FitsHeader, StandsAt, header_bytes, section_head, AreWritable, IsWritableValue, HaveUtf8Texts, IsUtf8Value}
 use Rattle.msi_summary_properties.specs.PropertyWriting.{is_refused}

@@ -2,8 +2,8 @@
 use Rattle.std.proofs.Common.{◌≡◌, ℕ, zero, suc, ◌+◌, ◌<◌, ◌≤◌, Bool, true, false, List, [], ◌∷◌, ◌++◌, length, get_or, take, drop, refl, sym, ap, subst, ◌∙◌, append_assoc, arith}
 use Rattle.std.proofs.lemmas.Bool.{or_left, or_right}
 use Rattle.std.proofs.lemmas.List.{append-nil, drop_at, drop_all}
-use Rattle.msi_text_pool_base.specs.Pool.{Entry, Place}
-use Rattle.msi_text_base.proofs.ListLemmas.{drop_next}
+use Rattle.msi_pool_places.specs.Pool.{Entry, Place}
+use Rattle.msi_base.proofs.ListLemmas.{drop_next}
 use Rattle.msi_recode.specs.declared.page.TextPage.{TextPage}
 use Rattle.msi_recode.specs.TextPages.{Reads}
 use Rattle.msi_recode.specs.PoolRecoding.{SpellsTexts, FailsAt, FailsInFront, entry_of, is_long, has_long}

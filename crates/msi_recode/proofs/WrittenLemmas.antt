@@ -3,10 +3,10 @@ use Rattle.std.proofs.Common.{◌≡◌, ℕ, ◌^◌, ◌<◌, ◌≤◌, ◌++
 use Rattle.std.specs.List.{flat_map}
 use Rattle.std.proofs.lemmas.Bool.{cases_eq, cases_Bool, or_parts, or_from, or_left, or_right, and_parts, eq-eqb, ne_eqb, ltb-true}
 use Rattle.std.proofs.lemmas.List.{length-map}
-use Rattle.msi_text_base.specs.declared.codepage.CodePage.TheVariants as page
-use Rattle.msi_text_base.proofs.BoolLemmas.{not_not}
-use Rattle.msi_text_base.proofs.PagesLemmas.{utf8_texts_come_back}
-use Rattle.msi_text_pool_base.specs.Pool.{Place, Entry, IsPool, header_of, short_entry, long_entry, plain_entry, SpellsEntry, SpellsEntries, SpellsTexts, CountsFit, HaveUtf8Texts}
+use Rattle.msi_base.specs.declared.codepage.CodePage.TheVariants as page
+use Rattle.msi_base.proofs.BoolLemmas.{not_not}
+use Rattle.msi_base.proofs.PagesLemmas.{utf8_texts_come_back}
+use Rattle.msi_pool_places.specs.Pool.{Place, Entry, IsPool, header_of, short_entry, long_entry, plain_entry, SpellsEntry, SpellsEntries, SpellsTexts, CountsFit, HaveUtf8Texts}
 use Rattle.msi_recode.specs.PoolRecoding.{entry_of, is_long, has_long, entries_written, texts_written}
 
 -- what is written of an entry spells it

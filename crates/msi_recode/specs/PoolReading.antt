@@ -2,9 +2,9 @@
 -- in `PoolRecoding`.
 use Rattle.std.specs.Prelude.{◌≡◌, ℕ, ◌-◌, ◌^◌, ◌<◌, Bool, true, false, nat_lt, if◌then◌else◌, IsUtf8}
 use Rattle.std.specs.Prelude.{List, ◌∷◌, [], ◌++◌, length, Option, Some, None, option_map}
-use Rattle.msi_text_base.specs.declared.errors.ErrorKind.{ErrorKind}
-use Rattle.msi_text_base.specs.declared.errors.ErrorKind.TheVariants as kind
-use Rattle.msi_text_pool_base.specs.Pool.{Place, Entry, plain_entry, CountsFit, HaveUtf8Texts}
+use Rattle.msi_base.specs.declared.errors.ErrorKind.{ErrorKind}
+use Rattle.msi_base.specs.declared.errors.ErrorKind.TheVariants as kind
+use Rattle.msi_pool_places.specs.Pool.{Place, Entry, plain_entry, CountsFit, HaveUtf8Texts}
 use Rattle.msi_recode.specs.declared.page.TextPage.{TextPage}
 use Rattle.msi_recode.specs.declared.errors.RecodeError.{RecodeError}
 use Rattle.msi_recode.specs.declared.errors.RecodeError.TheVariants as error

@@ -1,12 +1,12 @@
 -- A package whose texts are in UTF-8, and the one that it was made of.
 use Rattle.std.specs.Prelude.{◌≡◌, ◌⊎◌, ℕ, true, false, List, Option, Some}
 use Rattle.std.specs.FinMap.{get, insert}
-use Rattle.msi_text_base.specs.declared.errors.ErrorKind.TheVariants as kind
+use Rattle.msi_base.specs.declared.errors.ErrorKind.TheVariants as kind
 use Rattle.msi_container_format.specs.declared.contents.Contents.{Contents}
 use Rattle.msi_container_format.specs.Container.{Holds}
 use Rattle.msi_container_format.specs.Streams.{Streams}
 use Rattle.msi_container_write.specs.Layout.{layout, refuses}
-use Rattle.msi_database_system.specs.Keys.{table_key, summary_key, string_pool_name, string_data_name}
+use Rattle.msi_database_schema.specs.Keys.{table_key, summary_key, string_pool_name, string_data_name}
 use Rattle.msi_recode.specs.declared.errors.RecodeError.{RecodeError}
 use Rattle.msi_recode.specs.declared.errors.RecodeError.TheVariants as error
 use Rattle.msi_recode.specs.declared.page.TextPage.{TextPage}

@@ -1,8 +1,8 @@
 -- What recoding leaves alike, what it makes of texts in any page, and that it gives one result.
 use Rattle.std.specs.Prelude.{◌≡◌, ℕ, List, map, Option, None}
 use Rattle.msi_container_format.specs.declared.contents.Contents.{Contents}
-use Rattle.msi_text_base.specs.declared.codepage.CodePage.TheVariants as page
-use Rattle.msi_text_pool_base.specs.Pool.{Place, Pool, IsPool}
+use Rattle.msi_base.specs.declared.codepage.CodePage.TheVariants as page
+use Rattle.msi_pool_places.specs.Pool.{Place, Pool, IsPool}
 use Rattle.msi_summary_properties.specs.Properties.{Properties}
 use Rattle.msi_summary_properties.specs.PropertyLaws.{Ascending}
 use Rattle.msi_summary_properties.specs.PropertyStream.{Spells}

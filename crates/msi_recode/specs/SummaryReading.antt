@@ -4,10 +4,10 @@ use Rattle.std.specs.Prelude.{◌≡◌, ℕ, ◌+◌, ◌-◌, ◌==◌, false,
 use Rattle.std.specs.Prelude.{◌⊎◌, is_some, drop, length}
 use Rattle.std.specs.List.{AllZip}
 use Rattle.std.specs.Int.{w32}
-use Rattle.msi_text_base.specs.declared.codepage.CodePage.TheVariants as page
-use Rattle.msi_text_base.specs.Lists.{has_pair, entry_where}
-use Rattle.msi_text_base.specs.Numbers.{number_at, bytes_at}
-use Rattle.msi_text_base.specs.Results.{◌>>=◌}
+use Rattle.msi_base.specs.declared.codepage.CodePage.TheVariants as page
+use Rattle.msi_base.specs.Lists.{has_pair, entry_where}
+use Rattle.msi_base.specs.Numbers.{number_at, bytes_at}
+use Rattle.msi_base.specs.Results.{◌>>=◌}
 use Rattle.msi_summary_properties.specs.declared.propset.PropertyValue.{PropertyValue}
 use Rattle.msi_summary_properties.specs.declared.propset.PropertyValue.TheVariants.{LpStr}
 use Rattle.msi_summary_properties.specs.Properties.{Properties, set_of, value_with_id, with_value}

@@ -3,10 +3,10 @@ use Rattle.std.specs.Prelude.{◌≡◌, ℕ, ◌+◌, ◌*◌, ◌^◌, ◌<◌
 use Rattle.std.specs.Prelude.{◌++◌, ◌∷◌, [], drop, length, map, min, Option, Some, None, option_map}
 use Rattle.std.specs.List.{AllZip, list_any}
 use Rattle.std.specs.Int.{w16, w32, to_le_bytes, cast_unsigned}
-use Rattle.msi_text_base.specs.declared.codepage.CodePage.TheVariants as page
-use Rattle.msi_text_base.specs.declared.errors.ErrorKind.TheVariants as kind
-use Rattle.msi_text_base.specs.Lists.{has_pair, entry_where}
-use Rattle.msi_text_base.specs.Results.{◌>>=◌}
+use Rattle.msi_base.specs.declared.codepage.CodePage.TheVariants as page
+use Rattle.msi_base.specs.declared.errors.ErrorKind.TheVariants as kind
+use Rattle.msi_base.specs.Lists.{has_pair, entry_where}
+use Rattle.msi_base.specs.Results.{◌>>=◌}
 use Rattle.msi_summary_properties.specs.declared.propset.PropertyValue.{PropertyValue}
 use Rattle.msi_summary_properties.specs.declared.propset.PropertyValue.TheVariants.{I2, LpStr}
 use Rattle.msi_summary_properties.specs.Properties.{Properties, page_value, value_with_id}

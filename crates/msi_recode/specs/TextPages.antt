@@ -1,9 +1,9 @@
 -- The pages that bytes of texts are read in: those with tables of their own, and those that packages are read in.
 use Rattle.std.specs.Prelude.{◌≡◌, ℕ, ℤ, pos, ◌==◌, if◌then◌else◌, List, Option, Some, None, option_map}
-use Rattle.msi_text_base.specs.declared.codepage.CodePage.{CodePage}
-use Rattle.msi_text_base.specs.Pages as plain
-use Rattle.msi_text_pages.specs.Page as tabled
-use Rattle.msi_text_pages.specs.Reading as tabled_reading
+use Rattle.msi_base.specs.declared.codepage.CodePage.{CodePage}
+use Rattle.msi_base.specs.Pages as plain
+use Rattle.msi_code_pages.specs.Page as tabled
+use Rattle.msi_code_pages.specs.Reading as tabled_reading
 use Rattle.msi_recode.specs.declared.page.TextPage.{TextPage}
 use Rattle.msi_recode.specs.declared.page.TextPage.TheVariants.{Plain, Tabled}
 

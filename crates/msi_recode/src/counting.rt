@@ -4,8 +4,8 @@
 ghost use Rattle.std.specs.Prelude.{◌≡◌, ◌⊎◌, ◌+◌, ◌-◌, ◌%◌, ◌<◌, ◌^◌, length, false, true, IfOk, IfErr, OnOk};
 ghost use Rattle.std.specs.BTreeSet.{Updates, contains};
 ghost use Rattle.std.specs.Ordering.{nat_cmp};
-ghost use Rattle.msi_text_base.specs.declared.codepage.CodePage.TheVariants as page;
-ghost use Rattle.msi_text_base.specs.declared.errors.ErrorKind.TheVariants.{InvalidData, OutOfMemory};
+ghost use Rattle.msi_base.specs.declared.codepage.CodePage.TheVariants as page;
+ghost use Rattle.msi_base.specs.declared.errors.ErrorKind.TheVariants.{InvalidData, OutOfMemory};
 ghost use Rattle.msi_summary_properties.specs.PropertyWriting.{piece_in};
 ghost use Rattle.msi_recode.specs.Readers.{page_of};
 ghost use Rattle.msi_recode.specs.SummaryReading.{CanBePut, IsCounted, IsNotCounted};
@@ -15,8 +15,8 @@ use crate::errors::RecodeError;
 use crate::reader::TextReader;
 use crate::reasons;
 use crate::summary::{PAGE, rest_from, value_in};
+use msi_base::{Error, ErrorKind};
 use msi_summary_properties::PropertyValue;
-use msi_text_base::{Error, ErrorKind};
 use std::alloc::Global;
 use std::collections::BTreeSet;
 

@@ -1,11 +1,11 @@
 //! Why a package isn't recoded.
 
 ghost use Rattle.std.specs.Prelude.{◌≡◌};
-ghost use Rattle.msi_text_base.specs.declared.errors.ErrorKind.TheVariants.{OutOfMemory};
+ghost use Rattle.msi_base.specs.declared.errors.ErrorKind.TheVariants.{OutOfMemory};
 ghost use Rattle.msi_recode.specs.declared.errors.RecodeError.TheVariants.{Package};
 ghost use Rattle.msi_recode.specs.Errors.{kind_of, of_place, of_property};
 
-use msi_text_base::{Error, ErrorKind};
+use msi_base::{Error, ErrorKind};
 use std::alloc::AllocError;
 
 /// Why a package isn't recoded.

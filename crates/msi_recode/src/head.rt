@@ -1,8 +1,8 @@
 //! What the pool's first stream says.
 
 ghost use Rattle.std.specs.Prelude.{◌≡◌, ◌⊎◌, ◌<◌, ◌^◌, IfOk, IfErr};
-ghost use Rattle.msi_text_base.specs.Results.{Gives, IsUnlessMemory};
-ghost use Rattle.msi_text_base.specs.declared.errors.ErrorKind.TheVariants.{InvalidData, OutOfMemory};
+ghost use Rattle.msi_base.specs.Results.{Gives, IsUnlessMemory};
+ghost use Rattle.msi_base.specs.declared.errors.ErrorKind.TheVariants.{InvalidData, OutOfMemory};
 ghost use Rattle.msi_recode.specs.PoolReading.{header_in};
 ghost use Rattle.msi_recode.specs.PoolRecoding as pools;
 ghost use Rattle.msi_recode.specs.PoolRecoding.{IsHead};
@@ -10,9 +10,9 @@ ghost use Rattle.msi_recode.specs.TextPages.{page_for};
 
 use crate::page::{TextPage, page_for};
 use crate::reasons;
-use msi_text_base::fields::u32_at;
-use msi_text_base::{Error, ErrorKind};
-use msi_text_places::parts::Entries;
+use msi_base::fields::u32_at;
+use msi_base::{Error, ErrorKind};
+use msi_pool_places::parts::Entries;
 use std::alloc::Global;
 use std::marker::Model;
 

@@ -2,8 +2,8 @@
 
 ghost use Rattle.std.specs.FinMap as finite;
 ghost use Rattle.std.specs.Prelude.{◌≡◌, ℕ, List, None, Some, IfOk, IfErr, OnErr};
-ghost use Rattle.msi_text_base.specs.Results.{OnlyMemory};
-ghost use Rattle.msi_text_base.specs.declared.errors.ErrorKind.TheVariants.{InvalidData, OutOfMemory};
+ghost use Rattle.msi_base.specs.Results.{OnlyMemory};
+ghost use Rattle.msi_base.specs.declared.errors.ErrorKind.TheVariants.{InvalidData, OutOfMemory};
 ghost use Rattle.msi_container_format.specs.Container.{Holds};
 ghost use Rattle.msi_container_format.specs.declared.contents.Contents as held;
 ghost use Rattle.msi_recode.specs.Errors.{kind_of};
@@ -17,12 +17,12 @@ use crate::page::TextPage;
 use crate::pool::{RecodedPool, recode_pool};
 use crate::reasons;
 use crate::summary::recode_summary;
+use msi_base::{Error, ErrorKind, Reason};
 use msi_container_format::contents::{Bytes, Contents, StreamMap};
 use msi_container_format::name::Name;
 use msi_container_read::read;
 use msi_container_write::write;
-use msi_database_system::names::{string_data_key, string_pool_key, summary_key};
-use msi_text_base::{Error, ErrorKind, Reason};
+use msi_database_schema::names::{string_data_key, string_pool_key, summary_key};
 use std::alloc::Global;
 use std::marker::Model;
 

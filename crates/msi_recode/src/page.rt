@@ -3,8 +3,8 @@
 ghost use Rattle.std.specs.Prelude.{◌≡◌, ◌<◌, ◌^◌, Some};
 ghost use Rattle.msi_recode.specs.TextPages.{text_page_with_signed_id, page_for};
 
-use msi_text_base::CodePage;
-use msi_text_pages::Page;
+use msi_base::CodePage;
+use msi_code_pages::Page;
 
 /// A page that bytes of texts are read in.
 #[derive(Clone, Copy, PartialEq, Eq, Debug)]

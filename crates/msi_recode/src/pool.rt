@@ -1,8 +1,8 @@
 //! The pool's two streams, with their texts in UTF-8.
 
 ghost use Rattle.std.specs.Prelude.{◌≡◌, ℕ, ◌++◌, List, [], IfOk, IfErr, OnOk, false};
-ghost use Rattle.msi_text_base.specs.declared.errors.ErrorKind.TheVariants.{InvalidData, OutOfMemory};
-ghost use Rattle.msi_text_pool_base.specs.Pool.{header_of, plain_entry};
+ghost use Rattle.msi_base.specs.declared.errors.ErrorKind.TheVariants.{InvalidData, OutOfMemory};
+ghost use Rattle.msi_pool_places.specs.Pool.{header_of, plain_entry};
 ghost use Rattle.msi_recode.specs.Errors.{kind_of};
 ghost use Rattle.msi_recode.specs.PoolReading.{ArePut, IsPut, IsTextError, IsTextsError};
 ghost use Rattle.msi_recode.specs.PoolRecoding.{AreRecoded, CannotBeRecoded, IsPoolError, is_long};
@@ -13,10 +13,9 @@ use crate::head::{LONG, PoolHead};
 use crate::page::TextPage;
 use crate::reader::TextReader;
 use crate::reasons;
-use msi_text_base::fields::{push_u16, push_u32};
-use msi_text_base::{Error, ErrorKind};
-use msi_text_places::parts::Entries;
-use msi_text_pool_base::parts::Entry;
+use msi_base::fields::{push_u16, push_u32};
+use msi_base::{Error, ErrorKind};
+use msi_pool_places::parts::{Entries, Entry};
 use std::alloc::{AllocError, Global};
 
 /// The id of UTF-8.

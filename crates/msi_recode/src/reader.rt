@@ -1,14 +1,14 @@
 //! Reading texts in a page.
 
 ghost use Rattle.std.specs.Prelude.{◌≡◌, IfOk, IfErr, is_some, if◌then◌else◌, string_bytes};
-ghost use Rattle.msi_text_base.specs.Results.{OnlyMemory};
-ghost use Rattle.msi_text_base.specs.declared.errors.ErrorKind.TheVariants.{InvalidData, OutOfMemory};
+ghost use Rattle.msi_base.specs.Results.{OnlyMemory};
+ghost use Rattle.msi_base.specs.declared.errors.ErrorKind.TheVariants.{InvalidData, OutOfMemory};
 ghost use Rattle.msi_recode.specs.TextPages.{Reads, text_in};
 ghost use Rattle.msi_recode.specs.Readers.{page_of};
 
 use crate::page::TextPage;
-use msi_text_base::{CodePage, Error};
-use msi_text_pages::Decoder;
+use msi_base::{CodePage, Error};
+use msi_code_pages::Decoder;
 use std::alloc::Global;
 
 /// Reads texts in a page. One serves for all texts of a package.

@@ -1,6 +1,6 @@
 //! Why something is refused, for people to read.
 
-use msi_text_base::Reason;
+use msi_base::Reason;
 
 pub(crate) const NO_POOL: Reason = Reason("a stream of the string pool is missing");
 

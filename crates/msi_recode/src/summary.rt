@@ -2,9 +2,9 @@
 
 ghost use Rattle.std.specs.Prelude.{◌≡◌, ℕ, ◌+◌, ◌==◌, ◌⊎◌, List, [], drop, length, Some, None};
 ghost use Rattle.std.specs.Prelude.{is_some, true, false, IfOk, IfErr, OnOk};
-ghost use Rattle.msi_text_base.specs.Lists.{entry_where};
-ghost use Rattle.msi_text_base.specs.Results.{Gives};
-ghost use Rattle.msi_text_base.specs.declared.errors.ErrorKind.TheVariants.{InvalidData, OutOfMemory};
+ghost use Rattle.msi_base.specs.Lists.{entry_where};
+ghost use Rattle.msi_base.specs.Results.{Gives};
+ghost use Rattle.msi_base.specs.declared.errors.ErrorKind.TheVariants.{InvalidData, OutOfMemory};
 ghost use Rattle.msi_summary_properties.specs.Properties.{value_with_id, with_value};
 ghost use Rattle.msi_summary_properties.specs.PropertyWriting.{is_refused};
 ghost use Rattle.msi_recode.specs.Errors.{kind_of};
@@ -19,13 +19,13 @@ use crate::errors::RecodeError;
 use crate::page::{TextPage, page_for};
 use crate::reader::TextReader;
 use crate::reasons;
+use msi_base::fields::{bytes_at, u32_at};
+use msi_base::text::Text;
+use msi_base::{CodePage, Error, ErrorKind};
 use msi_summary_properties::parts::{
     Head, header_at, new_set_of, put, section_at, stream_of, value_at,
 };
 use msi_summary_properties::{PropertySet, PropertyText, PropertyValue};
-use msi_text_base::fields::{bytes_at, u32_at};
-use msi_text_base::text::Text;
-use msi_text_base::{CodePage, Error, ErrorKind};
 use std::alloc::Global;
 
 /// The id of the property that names the page.

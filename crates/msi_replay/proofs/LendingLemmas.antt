@@ -1,8 +1,8 @@
 -- What calls on what a package lends, and what it selects, are to the package.
 use Rattle.std.proofs.Common.{◌≡◌, None, List, [], ◌∷◌, map, Result, Ok, refl, ap, subst}
-use Rattle.msi_text_base.specs.declared.errors.ErrorKind.{ErrorKind}
+use Rattle.msi_base.specs.declared.errors.ErrorKind.{ErrorKind}
 use Rattle.msi_summary_properties.specs.Properties.{Properties}
-use Rattle.msi_text_base.specs.Refusals.{first_refusal}
+use Rattle.msi_base.specs.Refusals.{first_refusal}
 use Rattle.msi.specs.State.{parts_of}
 use Rattle.msi.specs.Calls.{SummaryAnswer, SummaryCall}
 use Rattle.msi.specs.Calls as calls

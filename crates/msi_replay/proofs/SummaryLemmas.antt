@@ -1,8 +1,8 @@
 -- What a summary's functions leave is what calls on it give.
 use Rattle.std.proofs.Common.{◌≡◌, Result, Ok, Err, refl, sym, ap, ◌∙◌, inl, inr}
 use Rattle.std.specs.Prelude.{IfErr, IfOk, IsTrue, OnErr, OnOk}
-use Rattle.msi_text_base.specs.declared.errors.ErrorKind.{ErrorKind}
-use Rattle.msi_text_base.specs.declared.errors.ErrorKind.TheVariants.{OutOfMemory}
+use Rattle.msi_base.specs.declared.errors.ErrorKind.{ErrorKind}
+use Rattle.msi_base.specs.declared.errors.ErrorKind.TheVariants.{OutOfMemory}
 use Rattle.msi_summary_properties.specs.Properties.{Properties}
 use Rattle.msi.specs.Calls.{Clearing, SummaryAnswer, SummaryCall, SummaryQuestion}
 use Rattle.msi.specs.Calls as calls

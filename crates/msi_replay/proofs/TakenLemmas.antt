@@ -1,8 +1,8 @@
 -- What a package's calls ensure is what a call takes.
 use Rattle.std.proofs.Common.{◌≡◌, ℕ, true, false, Option, None, Result, Ok, Err, refl, sym, ap, subst, ◌∙◌}
 use Rattle.std.specs.Prelude.{IfErr, IsTrue, OnErr, OnOk}
-use Rattle.msi_text_base.specs.declared.errors.ErrorKind.{ErrorKind}
-use Rattle.msi_text_base.specs.Refusals.{AnswersWith, Refusals, IsRefusal, first_refusal, unless_refused}
+use Rattle.msi_base.specs.declared.errors.ErrorKind.{ErrorKind}
+use Rattle.msi_base.specs.Refusals.{AnswersWith, Refusals, IsRefusal, first_refusal, unless_refused}
 use Rattle.msi_query.specs.Queries.{Query}
 use Rattle.msi_query.specs.Selection.{Relation, relation_of}
 use Rattle.msi_database_changes.specs.Changes.{Change}

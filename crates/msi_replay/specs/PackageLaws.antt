@@ -3,13 +3,13 @@
 use Rattle.std.specs.Prelude.{◌≡◌, ◌↔◌, ℕ, true, List, Option, None}
 use Rattle.std.specs.FinMap.{entries}
 use Rattle.std.specs.List.{AllByRecursion}
-use Rattle.msi_text_base.specs.declared.codepage.CodePage.TheVariants as page
-use Rattle.msi_text_pool_base.specs.Pool.{Place, Pool}
+use Rattle.msi_base.specs.declared.codepage.CodePage.TheVariants as page
+use Rattle.msi_pool_places.specs.Pool.{Place, Pool}
 use Rattle.msi_summary_properties.specs.PropertyLaws.{Ascending}
 use Rattle.msi_summary.specs.Summary.{summary_format}
 use Rattle.msi_container_format.specs.declared.contents.Contents.{Contents}
 use Rattle.msi_container_format.specs.Container.{Holds}
-use Rattle.msi_database_system.specs.Keys.{is_table_name}
+use Rattle.msi_database_schema.specs.Keys.{is_table_name}
 use Rattle.msi_database_changes.specs.Database.{Database}
 use Rattle.msi_database_storage.specs.Agreement.{DatabaseIs, is_shown}
 use Rattle.msi.specs.Kinds.{clsid_of}

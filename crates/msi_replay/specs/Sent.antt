@@ -3,7 +3,7 @@ use Rattle.std.specs.Prelude.{map, string_bytes}
 use Rattle.std.specs.declared.io.SeekFrom.{SeekFrom}
 use Rattle.std.specs.declared.io.SeekFrom.TheVariants.{Start, End, Current}
 use Rattle.msi_summary.specs.Summary as property
-use Rattle.msi_streams.specs.Cursor as streams
+use Rattle.msi.specs.Cursor as streams
 use Rattle.msi.specs.Calls as calls
 use Rattle.msi.specs.Lent.{Cursor}
 use Rattle.msi_replay.specs.declared.call.TextProperty.{TextProperty}

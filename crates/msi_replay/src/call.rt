@@ -1,10 +1,10 @@
 //! Calls on a package, and on its borrowed summary and streams, as values.
 
 use msi::{LanguageId, Timestamp};
+use msi_base::codepage::CodePage;
+use msi_base::text::{Items, Text};
 use msi_query::{Delete, Insert, Select, Update};
 use msi_table_values::column::Column;
-use msi_text_base::codepage::CodePage;
-use msi_text_base::text::{Items, Text};
 use std::io::SeekFrom;
 use uuid::Uuid;
 

@@ -2,8 +2,8 @@
 
 ghost use Rattle.std.specs.Prelude.{◌≡◌, IfOk, map};
 ghost use Rattle.std.specs.Option.{option_copied};
-ghost use Rattle.msi_text_base.specs.Results.{OnlyMemory};
-ghost use Rattle.msi_table_rows.specs.Row.{RowDef};
+ghost use Rattle.msi_base.specs.Results.{OnlyMemory};
+ghost use Rattle.msi_table_values.specs.Row.{RowDef};
 ghost use Rattle.msi_query.specs.Rows.{rows_values};
 ghost use Rattle.msi.specs.Calls as calls;
 ghost use Rattle.msi_replay.specs.Sent.{look_up_sent, question_sent};
@@ -15,12 +15,12 @@ use crate::call::{LookUp, SummaryQuestion};
 use crate::streaming::all_names;
 use crate::summary::ask_all;
 use msi::Package;
+use msi_base::errors::{Error, ErrorKind};
+use msi_base::text::Items;
 use msi_container_device::Memory;
 use msi_query::Select;
 use msi_table::{Row, Rows, Table};
 use msi_table_values::column::Column;
-use msi_text_base::errors::{Error, ErrorKind};
-use msi_text_base::text::Items;
 use std::alloc::Global;
 
 fn copied_table(alloc: Global, table: Option<&Table>) -> Result<Option<Table>, Error>

@@ -1,9 +1,9 @@
 //! Calls on the reader and the writer of a stream, carried out in turn.
 
 ghost use Rattle.std.specs.Prelude.{◌≡◌, IfOk, Ok, OnOk, map, true};
-ghost use Rattle.msi_text_base.specs.Results.{OnlyMemory};
-ghost use Rattle.msi_streams.specs.Cursor.{after_read, piece_read};
-ghost use Rattle.msi_streams.specs.Refusals as faults;
+ghost use Rattle.msi_base.specs.Results.{OnlyMemory};
+ghost use Rattle.msi.specs.Cursor.{after_read, piece_read};
+ghost use Rattle.msi.specs.Refusals as faults;
 ghost use Rattle.msi.specs.Calls as calls;
 ghost use Rattle.msi.specs.Lent.{Gives, RunsTo, reader_outcome, reader_wants_memory, sought};
 ghost use Rattle.msi.specs.Lent.{writer_outcome, writer_wants_memory};
@@ -12,10 +12,10 @@ ghost use Rattle.msi_replay.specs.Told.{stream_answer, told};
 
 use crate::answer::StreamAnswer;
 use crate::call::{ReaderCall, WriterCall};
-use msi_streams::faults::kind_of;
-use msi_streams::{StreamReader, StreamWriter};
-use msi_text_base::errors::{Error, ErrorKind};
-use msi_text_base::text::Items;
+use msi::faults::kind_of;
+use msi::{StreamReader, StreamWriter};
+use msi_base::errors::{Error, ErrorKind};
+use msi_base::text::Items;
 use std::alloc::Global;
 use std::io;
 use std::io::{Read, Seek, SeekFrom, Write};

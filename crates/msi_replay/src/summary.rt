@@ -5,8 +5,8 @@ ghost use Rattle.std.specs.Int.{w32};
 ghost use Rattle.std.specs.Int.RustNames.{FitsSigned};
 ghost use Rattle.std.specs.List.{AllByRecursion};
 ghost use Rattle.std.specs.Option.{option_copied};
-ghost use Rattle.msi_text_base.specs.Results.{OnlyMemory};
-ghost use Rattle.msi_text_base.specs.declared.errors.ErrorKind.TheVariants.{OutOfMemory};
+ghost use Rattle.msi_base.specs.Results.{OnlyMemory};
+ghost use Rattle.msi_base.specs.declared.errors.ErrorKind.TheVariants.{OutOfMemory};
 ghost use Rattle.msi_summary_properties.specs.Properties.{without_value};
 ghost use Rattle.msi_summary.specs.Summary.{number_id, text_id, time_id};
 ghost use Rattle.msi_summary.specs.Summary.{number_with_id, text_with_id, time_with_id};
@@ -23,9 +23,9 @@ use crate::call::{
     Clearing, NumberProperty, Setting, SummaryCall, SummaryQuestion, TextProperty, TimeProperty,
 };
 use msi::{HasUuid, Timestamp};
+use msi_base::errors::{Error, ErrorKind};
+use msi_base::text::{IntoText, Items, Text};
 use msi_summary::SummaryInfo;
-use msi_text_base::errors::{Error, ErrorKind};
-use msi_text_base::text::{IntoText, Items, Text};
 use std::alloc::Global;
 
 fn text(summary: &SummaryInfo, property: TextProperty) -> Option<&str>

@@ -1,9 +1,9 @@
 -- A summary that is read, from what the code gives.
 use Rattle.std.proofs.Common.{◌≡◌, Some, Result, Ok, Err, sym, ap, ◌∙◌}
 use Rattle.std.specs.Prelude.{◌≢◌, IfOk, OnErr}
-use Rattle.msi_text_base.specs.declared.errors.ErrorKind.{ErrorKind}
-use Rattle.msi_text_base.specs.Results.{Gives}
-use Rattle.msi_text_base.proofs.OptionLemmas.{some_is}
+use Rattle.msi_base.specs.declared.errors.ErrorKind.{ErrorKind}
+use Rattle.msi_base.specs.Results.{Gives}
+use Rattle.msi_base.proofs.OptionLemmas.{some_is}
 use Rattle.msi_summary_properties.specs.Properties.{Properties}
 use Rattle.msi_summary.specs.Summary.{summary_format}
 

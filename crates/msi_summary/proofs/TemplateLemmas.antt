@@ -10,8 +10,8 @@ use Rattle.std.proofs.lemmas.List.{take_at, drop_at, length-append}
 use Rattle.std.proofs.lemmas.List.Elements.{All-from_recursion}
 use Rattle.std.proofs.lemmas.List.Splits.{slice_split_none, slice_split_at}
 use Rattle.std.proofs.lemmas.Str.Parse.{digit_from_value, without_leading_plus_none}
-use Rattle.msi_text_categories.specs.Numerals.{u16_in}
-use Rattle.msi_text_categories.specs.Spellings.{language_list_text}
+use Rattle.msi_categories.specs.Numerals.{u16_in}
+use Rattle.msi_categories.specs.Spellings.{language_list_text}
 use Rattle.msi_summary_properties.specs.declared.propset.PropertyValue.TheVariants.{LpStr}
 use Rattle.msi_summary_properties.specs.Properties.{Properties}
 use Rattle.msi_summary.specs.Summary.{as_text, is_comma, is_semicolon, nonempty, template_id, template_of, arch_text, languages_text, with_template}

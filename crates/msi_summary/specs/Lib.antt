@@ -2,8 +2,8 @@
 pub mod Summary
 pub mod SummaryLaws
 -- The words of the crates below, which public clauses cite.
-pub use Rattle.msi_text_base.specs.declared.errors.ErrorKind
-pub use Rattle.msi_text_base.specs.Results
+pub use Rattle.msi_base.specs.declared.errors.ErrorKind
+pub use Rattle.msi_base.specs.Results
 pub use Rattle.msi_summary_properties.specs.declared.propset.OperatingSystem
 pub use Rattle.msi_summary_properties.specs.declared.propset.PropertyValue
 pub use Rattle.msi_summary_properties.specs.Properties

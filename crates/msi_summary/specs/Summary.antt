@@ -6,9 +6,9 @@ use Rattle.std.specs.List.{slice_split, before_first, after_first, join_by, filt
 use Rattle.std.specs.List.{prefix_len, suffix_len}
 use Rattle.std.specs.Str.{trim_end}
 use Rattle.uuid.specs.Text.{parsed}
-use Rattle.msi_text_base.specs.declared.codepage.CodePage.TheVariants as page
-use Rattle.msi_text_categories.specs.Numerals.{u16_in}
-use Rattle.msi_text_categories.specs.Spellings.{language_list_text, braced_uuid_text}
+use Rattle.msi_base.specs.declared.codepage.CodePage.TheVariants as page
+use Rattle.msi_categories.specs.Numerals.{u16_in}
+use Rattle.msi_categories.specs.Spellings.{language_list_text, braced_uuid_text}
 use Rattle.msi_summary_properties.specs.declared.propset.PropertyValue.{PropertyValue}
 use Rattle.msi_summary_properties.specs.declared.propset.PropertyValue.TheVariants.{I4, LpStr, FileTime}
 use Rattle.msi_summary_properties.specs.declared.propset.OperatingSystem.TheVariants as os

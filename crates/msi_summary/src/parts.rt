@@ -1,8 +1,8 @@
 //! What the crates above need beyond the surface.
 
 ghost use Rattle.std.specs.Prelude.{◌≡◌, ◌⊎◌, ◌↔◌, Some, IsTrue, IfOk, IfErr, IsErrOf};
-ghost use Rattle.msi_text_base.specs.Results.{Gives, OnlyMemory};
-ghost use Rattle.msi_text_base.specs.declared.errors.ErrorKind.TheVariants.{InvalidData, InvalidInput, OutOfMemory};
+ghost use Rattle.msi_base.specs.Results.{Gives, OnlyMemory};
+ghost use Rattle.msi_base.specs.declared.errors.ErrorKind.TheVariants.{InvalidData, InvalidInput, OutOfMemory};
 ghost use Rattle.msi_summary_properties.specs.Properties.{Properties};
 ghost use Rattle.msi_summary_properties.specs.PropertyLaws.{IsKept};
 ghost use Rattle.msi_summary_properties.specs.PropertyStream.{property_stream, AreWritable};
@@ -11,9 +11,9 @@ ghost use Rattle.msi_summary.specs.Summary.{new_summary, summary_format, SpellsS
 
 use crate::summary::SummaryInfo;
 pub use crate::summary::identity::{set_uuid_text, uuid_text, without_braces};
+use msi_base::errors::Error;
 use msi_summary_properties::PropertySet;
 use msi_summary_properties::parts::stream_of;
-use msi_text_base::errors::Error;
 use std::alloc::Global;
 
 /// Returns a new summary: a title, and nothing else but the page, UTF-8.

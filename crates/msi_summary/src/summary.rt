@@ -3,8 +3,8 @@
 
 ghost use Rattle.std.specs.Prelude.{◌≡◌, ◌≢◌, ◌↔◌, IfOk, IfErr, IsTrue, OnOk, OnErr};
 ghost use Rattle.std.specs.Option.{option_copied};
-ghost use Rattle.msi_text_base.specs.Results.{OnlyMemory};
-ghost use Rattle.msi_text_base.specs.declared.errors.ErrorKind.TheVariants.{InvalidData};
+ghost use Rattle.msi_base.specs.Results.{OnlyMemory};
+ghost use Rattle.msi_base.specs.declared.errors.ErrorKind.TheVariants.{InvalidData};
 ghost use Rattle.msi_summary_properties.specs.Properties.{page_of, with_page, with_value, without_value};
 ghost use Rattle.msi_summary_properties.specs.PropertyStream.{AreWritable, HaveUtf8Texts};
 ghost use Rattle.msi_summary.specs.Summary.{new_summary, summary_format, number_with_id, text_with_id, time_with_id};
@@ -18,12 +18,12 @@ mod texts;
 mod times;
 
 use crate::reasons;
+use msi_base::codepage::CodePage;
+use msi_base::errors::{Error, ErrorKind};
+use msi_base::text::IntoText;
+use msi_categories::timestamp::Timestamp;
 use msi_summary_properties::parts::{allocator, put};
 use msi_summary_properties::{OperatingSystem, PropertySet, PropertyText, PropertyValue};
-use msi_text_base::codepage::CodePage;
-use msi_text_base::errors::{Error, ErrorKind};
-use msi_text_base::text::IntoText;
-use msi_text_categories::timestamp::Timestamp;
 use std::alloc::Global;
 use std::marker::Model;
 

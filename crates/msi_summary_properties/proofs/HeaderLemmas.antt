@@ -7,13 +7,13 @@ use Rattle.std.proofs.lemmas.List.{take_at, drop_at, take-append-drop, length-ap
 use Rattle.msi_summary_properties.specs.declared.propset.OperatingSystem.{OperatingSystem}
 use Rattle.msi_summary_properties.specs.declared.propset.OperatingSystem.TheVariants as os
 use Rattle.msi_summary_properties.specs.PropertyStream.{os_number, header_bytes, section_head, pair_bytes}
-use Rattle.msi_text_base.specs.declared.errors.ErrorKind.{ErrorKind}
-use Rattle.msi_text_base.specs.declared.errors.ErrorKind.TheVariants as kind
-use Rattle.msi_text_base.specs.Numbers.{bytes_at, number_at}
-use Rattle.msi_text_base.specs.Results.{FailsAs}
+use Rattle.msi_base.specs.declared.errors.ErrorKind.{ErrorKind}
+use Rattle.msi_base.specs.declared.errors.ErrorKind.TheVariants as kind
+use Rattle.msi_base.specs.Numbers.{bytes_at, number_at}
+use Rattle.msi_base.specs.Results.{FailsAs}
 use Rattle.msi_summary_properties.specs.Reading.{os_with_number, Header, checked, header_at, pairs_at, section_at, set_with}
-use Rattle.msi_text_base.proofs.ReadFieldLemmas.{IsBytes, IsBytes-drop, wide16, wide32, Takes, Takes-then, number_takes, number_again}
-use Rattle.msi_text_base.proofs.OptionLemmas.{guard_passed, guard_held, some_is}
+use Rattle.msi_base.proofs.ReadFieldLemmas.{IsBytes, IsBytes-drop, wide16, wide32, Takes, Takes-then, number_takes, number_again}
+use Rattle.msi_base.proofs.OptionLemmas.{guard_passed, guard_held, some_is}
 use Rattle.msi_summary_properties.proofs.StepLemmas.{bind_then}
 
 pub bytes_take : (n : ℕ) (bytes piece rest : List ℕ) → IsBytes bytes → bytes_at n bytes ≡ Some (piece, rest) → Takes bytes piece rest × (length piece ≡ n)

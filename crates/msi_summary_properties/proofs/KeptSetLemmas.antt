@@ -6,8 +6,8 @@ use Rattle.std.specs.Ordering.{nat_cmp}
 use Rattle.std.specs.BTreeMap.{insert_entry}
 use Rattle.std.proofs.lemmas.Bool.{cases_Bool, cases_lt, eqb-false, or_parts}
 use Rattle.std.proofs.lemmas.Cmp.{by_ranked, ranked}
-use Rattle.msi_text_base.specs.Lists.{has_pair}
-use Rattle.msi_text_base.proofs.ListLemmas.{all_kept}
+use Rattle.msi_base.specs.Lists.{has_pair}
+use Rattle.msi_base.proofs.ListLemmas.{all_kept}
 use Rattle.msi_summary_properties.specs.declared.propset.PropertyValue.{PropertyValue}
 use Rattle.msi_summary_properties.specs.Properties.{Properties, can_set, with_value, without_value}
 use Rattle.msi_summary_properties.specs.PropertyLaws.{AreInRange, Ascending, IsKept}

@@ -8,12 +8,12 @@ use Rattle.std.proofs.lemmas.Str.{encodes-append, length-le-encodes}
 use Rattle.std.proofs.Math.Utf8.{encode}
 use Rattle.bstr.specs.Utf8.{Decoded, continues, decoded, good, lossy_chars, or_replacement, pieces, pieces_from}
 use Rattle.bstr.proofs.lemmas.PieceLemmas.{pieces-append, pieces-nil, pieces-step}
-use Rattle.msi_text_base.specs.declared.codepage.CodePage.{CodePage}
-use Rattle.msi_text_base.specs.declared.codepage.CodePage.TheVariants as page
-use Rattle.msi_text_base.specs.PageTables.{character_read, upper_characters}
-use Rattle.msi_text_base.specs.Pages.{bytes_in, is_ascii, single_byte_spelling, single_byte_text, Reads}
-use Rattle.msi_text_base.proofs.BoolLemmas.{by_test}
-use Rattle.msi_text_base.proofs.PagesLemmas.{ascii_stands_for_itself}
+use Rattle.msi_base.specs.declared.codepage.CodePage.{CodePage}
+use Rattle.msi_base.specs.declared.codepage.CodePage.TheVariants as page
+use Rattle.msi_base.specs.PageTables.{character_read, upper_characters}
+use Rattle.msi_base.specs.Pages.{bytes_in, is_ascii, single_byte_spelling, single_byte_text, Reads}
+use Rattle.msi_base.proofs.BoolLemmas.{by_test}
+use Rattle.msi_base.proofs.PagesLemmas.{ascii_stands_for_itself}
 use Rattle.msi_summary_properties.specs.SharedTexts.{ReadsAll, page_for_all, reads_any}
 
 -- nothing stands on the left, or ASCII does at its end or on the right at the beginning

@@ -6,12 +6,12 @@ use Rattle.std.specs.Int.{w32, to_le_bytes}
 use Rattle.std.proofs.lemmas.Bool.{and_parts, not-false, ltb-true, ltb-false, lt-ltb, le-ltb}
 use Rattle.std.proofs.lemmas.List.{append-nil, length-append, length-map, length-replicate}
 use Rattle.std.proofs.lemmas.List.Folds.{flat_map-map}
-use Rattle.msi_text_base.specs.declared.codepage.CodePage.{CodePage}
-use Rattle.msi_text_base.specs.declared.errors.ErrorKind.{ErrorKind}
-use Rattle.msi_text_base.specs.declared.errors.ErrorKind.TheVariants.{InvalidInput, OutOfMemory}
-use Rattle.msi_text_base.specs.Lists.{all_present}
-use Rattle.msi_text_base.proofs.OptionLemmas.{some_is, some_there}
-use Rattle.msi_text_pool.specs.PoolWriting.{is_refused_spelling}
+use Rattle.msi_base.specs.declared.codepage.CodePage.{CodePage}
+use Rattle.msi_base.specs.declared.errors.ErrorKind.{ErrorKind}
+use Rattle.msi_base.specs.declared.errors.ErrorKind.TheVariants.{InvalidInput, OutOfMemory}
+use Rattle.msi_base.specs.Lists.{all_present}
+use Rattle.msi_base.proofs.OptionLemmas.{some_is, some_there}
+use Rattle.msi_pool.specs.PoolWriting.{is_refused_spelling}
 use Rattle.msi_summary_properties.specs.declared.propset.PropertyValue.{PropertyValue}
 use Rattle.msi_summary_properties.specs.Properties.{Properties, page_of}
 use Rattle.msi_summary_properties.specs.PropertyStream.{value_bytes, padded_to_four, piece_of, ids_of, section_of, section_bytes, section_head, pair_bytes, places_from, header_bytes, least_version, property_stream}

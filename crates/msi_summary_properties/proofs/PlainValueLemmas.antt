@@ -2,12 +2,12 @@
 use Rattle.std.proofs.Common.{◌≡◌, ℕ, ◌+◌, ◌^◌, ◌<◌, true, List, [], ◌∷◌, length, Some, refl, sym, ap, ◌∙◌, arith, inl}
 use Rattle.std.specs.Prelude.{option_and_then}
 use Rattle.std.proofs.lemmas.List.{length-append}
-use Rattle.msi_text_base.specs.declared.codepage.CodePage.{CodePage}
-use Rattle.msi_text_base.specs.Pages.{text_in, bytes_in, Reads}
+use Rattle.msi_base.specs.declared.codepage.CodePage.{CodePage}
+use Rattle.msi_base.specs.Pages.{text_in, bytes_in, Reads}
 use Rattle.msi_summary_properties.specs.declared.propset.PropertyValue.{PropertyValue}
 use Rattle.msi_summary_properties.specs.declared.propset.PropertyValue.TheVariants.{Empty, Null, I1, I2, I4, LpStr, FileTime}
 use Rattle.msi_summary_properties.specs.PropertyStream.{SpellsValue, value_bytes, string_bytes_of, IsWritableValue, needs_version_1}
-use Rattle.msi_text_base.proofs.OptionLemmas.{map_some, some_is}
+use Rattle.msi_base.proofs.OptionLemmas.{map_some, some_is}
 
 pub spelled_length : (piece : List ℕ) → length (string_bytes_of piece) ≡ length piece + 9
 spelled_length piece = omega (arith, length-append piece (0 ∷ []))

@@ -7,10 +7,10 @@ use Rattle.std.specs.BTreeMap.{is_at, insert_entry}
 use Rattle.std.proofs.lemmas.Bool.{cases_Bool}
 use Rattle.std.proofs.lemmas.Bool.Decides.{nat_tests}
 use Rattle.std.proofs.lemmas.Cmp.{by_ranked, ranked}
-use Rattle.msi_text_base.specs.declared.codepage.CodePage.{CodePage}
-use Rattle.msi_text_base.specs.declared.codepage.CodePage.TheVariants as page
-use Rattle.msi_text_base.specs.Lists.{entry_where}
-use Rattle.msi_text_base.proofs.OrderingLemmas.{nat_equal}
+use Rattle.msi_base.specs.declared.codepage.CodePage.{CodePage}
+use Rattle.msi_base.specs.declared.codepage.CodePage.TheVariants as page
+use Rattle.msi_base.specs.Lists.{entry_where}
+use Rattle.msi_base.proofs.OrderingLemmas.{nat_equal}
 use Rattle.msi_summary_properties.specs.declared.propset.PropertyValue.{PropertyValue}
 use Rattle.msi_summary_properties.specs.Properties.{Properties, NamesPage, can_set, page_in, page_of, page_value, value_with_id, with_page}
 use Rattle.msi_summary_properties.specs.PropertyLaws.{RemovingChangesOne, SettingChangesOne}

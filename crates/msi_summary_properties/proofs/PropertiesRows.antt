@@ -1,6 +1,6 @@
 -- Worked examples of sets, by computation.
 use Rattle.std.specs.Prelude.{◌≡◌, true, false, [], ◌∷◌, refl, map, replicate, pos, negsuc}
-use Rattle.msi_text_base.specs.declared.codepage.CodePage.TheVariants as page
+use Rattle.msi_base.specs.declared.codepage.CodePage.TheVariants as page
 use Rattle.msi_summary_properties.specs.declared.propset.PropertyValue.TheVariants.{I2, I4}
 use Rattle.msi_summary_properties.specs.declared.propset.OperatingSystem.TheVariants as os
 use Rattle.msi_summary_properties.specs.Properties.{Properties, can_set, new_set, with_value, without_value, with_page, page_of}

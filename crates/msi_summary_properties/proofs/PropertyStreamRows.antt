@@ -1,6 +1,6 @@
 -- Worked streams, by computation.
 use Rattle.std.specs.Prelude.{◌≡◌, [], ◌∷◌, Some, refl, codes, length, negsuc, option_map, drop, replicate, take}
-use Rattle.msi_text_base.specs.declared.codepage.CodePage.TheVariants as page
+use Rattle.msi_base.specs.declared.codepage.CodePage.TheVariants as page
 use Rattle.msi_summary_properties.specs.declared.propset.PropertyValue.TheVariants.{I2, LpStr}
 use Rattle.msi_summary_properties.specs.declared.propset.OperatingSystem.TheVariants as os
 use Rattle.msi_summary_properties.specs.Properties.{Properties, new_set, with_page, with_value}

@@ -8,13 +8,13 @@ use Rattle.std.specs.BTreeMap.{is_at, insert_entry}
 use Rattle.std.specs.Cmp.{nat_cmp_is}
 use Rattle.std.proofs.lemmas.Bool.{eqb-true, cases_lt, or_parts, eq-eqb}
 use Rattle.std.proofs.lemmas.List.{append-nil}
-use Rattle.msi_text_base.specs.declared.codepage.CodePage.{CodePage}
-use Rattle.msi_text_base.specs.Lists.{has_pair, entry_where}
+use Rattle.msi_base.specs.declared.codepage.CodePage.{CodePage}
+use Rattle.msi_base.specs.Lists.{has_pair, entry_where}
 use Rattle.msi_summary_properties.specs.declared.propset.PropertyValue.{PropertyValue}
 use Rattle.msi_summary_properties.specs.Properties.{Properties}
 use Rattle.msi_summary_properties.specs.PropertyStream.{by_id}
 use Rattle.msi_summary_properties.specs.Reading.{Header, header_at, section_at, page_stated, value_at, values_in, put_values, set_with, set_in, set_put}
-use Rattle.msi_text_base.proofs.OptionLemmas.{bind_some, guard_passed, some_is}
+use Rattle.msi_base.proofs.OptionLemmas.{bind_some, guard_passed, some_is}
 use Rattle.msi_summary_properties.proofs.SpelledSetLemmas.{listed_as}
 use Rattle.msi_summary_properties.proofs.SortedIdsLemmas.{Apart, put_by_id, cmp_less, cmp_greater, pl_lt, pl_ge, apart_sorted, insert_sorted}
 

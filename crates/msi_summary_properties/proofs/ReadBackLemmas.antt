@@ -5,17 +5,17 @@ use Rattle.std.specs.List.{list_any, AllByRecursion, AllZip}
 use Rattle.std.specs.Int.{w16, w32, to_le_bytes}
 use Rattle.std.proofs.lemmas.Bool.{or_left, or_right, or_from, ne_eqb}
 use Rattle.std.proofs.lemmas.List.{length-append}
-use Rattle.msi_text_base.specs.declared.codepage.CodePage.{CodePage}
-use Rattle.msi_text_base.specs.Lists.{has_pair}
-use Rattle.msi_text_base.specs.Pages.{bytes_in, text_in}
+use Rattle.msi_base.specs.declared.codepage.CodePage.{CodePage}
+use Rattle.msi_base.specs.Lists.{has_pair}
+use Rattle.msi_base.specs.Pages.{bytes_in, text_in}
 use Rattle.msi_summary_properties.specs.declared.propset.PropertyValue.{PropertyValue}
 use Rattle.msi_summary_properties.specs.declared.propset.PropertyValue.TheVariants.{Empty, Null, I1, I2, I4, LpStr, FileTime}
 use Rattle.msi_summary_properties.specs.Properties.{Properties, page_of}
 use Rattle.msi_summary_properties.specs.PropertyStream.{os_number, ValueStandsAt, SpellsValue, FitsValue, FitsHeader, value_bytes, padded_to_four, needs_version_1, version_of, least_version, header_bytes, section_head, by_id, IsWritableValue, string_bytes_of}
 use Rattle.msi_summary_properties.specs.PropertyLaws.{Ascending, OneSet, SetsReadBack}
 use Rattle.msi_summary_properties.specs.PropertyWriting.{is_refused, can_write, piece_in, joined_pieces, pairs_from, section_size}
-use Rattle.msi_text_base.proofs.ReadFieldLemmas.{IsBytes}
-use Rattle.msi_text_base.proofs.OptionLemmas.{some_is}
+use Rattle.msi_base.proofs.ReadFieldLemmas.{IsBytes}
+use Rattle.msi_base.proofs.OptionLemmas.{some_is}
 use Rattle.msi_summary_properties.proofs.PlainSectionLemmas.{length-values, length-padded, length-pairs, length-head, told_parts, untold_is, stream_carried}
 use Rattle.msi_summary_properties.proofs.PlainValueLemmas.{plain_value}
 use Rattle.msi_summary_properties.proofs.SortedIdsLemmas.{sorted_same}

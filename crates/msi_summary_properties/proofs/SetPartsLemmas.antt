@@ -1,11 +1,11 @@
 -- The set from its parts, as the code makes it.
 use Rattle.std.proofs.Common.{◌≡◌, ℕ, List, [], drop, Option, Some, refl, sym, ap, ◌∙◌, eqb}
-use Rattle.msi_text_base.specs.declared.codepage.CodePage.{CodePage}
-use Rattle.msi_text_base.specs.declared.errors.ErrorKind.{ErrorKind}
-use Rattle.msi_text_base.specs.declared.errors.ErrorKind.TheVariants as kind
-use Rattle.msi_text_base.specs.Lists.{entry_where}
+use Rattle.msi_base.specs.declared.codepage.CodePage.{CodePage}
+use Rattle.msi_base.specs.declared.errors.ErrorKind.{ErrorKind}
+use Rattle.msi_base.specs.declared.errors.ErrorKind.TheVariants as kind
+use Rattle.msi_base.specs.Lists.{entry_where}
 use Rattle.msi_summary_properties.specs.declared.propset.PropertyValue.{PropertyValue}
-use Rattle.msi_text_base.specs.Results.{◌>>=◌, FailsAs}
+use Rattle.msi_base.specs.Results.{◌>>=◌, FailsAs}
 use Rattle.msi_summary_properties.specs.Reading.{Header, header_at, section_at, page_stated, put_values, set_put, set_with}
 
 put_on : (bytes rest : List ℕ) (h : Header) (pairs : List (ℕ × ℕ)) (q : CodePage) → header_at bytes ≡ Some h → rest ≡ drop h.section bytes → section_at rest ≡ Some pairs

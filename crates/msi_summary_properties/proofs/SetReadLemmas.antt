@@ -1,13 +1,13 @@
 -- The laws of reading, from what the code gives.
 use Rattle.std.proofs.Common.{◌≡◌, ℕ, List, Option, Some, Result, Ok, Err, subst}
 use Rattle.std.specs.Prelude.{IfOk}
-use Rattle.msi_text_base.specs.declared.errors.ErrorKind.{ErrorKind}
+use Rattle.msi_base.specs.declared.errors.ErrorKind.{ErrorKind}
 use Rattle.msi_summary_properties.specs.Properties.{Properties}
 use Rattle.msi_summary_properties.specs.PropertyLaws.{IsKept}
 use Rattle.msi_summary_properties.specs.PropertyStream.{Spells}
-use Rattle.msi_text_base.specs.Results.{Gives}
+use Rattle.msi_base.specs.Results.{Gives}
 use Rattle.msi_summary_properties.specs.Reading.{set_put}
-use Rattle.msi_text_base.proofs.ReadFieldLemmas.{IsBytes}
+use Rattle.msi_base.proofs.ReadFieldLemmas.{IsBytes}
 use Rattle.msi_summary_properties.proofs.KeptSetLemmas.{IsKept-spelled}
 use Rattle.msi_summary_properties.proofs.SpelledSetLemmas.{set_found, set_again}
 use Rattle.msi_summary_properties.proofs.PutInLemmas.{set_put_in, set_in_put}

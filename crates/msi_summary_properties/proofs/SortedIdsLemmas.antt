@@ -5,7 +5,7 @@ use Rattle.std.specs.List.{AllByRecursion}
 use Rattle.std.specs.Ordering.{nat_cmp, is_lt}
 use Rattle.std.specs.BTreeMap.{insert_entry}
 use Rattle.std.proofs.lemmas.Bool.{eqb-true, lt-ltb, le-ltb, cases_lt}
-use Rattle.msi_text_base.specs.Lists.{placed}
+use Rattle.msi_base.specs.Lists.{placed}
 use Rattle.msi_summary_properties.specs.PropertyLaws.{Ascending}
 use Rattle.msi_summary_properties.specs.PropertyStream.{by_id}
 

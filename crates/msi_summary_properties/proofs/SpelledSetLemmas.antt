@@ -5,16 +5,16 @@ use Rattle.std.specs.List.{AllZip}
 use Rattle.std.specs.Ordering.{nat_cmp, is_lt}
 use Rattle.std.proofs.lemmas.Bool.{eqb-true, le-ltb, cases_lt}
 use Rattle.std.proofs.lemmas.List.{drop_at, take-append-drop, length-append, length-take, length-drop}
-use Rattle.msi_text_base.specs.declared.codepage.CodePage.{CodePage}
-use Rattle.msi_text_base.specs.declared.codepage.CodePage.TheVariants as page
-use Rattle.msi_text_base.specs.Lists.{placed, entry_where, has_pair}
-use Rattle.msi_text_base.proofs.OptionLemmas.{is_some_by, bind_some, guard_passed, given, some_is}
+use Rattle.msi_base.specs.declared.codepage.CodePage.{CodePage}
+use Rattle.msi_base.specs.declared.codepage.CodePage.TheVariants as page
+use Rattle.msi_base.specs.Lists.{placed, entry_where, has_pair}
+use Rattle.msi_base.proofs.OptionLemmas.{is_some_by, bind_some, guard_passed, given, some_is}
 use Rattle.msi_summary_properties.specs.declared.propset.PropertyValue.{PropertyValue}
 use Rattle.msi_summary_properties.specs.declared.propset.PropertyValue.TheVariants.{Empty, Null, I1, I2, I4, LpStr, FileTime}
 use Rattle.msi_summary_properties.specs.Properties.{Properties, page_in, page_of, value_with_id}
 use Rattle.msi_summary_properties.specs.PropertyStream.{StandsAt, ValueStandsAt, SpellsValue, FitsValue, Spells, by_id, header_bytes, section_head}
 use Rattle.msi_summary_properties.specs.Reading.{value_at, values_in, page_stated, Header, header_at, section_at, set_with, set_in}
-use Rattle.msi_text_base.proofs.ReadFieldLemmas.{IsBytes, IsBytes-drop}
+use Rattle.msi_base.proofs.ReadFieldLemmas.{IsBytes, IsBytes-drop}
 use Rattle.msi_summary_properties.proofs.ValueLemmas.{Begins, value_found, value_again}
 use Rattle.msi_summary_properties.proofs.HeaderLemmas.{Headed, IsHeader, header_found, header_again, Sectioned, section_found, section_again}
 

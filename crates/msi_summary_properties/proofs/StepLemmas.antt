@@ -1,8 +1,8 @@
 -- Steps of reading: one that fails, and one that gives something.
 use Rattle.std.proofs.Common.{◌≡◌, Option, Some, None, refl, ap}
-use Rattle.msi_text_base.specs.declared.errors.ErrorKind.{ErrorKind}
-use Rattle.msi_text_base.specs.declared.errors.ErrorKind.TheVariants as kind
-use Rattle.msi_text_base.specs.Results.{◌>>=◌, FailsAs}
+use Rattle.msi_base.specs.declared.errors.ErrorKind.{ErrorKind}
+use Rattle.msi_base.specs.declared.errors.ErrorKind.TheVariants as kind
+use Rattle.msi_base.specs.Results.{◌>>=◌, FailsAs}
 
 -- where a step fails, all fails
 pub bind_fails : {A B : Type 0} (e : ErrorKind) (r : Option A) (f : A → Option B) → FailsAs e r → FailsAs e (r >>= f)

@@ -10,15 +10,15 @@ use Rattle.std.proofs.Math.Seq.{drop-cons}
 use Rattle.std.proofs.Math.Facts.{Fits-of_z}
 use mir.Val.{bits}
 use borrow.Author.Gap.{read_sfits}
-use Rattle.msi_text_base.specs.declared.codepage.CodePage.{CodePage}
-use Rattle.msi_text_base.specs.Pages.{text_in, Reads}
+use Rattle.msi_base.specs.declared.codepage.CodePage.{CodePage}
+use Rattle.msi_base.specs.Pages.{text_in, Reads}
 use Rattle.msi_summary_properties.specs.declared.propset.PropertyValue.{PropertyValue}
 use Rattle.msi_summary_properties.specs.declared.propset.PropertyValue.TheVariants.{Empty, Null, I1, I2, I4, LpStr, FileTime}
 use Rattle.msi_summary_properties.specs.PropertyStream.{SpellsValue, SpellsString, FitsValue}
-use Rattle.msi_text_base.specs.Numbers.{number_at}
+use Rattle.msi_base.specs.Numbers.{number_at}
 use Rattle.msi_summary_properties.specs.Reading.{string_with_len, string_at, payload_at, value_at}
-use Rattle.msi_text_base.proofs.ReadFieldLemmas.{IsBytes, IsWide, wide8, wide16, wide32, wide64, number_takes, number_again}
-use Rattle.msi_text_base.proofs.OptionLemmas.{bind_some, map_some, guard_held, branch, given, some_is}
+use Rattle.msi_base.proofs.ReadFieldLemmas.{IsBytes, IsWide, wide8, wide16, wide32, wide64, number_takes, number_again}
+use Rattle.msi_base.proofs.OptionLemmas.{bind_some, map_some, guard_held, branch, given, some_is}
 
 -- bytes of which P holds stand in front
 pub record Begins (bytes : List ℕ) (P : List ℕ → Type 0) : Type 0 where

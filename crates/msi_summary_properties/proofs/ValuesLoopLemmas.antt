@@ -6,11 +6,11 @@ use Rattle.std.specs.Map.{lookup}
 use Rattle.std.specs.BTreeMap.{is_at, insert_entry}
 use Rattle.std.proofs.Math.Seq.{drop-cons}
 use Rattle.std.proofs.lemmas.List.{drop_all}
-use Rattle.msi_text_base.specs.declared.codepage.CodePage.{CodePage}
-use Rattle.msi_text_base.specs.declared.errors.ErrorKind.{ErrorKind}
-use Rattle.msi_text_base.specs.declared.errors.ErrorKind.TheVariants as kind
+use Rattle.msi_base.specs.declared.codepage.CodePage.{CodePage}
+use Rattle.msi_base.specs.declared.errors.ErrorKind.{ErrorKind}
+use Rattle.msi_base.specs.declared.errors.ErrorKind.TheVariants as kind
 use Rattle.msi_summary_properties.specs.declared.propset.PropertyValue.{PropertyValue}
-use Rattle.msi_text_base.specs.Results.{FailsAs}
+use Rattle.msi_base.specs.Results.{FailsAs}
 use Rattle.msi_summary_properties.specs.Reading.{value_at, put_values}
 
 -- the pairs from place i on begin with that pair

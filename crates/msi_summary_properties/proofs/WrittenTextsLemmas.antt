@@ -2,13 +2,13 @@
 use Rattle.std.proofs.Common.{◌≡◌, ℕ, ◌+◌, ◌^◌, ◌<◌, true, List, [], ◌∷◌, ◌++◌, map, Option, Some, None, refl, sym, ap, subst, ◌∙◌}
 use Rattle.std.specs.Prelude.{option_map, option_and_then, unwrap_or, is_some, IsUtf8, ◌==◌, if◌then◌else◌}
 use Rattle.std.specs.List.{AllByRecursion, list_any}
-use Rattle.msi_text_base.specs.declared.codepage.CodePage.{CodePage}
-use Rattle.msi_text_base.specs.Lists.{all_present}
-use Rattle.msi_text_base.specs.Pages.{text_in, bytes_in, IsWritable}
-use Rattle.msi_text_base.proofs.BoolLemmas.{by_test}
-use Rattle.msi_text_base.proofs.OptionLemmas.{some_there}
-use Rattle.msi_text_base.proofs.SpelledTextsLemmas.{written_again}
-use Rattle.msi_text_pool.specs.PoolWriting.{is_refused_spelling}
+use Rattle.msi_base.specs.declared.codepage.CodePage.{CodePage}
+use Rattle.msi_base.specs.Lists.{all_present}
+use Rattle.msi_base.specs.Pages.{text_in, bytes_in, IsWritable}
+use Rattle.msi_base.proofs.BoolLemmas.{by_test}
+use Rattle.msi_base.proofs.OptionLemmas.{some_there}
+use Rattle.msi_base.proofs.SpelledTextsLemmas.{written_again}
+use Rattle.msi_pool.specs.PoolWriting.{is_refused_spelling}
 use Rattle.msi_summary_properties.specs.declared.propset.PropertyValue.{PropertyValue}
 use Rattle.msi_summary_properties.specs.declared.propset.PropertyValue.TheVariants.{LpStr}
 use Rattle.msi_summary_properties.specs.Properties.{Properties, page_in, page_of, value_with_id}

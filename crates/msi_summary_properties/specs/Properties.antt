@@ -4,10 +4,10 @@ use Rattle.std.specs.Prelude.{is_some, ◌==◌, if◌then◌else◌}
 use Rattle.std.specs.Ordering.{nat_cmp}
 use Rattle.std.specs.BTreeMap.{insert_entry}
 use Rattle.std.specs.Int.{w16, cast_unsigned, cast_signed}
-use Rattle.msi_text_base.specs.declared.codepage.CodePage.{CodePage}
-use Rattle.msi_text_base.specs.declared.codepage.CodePage.TheVariants as page
-use Rattle.msi_text_base.specs.Pages.{page_id, page_with_id}
-use Rattle.msi_text_base.specs.Lists.{entry_where}
+use Rattle.msi_base.specs.declared.codepage.CodePage.{CodePage}
+use Rattle.msi_base.specs.declared.codepage.CodePage.TheVariants as page
+use Rattle.msi_base.specs.Pages.{page_id, page_with_id}
+use Rattle.msi_base.specs.Lists.{entry_where}
 use Rattle.msi_summary_properties.specs.declared.propset.PropertyValue.{PropertyValue}
 use Rattle.msi_summary_properties.specs.declared.propset.PropertyValue.TheVariants.{I2}
 use Rattle.msi_summary_properties.specs.declared.propset.OperatingSystem.{OperatingSystem}

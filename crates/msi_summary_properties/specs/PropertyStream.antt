@@ -6,9 +6,9 @@ use Rattle.std.specs.List.{flat_map, list_any, AllByRecursion, AllZip}
 use Rattle.std.specs.Ordering.{nat_cmp}
 use Rattle.std.specs.Int.RustNames.{FitsSigned}
 use Rattle.std.specs.Int.{w8, w16, w32, w64, to_le_bytes, cast_unsigned}
-use Rattle.msi_text_base.specs.declared.codepage.CodePage.{CodePage}
-use Rattle.msi_text_base.specs.Pages.{Reads, bytes_in, IsWritable}
-use Rattle.msi_text_base.specs.Lists.{all_present, stable_sort, has_pair}
+use Rattle.msi_base.specs.declared.codepage.CodePage.{CodePage}
+use Rattle.msi_base.specs.Pages.{Reads, bytes_in, IsWritable}
+use Rattle.msi_base.specs.Lists.{all_present, stable_sort, has_pair}
 use Rattle.msi_summary_properties.specs.declared.propset.PropertyValue.{PropertyValue}
 use Rattle.msi_summary_properties.specs.declared.propset.PropertyValue.TheVariants.{Empty, Null, I1, I2, I4, LpStr}
 use Rattle.msi_summary_properties.specs.declared.propset.PropertyValue.TheVariants.{FileTime}

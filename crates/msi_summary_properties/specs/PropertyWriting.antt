@@ -3,8 +3,8 @@ use Rattle.std.specs.Prelude.{◌≡◌, ◌++◌, Option, ℕ, ◌+◌, ◌*◌
 use Rattle.std.specs.Prelude.{nat_lt, ◌&&◌}
 use Rattle.std.specs.List.{list_all, flat_map}
 use Rattle.std.specs.Io.KnownBytes.{Appends}
-use Rattle.msi_text_base.specs.declared.codepage.CodePage.{CodePage}
-use Rattle.msi_text_pool.specs.PoolWriting.{is_refused_spelling}
+use Rattle.msi_base.specs.declared.codepage.CodePage.{CodePage}
+use Rattle.msi_pool.specs.PoolWriting.{is_refused_spelling}
 use Rattle.msi_summary_properties.specs.declared.propset.PropertyValue.{PropertyValue}
 use Rattle.msi_summary_properties.specs.Properties.{Properties, page_of}
 use Rattle.msi_summary_properties.specs.PropertyStream.{value_bytes, piece_of, section_of, ids_of, places_from}

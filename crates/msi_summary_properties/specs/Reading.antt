@@ -6,12 +6,12 @@ use Rattle.std.specs.Ordering.{nat_cmp}
 use Rattle.std.specs.Map.{lookup}
 use Rattle.std.specs.BTreeMap.{is_at, insert_entry}
 use Rattle.std.specs.Int.{w8, w16, w32, w64, cast_signed}
-use Rattle.msi_text_base.specs.declared.codepage.CodePage.{CodePage}
-use Rattle.msi_text_base.specs.declared.codepage.CodePage.TheVariants as page
-use Rattle.msi_text_base.specs.Pages.{text_in}
-use Rattle.msi_text_base.specs.Lists.{has_pair, entry_where}
-use Rattle.msi_text_base.specs.Numbers.{bytes_at, number_at}
-use Rattle.msi_text_base.specs.Results.{◌>>=◌}
+use Rattle.msi_base.specs.declared.codepage.CodePage.{CodePage}
+use Rattle.msi_base.specs.declared.codepage.CodePage.TheVariants as page
+use Rattle.msi_base.specs.Pages.{text_in}
+use Rattle.msi_base.specs.Lists.{has_pair, entry_where}
+use Rattle.msi_base.specs.Numbers.{bytes_at, number_at}
+use Rattle.msi_base.specs.Results.{◌>>=◌}
 use Rattle.msi_summary_properties.specs.declared.propset.PropertyValue.{PropertyValue}
 use Rattle.msi_summary_properties.specs.declared.propset.PropertyValue.TheVariants.{Empty, Null, I1, I2, I4, LpStr}
 use Rattle.msi_summary_properties.specs.declared.propset.PropertyValue.TheVariants.{FileTime}

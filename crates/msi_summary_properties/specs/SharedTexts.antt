@@ -3,9 +3,9 @@ use Rattle.std.specs.Prelude.{◌≡◌, ℕ, ◌+◌, ◌-◌, ◌<◌, ◌≤�
 use Rattle.std.specs.Prelude.{option_map, if◌then◌else◌, slice_index, slice_range}
 use Rattle.std.specs.List.{AllByRecursion}
 use Rattle.std.specs.Rc.{rc_str_bytes}
-use Rattle.msi_text_base.specs.declared.codepage.CodePage.{CodePage}
-use Rattle.msi_text_base.specs.declared.codepage.CodePage.TheVariants as page
-use Rattle.msi_text_base.specs.Pages.{Reads, text_in}
+use Rattle.msi_base.specs.declared.codepage.CodePage.{CodePage}
+use Rattle.msi_base.specs.declared.codepage.CodePage.TheVariants as page
+use Rattle.msi_base.specs.Pages.{Reads, text_in}
 use Rattle.msi_summary_properties.specs.Reading.{value_at}
 use Rattle.msi_summary_properties.specs.declared.propset.PropertyValue.TheVariants.{LpStr}
 use Rattle.msi_summary_properties.specs.declared.shared.SharedTexts.{SharedTexts}

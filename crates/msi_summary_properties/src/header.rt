@@ -1,13 +1,13 @@
 //! What stands in front of the values: the header of the stream, and the section's list of ids and places.
 
-ghost use Rattle.msi_text_base.specs.Results.{Gives};
+ghost use Rattle.msi_base.specs.Results.{Gives};
 ghost use Rattle.msi_summary_properties.specs.HeaderView.{view_head};
 ghost use Rattle.msi_summary_properties.specs.Reading.{os_with_number, header_at, pairs_at, section_at};
 
 use crate::propset::OperatingSystem;
 use crate::reasons::{self, PROPERTY_CUT};
-use msi_text_base::errors::{Error, ErrorKind};
-use msi_text_base::fields::{identifier_at, u16_at, u32_at};
+use msi_base::errors::{Error, ErrorKind};
+use msi_base::fields::{identifier_at, u16_at, u32_at};
 use std::alloc::Global;
 
 /// The mark that a stream begins with: the bytes `FE FF`.

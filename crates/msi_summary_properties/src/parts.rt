@@ -1,14 +1,14 @@
 //! What the crates above need beyond the surface.
 
 ghost use Rattle.std.specs.Prelude.{◌≡◌, [], true, OnOk, OnErr};
-ghost use Rattle.msi_text_base.specs.Results.{OnlyMemory};
+ghost use Rattle.msi_base.specs.Results.{OnlyMemory};
 ghost use Rattle.msi_summary_properties.specs.Properties.{can_set, set_of, with_value};
 
 pub use crate::header::{Head, header_at, section_at};
 use crate::propset::{PropertySet, PropertyValue};
 pub use crate::values::value_at;
 pub use crate::writing::stream_of;
-use msi_text_base::errors::Error;
+use msi_base::errors::Error;
 use std::alloc::Global;
 use std::collections::BTreeMap;
 

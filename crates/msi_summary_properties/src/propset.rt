@@ -3,8 +3,8 @@
 
 ghost use Rattle.std.specs.Prelude.{◌≡◌, IfErr, OnOk, OnErr, true, if◌then◌else◌};
 ghost use Rattle.std.specs.Option.{option_copied};
-ghost use Rattle.msi_text_base.specs.Results.{OnlyMemory};
-ghost use Rattle.msi_text_base.specs.declared.errors.ErrorKind.TheVariants.{InvalidInput, OutOfMemory};
+ghost use Rattle.msi_base.specs.Results.{OnlyMemory};
+ghost use Rattle.msi_base.specs.declared.errors.ErrorKind.TheVariants.{InvalidInput, OutOfMemory};
 ghost use Rattle.msi_summary_properties.specs.Properties.{can_set, new_set, page_in, page_of, page_value, set_of};
 ghost use Rattle.msi_summary_properties.specs.Properties.{value_with_id};
 ghost use Rattle.msi_summary_properties.specs.Properties.{with_page, with_value, without_value};
@@ -13,9 +13,9 @@ ghost use Rattle.msi_summary_properties.specs.PropertyLaws.{IsKept};
 
 use crate::reasons;
 use crate::texts::PropertyText;
-use msi_text_base::codepage::CodePage;
-use msi_text_base::errors::{Error, ErrorKind};
-use msi_text_categories::timestamp::Timestamp;
+use msi_base::codepage::CodePage;
+use msi_base::errors::{Error, ErrorKind};
+use msi_categories::timestamp::Timestamp;
 use std::alloc::Global;
 use std::collections::BTreeMap;
 use std::marker::Model;

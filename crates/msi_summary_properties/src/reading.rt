@@ -1,11 +1,11 @@
 //! Reading a set from its bytes.
 
 ghost use Rattle.std.specs.Prelude.{◌≡◌, ◌+◌, ◌==◌, ◌⊎◌, [], Some, IfOk, IfErr};
-ghost use Rattle.msi_text_base.specs.declared.errors.ErrorKind.TheVariants.{InvalidData, OutOfMemory};
+ghost use Rattle.msi_base.specs.declared.errors.ErrorKind.TheVariants.{InvalidData, OutOfMemory};
 ghost use Rattle.msi_summary_properties.specs.PropertyStream.{Spells};
-ghost use Rattle.msi_text_base.specs.Lists.{entry_where};
+ghost use Rattle.msi_base.specs.Lists.{entry_where};
 ghost use Rattle.msi_summary_properties.specs.Properties.{Properties, page_in};
-ghost use Rattle.msi_text_base.specs.Results.{Gives, OnlyMemory};
+ghost use Rattle.msi_base.specs.Results.{Gives, OnlyMemory};
 ghost use Rattle.msi_summary_properties.specs.Reading.{page_stated, put_values, set_put};
 ghost use Rattle.msi_summary_properties.specs.SharedTexts.{AreCuts, page_for_all};
 
@@ -14,8 +14,8 @@ use crate::propset::{PropertySet, PropertyValue, page_named};
 use crate::reasons;
 use crate::shared::SharedTexts;
 use crate::values::{push_text_ends, rest_from, value_at, value_from};
-use msi_text_base::codepage::CodePage;
-use msi_text_base::errors::{Error, ErrorKind};
+use msi_base::codepage::CodePage;
+use msi_base::errors::{Error, ErrorKind};
 use std::alloc::Global;
 use std::collections::BTreeMap;
 

@@ -1,6 +1,6 @@
 //! Why property sets are refused: a sentence for each rule.
 
-use msi_text_base::errors::Reason;
+use msi_base::errors::Reason;
 
 pub(crate) const PROPERTY_CUT: Reason = Reason("a property set ends in the middle of a field");
 

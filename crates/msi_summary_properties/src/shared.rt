@@ -4,15 +4,15 @@
 
 ghost use Rattle.std.specs.Prelude.{◌≡◌, ℕ, ◌<◌, ◌≤◌, ◌↔◌, List, true, IsTrue, IfOk, IfSome, length, slice_range};
 ghost use Rattle.std.specs.Str.{IsCharBoundary};
-ghost use Rattle.msi_text_base.specs.Pages.{Reads};
-ghost use Rattle.msi_text_base.specs.Results.{OnlyMemory};
+ghost use Rattle.msi_base.specs.Pages.{Reads};
+ghost use Rattle.msi_base.specs.Results.{OnlyMemory};
 ghost use Rattle.msi_summary_properties.specs.SharedTexts.{AreCuts, BeginsCharacter, ReadsAll};
 ghost use Rattle.msi_summary_properties.specs.SharedTexts.{page_for_all, reads_any};
 
 use crate::piece::Piece;
 use crate::texts::PropertyText;
-use msi_text_base::codepage::CodePage;
-use msi_text_base::errors::Error;
+use msi_base::codepage::CodePage;
+use msi_base::errors::Error;
 use std::alloc::Global;
 use std::collections::BTreeMap;
 use std::rc::RcStr;

@@ -5,7 +5,7 @@ ghost use Rattle.std.specs.Cmp as Cmp;
 ghost use Rattle.std.specs.Cmp.Lexicographic.{nat_list_eq_equiv};
 
 use crate::piece::Piece;
-use msi_text_base::text::Text;
+use msi_base::text::Text;
 use std::fmt;
 use std::marker::Model;
 

@@ -1,8 +1,8 @@
 //! Reading values from their bytes.
 
 ghost use Rattle.std.specs.Prelude.{◌≡◌, IfSome, drop};
-ghost use Rattle.msi_text_base.specs.Pages.{text_in};
-ghost use Rattle.msi_text_base.specs.Results.{Gives};
+ghost use Rattle.msi_base.specs.Pages.{text_in};
+ghost use Rattle.msi_base.specs.Results.{Gives};
 ghost use Rattle.msi_summary_properties.specs.Reading.{string_at, value_at, payload_at};
 ghost use Rattle.msi_summary_properties.specs.SharedTexts.{AreCuts, BeginsText, page_for_all};
 
@@ -10,11 +10,11 @@ use crate::propset::PropertyValue;
 use crate::reasons::{self, PROPERTY_CUT};
 use crate::shared::SharedTexts;
 use crate::texts::PropertyText;
-use msi_text_base::codepage::CodePage;
-use msi_text_base::errors::{Error, ErrorKind};
-use msi_text_base::fields::{u8_at, u16_at, u32_at, u64_at};
-use msi_text_base::text::Text;
-use msi_text_categories::timestamp::Timestamp;
+use msi_base::codepage::CodePage;
+use msi_base::errors::{Error, ErrorKind};
+use msi_base::fields::{u8_at, u16_at, u32_at, u64_at};
+use msi_base::text::Text;
+use msi_categories::timestamp::Timestamp;
 use std::alloc::{AllocError, Global};
 
 /// How many bytes stand in front of a text: the number of its type, and its length.

@@ -5,7 +5,7 @@ ghost use Rattle.std.specs.List.{AllByRecursion};
 ghost use Rattle.msi_summary_properties.specs.PropertyStream.{AreWritable, HaveUtf8Texts, IsUtf8Value, IsWritableValue};
 
 use crate::propset::{PropertySet, PropertyValue};
-use msi_text_base::codepage::CodePage;
+use msi_base::codepage::CodePage;
 use std::collections::BTreeMap;
 
 impl PropertySet {

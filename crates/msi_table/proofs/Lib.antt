@@ -1,4 +1,11 @@
 -- The lemmas of this crate.
+mod KeyLemmas
+mod PlaceLemmas
+mod EachLemmas
+mod LawLemmas
+mod KeyedLemmas
+mod AppliedLemmas
+mod NeedLemmas
 pub mod RoundTripLemmas
 pub mod PiecesLemmas
 pub mod ReadBackLemmas

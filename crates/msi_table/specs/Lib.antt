@@ -1,13 +1,14 @@
 -- The words of this crate.
+pub mod Differences
+pub mod Laws
 pub mod Cells
 pub mod Tables
 pub mod Rows
 pub mod Sources
 pub mod Utf8Tables
 pub mod Census
--- The words of the crates below, which public clauses cite.
-pub use Rattle.msi_text_base.specs.declared.errors.ErrorKind
-pub use Rattle.msi_text_base.specs.Results
+pub use Rattle.msi_base.specs.declared.errors.ErrorKind
+pub use Rattle.msi_base.specs.Results
 pub use Rattle.msi_table_values.specs.Category
 pub use Rattle.msi_table_values.specs.Spellings
 pub use Rattle.msi_table_values.specs.declared.column.ColumnType
@@ -26,7 +27,7 @@ pub use Rattle.msi_table_cells.specs.CellOrderLaws
 pub use Rattle.msi_table_cells.specs.Fitting
 pub use Rattle.msi_table_cells.specs.StoredValues
 pub use Rattle.msi_table_values.specs.Utf8Texts
-pub use Rattle.msi_table_rows.specs.Row
+pub use Rattle.msi_table_values.specs.Row
 pub use Rattle.msi_table_cells.specs.StoredOrder
 pub use Rattle.msi_table_cells.specs.KeyOrder
 pub use Rattle.msi_table_cells.specs.SortedRows

@@ -1,13 +1,13 @@
 //! Cells and their bytes.
 
 ghost use Rattle.std.specs.Prelude.{◌≡◌, ◌<◌, ◌≤◌, ◌+◌, ◌^◌, length, take, drop};
-ghost use Rattle.msi_text_base.specs.Numbers.{number_of as number_in};
+ghost use Rattle.msi_base.specs.Numbers.{number_of as number_in};
 ghost use Rattle.msi_table.specs.Cells.{width as width_of, cell_of_number, cell_in, is_for_texts};
 
+use msi_base::parts::number_of;
+use msi_pool::parts::string_ref;
 use msi_table_cells::cell::ValueRef;
 use msi_table_values::column::ColumnType;
-use msi_text_base::parts::number_of;
-use msi_text_pool::parts::string_ref;
 
 pub(crate) fn width(long: bool, coltype: ColumnType) -> usize
     ensures value { result ≡ width_of long coltype }

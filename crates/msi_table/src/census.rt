@@ -1,8 +1,8 @@
 //! How many cells of tables name each place of a pool.
 
 ghost use Rattle.std.specs.Prelude.{◌≡◌, ◌∷◌, [], ◌+◌, ◌*◌, ◌≤◌, IfOk, drop, is_some, length, take, unwrap_or};
-ghost use Rattle.msi_text_base.specs.Lists.{tabulated};
-ghost use Rattle.msi_text_base.specs.Results.{OnlyMemory};
+ghost use Rattle.msi_base.specs.Lists.{tabulated};
+ghost use Rattle.msi_base.specs.Results.{OnlyMemory};
 ghost use Rattle.msi_table.specs.Cells.{cell_in, row_count as count_of, row_in, width as width_of};
 ghost use Rattle.msi_table.specs.Census.{CountsMore, IsCensus, numbers_of_row, numbers_of_rows};
 ghost use Rattle.msi_table.specs.Tables.{rows_spelled};
@@ -11,12 +11,12 @@ ghost use Rattle.msi_table_values.specs.Columns.{most_columns, types_of};
 use crate::cells::{holds_texts, read_cell, width};
 use crate::rows::{are_rows, row_count};
 use crate::table::Table;
+use msi_base::errors::Error;
+use msi_base::text::Items;
+use msi_pool::parts::place_number;
+use msi_pool::stringpool::MAX_CELLS;
 use msi_table_cells::cell::ValueRef;
 use msi_table_values::column::{Column, ColumnType};
-use msi_text_base::errors::Error;
-use msi_text_base::text::Items;
-use msi_text_pool::parts::place_number;
-use msi_text_pool::stringpool::MAX_CELLS;
 use std::alloc::Global;
 use std::marker::Model;
 

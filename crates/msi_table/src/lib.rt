@@ -3,6 +3,9 @@
 
 mod cells;
 mod census;
+mod comparing;
+mod index;
+mod keys;
 pub mod laws;
 pub mod parts;
 mod picked;
@@ -13,11 +16,12 @@ mod stored;
 pub mod table;
 mod writing;
 
+pub use comparing::{Difference, differences};
 pub use msi_table_cells::cell;
 pub use msi_table_cells::cell::ValueRef;
-pub use msi_table_rows::row::Row;
 pub use msi_table_values::column::{Column, ColumnBuilder, ColumnType};
 pub use msi_table_values::parts::ValueView;
+pub use msi_table_values::row::Row;
 pub use msi_table_values::value::Value;
 pub use msi_table_values::{column, value};
 pub use row::Rows;

@@ -2,8 +2,8 @@
 
 ghost use Rattle.std.specs.Prelude.{◌≡◌, ◌<◌, ◌↔◌, IfOk, IsTrue, Some, is_some, length, option_map};
 ghost use Rattle.std.specs.Prelude.{true};
-ghost use Rattle.msi_text_base.specs.Results.{OnlyMemory};
-ghost use Rattle.msi_text_base.specs.declared.errors.ErrorKind.TheVariants.{InvalidData};
+ghost use Rattle.msi_base.specs.Results.{OnlyMemory};
+ghost use Rattle.msi_base.specs.declared.errors.ErrorKind.TheVariants.{InvalidData};
 ghost use Rattle.msi_table_values.specs.Refusals.{FailsWith};
 ghost use Rattle.msi_table_cells.specs.CellValues.{row_values};
 ghost use Rattle.msi_table_values.specs.Columns.{types_of};
@@ -18,6 +18,9 @@ use crate::row::{Rows, values_of};
 pub use crate::stored::StoredRows;
 use crate::table::Table;
 use crate::{rows as reading, writing};
+use msi_base::errors::Error;
+use msi_base::text::{Items, Text};
+use msi_pool::stringpool::StringPool;
 use msi_table_cells::cell::ValueRef;
 pub use msi_table_cells::order::sort_by_keys;
 use msi_table_cells::parts as cells_of_tables;
@@ -28,9 +31,6 @@ pub use msi_table_values::parts::{
     renamed, type_bits,
 };
 use msi_table_values::value::Value;
-use msi_text_base::errors::Error;
-use msi_text_base::text::{Items, Text};
-use msi_text_pool::stringpool::StringPool;
 use std::alloc::Global;
 
 /// Returns a table of its parts, if its columns are at most 32767: their numbers are stored in 16 bits. References to

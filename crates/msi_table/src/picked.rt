@@ -1,13 +1,13 @@
 //! Rows of a table's stream that are picked, and which of their cells.
 
 ghost use Rattle.std.specs.Prelude.{◌≡◌, ◌<◌, IfOk, Some, length, slice_get};
-ghost use Rattle.msi_text_base.specs.Results.{OnlyMemory};
+ghost use Rattle.msi_base.specs.Results.{OnlyMemory};
 ghost use Rattle.msi_table.specs.Rows.{AreRowNumbers, cell_at, cell_in_row, cells_at, rows_numbered, rows_picked};
 
 use crate::stored::StoredRows;
+use msi_base::errors::Error;
+use msi_base::text::Items;
 use msi_table_cells::cell::ValueRef;
-use msi_text_base::errors::Error;
-use msi_text_base::text::Items;
 use std::alloc::Global;
 
 /// Rows of a table that stay in its stream: those of some numbers, or all, with the cells at some places, or all.

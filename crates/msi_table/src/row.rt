@@ -2,7 +2,7 @@
 
 ghost use Rattle.std.specs.Prelude.{◌≡◌, ◌<◌, IfOk, drop, length, option_map, slice_get};
 ghost use Rattle.std.specs.Iterator.{at_most};
-ghost use Rattle.msi_text_base.specs.Results.{OnlyMemory};
+ghost use Rattle.msi_base.specs.Results.{OnlyMemory};
 ghost use Rattle.msi_table.specs.Rows.{AreAsWide, AreRowNumbers, GivesRow, IsRowAt, cell_in_row, rows_picked};
 ghost use Rattle.msi_table.specs.Rows.{value_next};
 ghost use Rattle.msi_table.specs.Sources.{HasRowNumbers, rows_of_source};
@@ -10,16 +10,15 @@ ghost use Rattle.msi_table_cells.specs.CellValues.{row_values};
 ghost use Rattle.msi_table_values.specs.Views.{seen_value};
 
 use crate::picked::PickedRows;
+use msi_base::errors::Error;
+use msi_base::text::Items;
+use msi_pool::stringpool::StringPool;
 use msi_table_cells::cell::ValueRef;
 use msi_table_cells::parts::view_of_cell;
-use msi_table_rows::parts::row;
-use msi_table_rows::row::Row;
 use msi_table_values::column::Column;
-use msi_table_values::parts::ValueView;
+use msi_table_values::parts::{ValueView, row};
+use msi_table_values::row::Row;
 use msi_table_values::value::Value;
-use msi_text_base::errors::Error;
-use msi_text_base::text::Items;
-use msi_text_pool::stringpool::StringPool;
 use std::alloc::Global;
 use std::marker::Model;
 use std::rc::Rc;

@@ -1,20 +1,20 @@
 //! The rows of a table's stream.
 
 ghost use Rattle.std.specs.Prelude.{◌≡◌, ◌*◌, ◌<◌, ◌≤◌, is_some, length, sum, take, IfOk, IfSome, Some};
-ghost use Rattle.msi_text_base.specs.Lists.{tabulated};
-ghost use Rattle.msi_text_base.specs.Results.{OnlyMemory};
-ghost use Rattle.msi_text_base.specs.declared.errors.ErrorKind.TheVariants.{InvalidData};
+ghost use Rattle.msi_base.specs.Lists.{tabulated};
+ghost use Rattle.msi_base.specs.Results.{OnlyMemory};
+ghost use Rattle.msi_base.specs.declared.errors.ErrorKind.TheVariants.{InvalidData};
 ghost use Rattle.msi_table.specs.Cells.{AreStarts, cell_at, widths, row_count as count_of, row_in, rows_in};
 ghost use Rattle.msi_table_values.specs.Columns.{most_columns, types_of};
 ghost use Rattle.msi_table_values.specs.Refusals.{FailsWith};
 
 use crate::cells::{read_cell, width};
 use crate::reasons;
+use msi_base::errors::{Error, ErrorKind};
+use msi_base::text::Items;
 use msi_table_cells::cell::ValueRef;
 use msi_table_cells::parts::MAX_ROWS;
 use msi_table_values::column::Column;
-use msi_text_base::errors::{Error, ErrorKind};
-use msi_text_base::text::Items;
 use std::alloc::Global;
 
 fn row_width(long: bool, columns: &[Column]) -> usize

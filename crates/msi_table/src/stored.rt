@@ -1,17 +1,17 @@
 //! Rows where they stand in a table's stream: each is decoded when it is asked for.
 
 ghost use Rattle.std.specs.Prelude.{◌≡◌, ◌<◌, ◌≤◌, IfOk, Some, length, option_map, slice_get};
-ghost use Rattle.msi_text_base.specs.Results.{OnlyMemory};
+ghost use Rattle.msi_base.specs.Results.{OnlyMemory};
 ghost use Rattle.msi_table.specs.Rows.{AreAsWide, cell_in_row, table_rows};
 ghost use Rattle.msi_table.specs.Tables.{rows_spelled};
 
 use crate::rows::{column_start, column_starts, read_all, read_one, read_row, row_count};
 use crate::table::Table;
+use msi_base::errors::Error;
+use msi_base::text::Items;
 use msi_table_cells::cell::ValueRef;
 use msi_table_cells::parts::MAX_ROWS;
 use msi_table_values::column::Column;
-use msi_text_base::errors::Error;
-use msi_text_base::text::Items;
 use std::alloc::Global;
 use std::marker::Model;
 
@@ -27,7 +27,7 @@ pub struct StoredRows<'a> {
 
 impl<'a> Model for StoredRows<'a> {
     ghost use Rattle.std.specs.Prelude.{◌≡◌, ◌≤◌, IfSome};
-    ghost use Rattle.msi_text_base.specs.Lists.{tabulated};
+    ghost use Rattle.msi_base.specs.Lists.{tabulated};
     ghost use Rattle.msi_table.specs.Cells.{AreStarts, row_count, row_in};
     ghost use Rattle.msi_table.specs.Rows.{TableRows};
     ghost use Rattle.msi_table_values.specs.Columns.{types_of};

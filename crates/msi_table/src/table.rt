@@ -1,14 +1,14 @@
 //! Tables.
 
 ghost use Rattle.std.specs.Prelude.{◌≡◌, ◌≤◌, IfOk, length, option_copied};
-ghost use Rattle.msi_text_base.specs.Results.{OnlyMemory};
+ghost use Rattle.msi_base.specs.Results.{OnlyMemory};
 ghost use Rattle.msi_table_values.specs.Columns.{column_named, has_column as has_one, key_places, most_columns};
 ghost use Rattle.msi_table.specs.Tables.{long_table_of, table_of};
 
+use msi_base::errors::Error;
+use msi_base::text::{Items, Text};
 use msi_table_values::column::Column;
 use msi_table_values::parts::{column_index, copied_columns, has_column};
-use msi_text_base::errors::Error;
-use msi_text_base::text::{Items, Text};
 use std::alloc::Global;
 use std::marker::Model;
 

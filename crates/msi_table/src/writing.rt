@@ -2,7 +2,7 @@
 
 ghost use Rattle.std.specs.Prelude.{◌≡◌, ℕ, ◌<◌, ◌++◌, length, OnOk, IfOk, slice_index_or, [], Some};
 ghost use Rattle.std.specs.List.{flat_map};
-ghost use Rattle.msi_text_base.specs.Results.{OnlyMemory};
+ghost use Rattle.msi_base.specs.Results.{OnlyMemory};
 ghost use Rattle.msi_table.specs.Cells.{cell_bytes, table_bytes, rows_in, stored_number};
 ghost use Rattle.msi_table_cells.specs.Fitting.{cell_of, FitsColumn, FitsTable};
 ghost use Rattle.msi_table_values.specs.Columns.{types_of};
@@ -10,12 +10,12 @@ ghost use Rattle.msi_table_cells.specs.StoredOrder.{in_stored_order};
 ghost use Rattle.msi_table.specs.Tables.{stored_bytes};
 
 use crate::cells::width;
+use msi_base::errors::Error;
+use msi_base::text::Items;
+use msi_pool::parts::place_number;
 use msi_table_cells::cell::ValueRef;
 use msi_table_cells::order::sort_rows;
 use msi_table_values::column::{Column, ColumnType};
-use msi_text_base::errors::Error;
-use msi_text_base::text::Items;
-use msi_text_pool::parts::place_number;
 use std::alloc::Global;
 
 /// Returns the number whose bytes a cell takes, where it fits its column.

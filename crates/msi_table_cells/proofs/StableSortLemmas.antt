@@ -8,9 +8,9 @@ use Rattle.std.specs.Cmp.{IsStrictWeakOrder}
 use Rattle.std.specs.Ordering.{is_lt}
 use Rattle.std.specs.Prelude.{slice_index_or, not, ◌&&◌, ⊤, OnOk, ◌↔◌, IsPermutation}
 use Rattle.std.proofs.lemmas.List.Sorted.{sorted_far, IsPermutation-refl, IsPermutation-sym, IsPermutation-trans, IsPermutation-cons, IsPermutation-middle}
-use Rattle.msi_text_base.specs.Lists.{placed, stable_sort}
-use Rattle.msi_text_base.proofs.BoolLemmas.{by_test, yes_is_no}
-use Rattle.msi_text_base.proofs.ListLemmas.{same_head, same_tail, filter_yes, filter_no, filter_same, all_weaker, all_from_places}
+use Rattle.msi_base.specs.Lists.{placed, stable_sort}
+use Rattle.msi_base.proofs.BoolLemmas.{by_test, yes_is_no}
+use Rattle.msi_base.proofs.ListLemmas.{same_head, same_tail, filter_yes, filter_no, filter_same, all_weaker, all_from_places}
 use Rattle.msi_table_cells.specs.SortedRows.{IsStableSort}
 
 no_cons : {X P : Type 0} (x : X) (xs : List X) → [] ≡ x ∷ xs → P

@@ -2,7 +2,7 @@
 use Rattle.std.specs.Prelude.{Bool, not, if◌then◌else◌, List, [], ◌∷◌}
 use Rattle.std.specs.declared.cmp.Ordering.{Ordering}
 use Rattle.std.specs.Cmp.Lexicographic.{slice_cmp}
-use Rattle.msi_text_base.specs.Lists.{stable_sort}
+use Rattle.msi_base.specs.Lists.{stable_sort}
 use Rattle.msi_table_cells.specs.declared.cell.ValueRef.{ValueRef}
 use Rattle.msi_table_cells.specs.CellOrder.{cell_cmp}
 use Rattle.msi_table_values.specs.Columns.{ColumnDef, is_of_category_binary}

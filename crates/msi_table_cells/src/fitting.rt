@@ -5,11 +5,11 @@ ghost use Rattle.msi_table_values.specs.Columns.{types_of};
 ghost use Rattle.msi_table_cells.specs.Fitting.{FitsColumn, FitsRow, FitsTable};
 
 use crate::cell::ValueRef;
+use msi_base::text::Items;
+use msi_pool::parts::place_number;
+use msi_pool::stringpool::MAX_SHORT_PLACES;
 use msi_table_values::column::{Column, ColumnType};
 use msi_table_values::parts::{fits_number, holds_streams};
-use msi_text_base::text::Items;
-use msi_text_pool::parts::place_number;
-use msi_text_pool::stringpool::MAX_SHORT_PLACES;
 
 /// How many rows a table may have.
 pub const MAX_ROWS: usize = 65_536;

@@ -5,7 +5,7 @@ ghost use Rattle.msi_table_cells.specs.SortedRows.{LeadingNumbersAscend, RowsAre
 ghost use Rattle.msi_table_cells.specs.StoredValues.{RemovingKeepsValues, StoredValuesComeBack, StoringKeepsValues};
 ghost use Rattle.msi_table_cells.specs.StoredValues.{ValidValuesFit};
 
-use msi_text_pool::laws::{given_back_takes_one, taken_places_hold_their_text};
+use msi_pool::laws::{given_back_takes_one, taken_places_hold_their_text};
 
 /// Cells have a total order, in which only equal cells tie.
 pub fn cells_are_ordered()

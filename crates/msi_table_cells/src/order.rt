@@ -3,7 +3,7 @@
 ghost use Rattle.std.specs.Prelude.{◌≡◌, OnOk, OnErr, option_map};
 ghost use Rattle.std.specs.List.{slice_get};
 ghost use Rattle.std.specs.Option.{option_cmp};
-ghost use Rattle.msi_text_base.specs.Results.{OnlyMemory};
+ghost use Rattle.msi_base.specs.Results.{OnlyMemory};
 ghost use Rattle.msi_table_cells.specs.CellValues.{value_of_cell};
 ghost use Rattle.msi_table_cells.specs.KeyOrder.{key_cmp, in_key_order};
 ghost use Rattle.msi_table_cells.specs.StoredOrder.{row_cmp, in_stored_order};
@@ -11,11 +11,11 @@ ghost use Rattle.msi_table_values.specs.Values.{value_cmp};
 
 use crate::cell::ValueRef;
 use crate::views::compare_values;
+use msi_base::errors::Error;
+use msi_base::text::Items;
+use msi_pool::stringpool::StringPool;
 use msi_table_values::column::Column;
 use msi_table_values::parts::is_of_category_binary;
-use msi_text_base::errors::Error;
-use msi_text_base::text::Items;
-use msi_text_pool::stringpool::StringPool;
 use std::alloc::AllocError;
 use std::cmp::Ordering;
 

@@ -6,8 +6,8 @@ ghost use Rattle.msi_table_values.specs.Views.{seen_value};
 ghost use Rattle.msi_table_cells.specs.CellValues.{value_of_cell};
 
 use crate::cell::ValueRef;
+use msi_pool::stringpool::StringPool;
 use msi_table_values::parts::ValueView;
-use msi_text_pool::stringpool::StringPool;
 use std::cmp::Ordering;
 
 /// Returns the value that a cell stands for, its text where it lies in the pool.

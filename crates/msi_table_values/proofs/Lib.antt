@@ -1,4 +1,5 @@
 -- The lemmas of this crate.
+pub mod ColumnLemmas
 pub mod ColumnTypesLemmas
 pub mod TypeBitsLemmas
 pub mod ValidValuesLemmas

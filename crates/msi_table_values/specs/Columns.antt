@@ -4,8 +4,8 @@ use Rattle.std.specs.Prelude.{Some, None, option_map, option_and_then, slice_get
 use Rattle.std.specs.Prelude.{bytes_eq, ℤ, ⊤, position, codes}
 use Rattle.std.specs.Fmt.{decimal}
 use Rattle.std.specs.List.{list_any}
-use Rattle.msi_text_categories.specs.declared.category.Category.{Category}
-use Rattle.msi_text_categories.specs.declared.category.Category.TheVariants as category
+use Rattle.msi_categories.specs.declared.category.Category.{Category}
+use Rattle.msi_categories.specs.declared.category.Category.TheVariants as category
 use Rattle.msi_table_values.specs.declared.column.ColumnType.{ColumnType}
 use Rattle.msi_table_values.specs.declared.column.ColumnType.TheVariants as coltype
 

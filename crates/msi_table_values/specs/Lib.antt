@@ -1,4 +1,5 @@
 -- The words of this crate.
+pub mod Row
 pub mod Refusals
 pub mod Values
 pub mod Columns
@@ -6,6 +7,5 @@ pub mod ValidValues
 pub mod Views
 pub mod Utf8Texts
 pub mod OrderLaws
--- The words of the crates below, which public clauses cite.
-pub use Rattle.msi_text_categories.specs.declared.category.Category
-pub use Rattle.msi_text_categories.specs.Spellings
+pub use Rattle.msi_categories.specs.declared.category.Category
+pub use Rattle.msi_categories.specs.Spellings

@@ -2,8 +2,8 @@
 use Rattle.std.specs.Prelude.{ℕ, Bool, true, false, not, List, [], ◌∷◌, length, Option, Some, None, nat_le, ◌==◌, ◌&&◌}
 use Rattle.std.specs.Prelude.{◌||◌, bytes_eq, chars, ℤ, pos, neg_ℤ, int_le}
 use Rattle.std.specs.List.{list_any}
-use Rattle.msi_text_categories.specs.declared.category.Category.{Category}
-use Rattle.msi_text_categories.specs.CategoryRules.{is_accepted}
+use Rattle.msi_categories.specs.declared.category.Category.{Category}
+use Rattle.msi_categories.specs.CategoryRules.{is_accepted}
 use Rattle.msi_table_values.specs.declared.column.ColumnType.{ColumnType}
 use Rattle.msi_table_values.specs.declared.column.ColumnType.TheVariants as coltype
 use Rattle.msi_table_values.specs.declared.value.Value.{Value}

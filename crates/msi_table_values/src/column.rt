@@ -1,18 +1,18 @@
 //! Columns.
 
 ghost use Rattle.std.specs.Prelude.{◌≡◌, ◌≤◌, IfOk, Some, true, map, option_map, ◌||◌};
-ghost use Rattle.msi_text_categories.specs.declared.category.Category.TheVariants as category_of;
-ghost use Rattle.msi_text_base.specs.Results.{OnlyMemory};
+ghost use Rattle.msi_categories.specs.declared.category.Category.TheVariants as category_of;
+ghost use Rattle.msi_base.specs.Results.{OnlyMemory};
 ghost use Rattle.msi_table_values.specs.Columns.{begun_column, some_texts, type_name};
 ghost use Rattle.msi_table_values.specs.Columns.{is_of_category_binary as is_binary};
 ghost use Rattle.msi_table_values.specs.declared.column.ColumnType.TheVariants as type_of;
 
 use crate::shared_texts::SharedTexts;
 use crate::texts::copied_list;
-use msi_text_base::errors::Error;
-use msi_text_base::shared_text::SharedText;
-use msi_text_base::text::{IntoText, Text};
-use msi_text_categories::category::Category;
+use msi_base::errors::Error;
+use msi_base::shared_text::SharedText;
+use msi_base::text::{IntoText, Text};
+use msi_categories::category::Category;
 use std::alloc::Global;
 use std::fmt;
 use std::marker::Model;

@@ -1,12 +1,12 @@
 //! Columns in a row: look-ups by name, and copies.
 
 ghost use Rattle.std.specs.Prelude.{◌≡◌, IfOk, bytes_eq};
-ghost use Rattle.msi_text_base.specs.Results.{OnlyMemory};
+ghost use Rattle.msi_base.specs.Results.{OnlyMemory};
 ghost use Rattle.msi_table_values.specs.Columns.{column_index as index_of, has_column as has_one};
 
 use crate::column::Column;
-use msi_text_base::errors::Error;
-use msi_text_base::text::Items;
+use msi_base::errors::Error;
+use msi_base::text::Items;
 use std::alloc::Global;
 
 fn is_named(column: &Column, name: &str) -> bool

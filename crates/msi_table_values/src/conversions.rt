@@ -2,15 +2,15 @@
 
 ghost use Rattle.std.specs.Prelude.{◌≡◌, pos, string_bytes, IfOk, if◌then◌else◌};
 ghost use Rattle.std.specs.Fmt.{decimal};
-ghost use Rattle.msi_text_categories.specs.Spellings.{language_list_text};
-ghost use Rattle.msi_text_base.specs.Results.{OnlyMemory};
+ghost use Rattle.msi_categories.specs.Spellings.{language_list_text};
+ghost use Rattle.msi_base.specs.Results.{OnlyMemory};
 ghost use Rattle.msi_table_values.specs.declared.value.Value.TheVariants.{Int, Str};
 
 use crate::value::Value;
-use msi_text_base::errors::Error;
-use msi_text_base::text::{IntoText, Text};
-use msi_text_categories::language::LanguageId;
-use msi_text_categories::parts::{language_list, language_text};
+use msi_base::errors::Error;
+use msi_base::text::{IntoText, Text};
+use msi_categories::language::LanguageId;
+use msi_categories::parts::{language_list, language_text};
 use std::alloc::Global;
 
 /// A truth as a value: the number 1 for true, and 0 for false.

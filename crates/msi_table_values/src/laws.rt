@@ -5,11 +5,13 @@ ghost use Rattle.msi_table_values.specs.Columns.{TypeBitsComeBack};
 ghost use Rattle.msi_table_values.specs.Utf8Texts.{AreUtf8Columns, AreUtf8Texts, AreUtf8Values, IsUtf8Column};
 ghost use Rattle.msi_table_values.specs.Utf8Texts.{IsUtf8Value};
 ghost use Rattle.msi_table_values.specs.Values.{ValuesAreOrdered};
+ghost use Rattle.msi_table_values.specs.Row.{IsUtf8Row};
 
 use crate::column::Column;
+use crate::row::Row;
 use crate::value::Value;
-use msi_text_base::laws::texts_are_utf8;
-use msi_text_base::text::Text;
+use msi_base::laws::texts_are_utf8;
+use msi_base::text::Text;
 
 /// Values have a total order, in which only equal values tie.
 pub fn values_are_ordered()
@@ -67,4 +69,12 @@ pub fn listed_columns_are_utf8(columns: &[Column])
     for column in columns {
         column_texts_are_utf8(column);
     }
+}
+
+/// Each text of a row is UTF-8: its values, and those of its columns.
+pub fn row_texts_are_utf8(row: &Row)
+    ensures { IsUtf8Row row.now }
+{
+    listed_columns_are_utf8(row.columns());
+    listed_values_are_utf8(row.values());
 }

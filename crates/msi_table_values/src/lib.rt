@@ -8,6 +8,7 @@ pub mod laws;
 pub mod parts;
 mod printing;
 mod reasons;
+pub mod row;
 mod shared_texts;
 mod texts;
 mod valid_values;

@@ -1,23 +1,28 @@
 //! What the crates above need beyond the surface.
 
-ghost use Rattle.std.specs.Prelude.{◌≡◌, ◌<◌, ◌≤◌, ◌↔◌, IfOk, IfErr, IsErr, Some, None, true};
-ghost use Rattle.msi_text_base.specs.Results.{OnlyMemory};
-ghost use Rattle.msi_text_base.specs.declared.errors.ErrorKind.TheVariants.{InvalidData};
+ghost use Rattle.std.specs.Prelude.{◌≡◌, ◌<◌, ◌≤◌, ◌↔◌, IfOk, IfErr, IsErr, Some, None, true, is_some, length};
+ghost use Rattle.std.specs.Prelude.{option_copied};
+ghost use Rattle.msi_base.specs.Results.{OnlyMemory};
+ghost use Rattle.msi_base.specs.declared.errors.ErrorKind.TheVariants.{InvalidData};
 ghost use Rattle.msi_table_values.specs.Columns.{HasShortLength, bit_if as number_if, column_of_bits as column_in};
 ghost use Rattle.msi_table_values.specs.Columns.{has_bit as is_set, is_of_category_binary as is_binary};
 ghost use Rattle.msi_table_values.specs.Columns.{kind_bits as bits_of_kind, type_bits as bits_of};
-ghost use Rattle.msi_table_values.specs.Columns.{type_of_bits as type_in};
+ghost use Rattle.msi_table_values.specs.Columns.{type_of_bits as type_in, has_column as has_one};
+ghost use Rattle.msi_table_values.specs.Row.{value_named as value_in_row};
 
 use crate::column::{Column, ColumnBuilder, ColumnType};
 pub use crate::columns::{column_index, copied_columns, has_column};
 use crate::reasons;
+use crate::row::Row;
 pub use crate::shared_texts::SharedTexts;
 pub use crate::texts::copied_list;
 pub use crate::valid_values::{fits_number, holds_streams};
+use crate::value::Value;
 pub use crate::views::ValueView;
-use msi_text_base::errors::{Error, ErrorKind};
-use msi_text_base::text::IntoText;
+use msi_base::errors::{Error, ErrorKind};
+use msi_base::text::{IntoText, Items};
 use std::alloc::Global;
+use std::rc::Rc;
 
 fn kind_bits(coltype: ColumnType) -> u16
     requires { HasShortLength coltype }
@@ -133,4 +138,21 @@ pub fn is_of_category_binary(column: &Column) -> bool
     ensures { result ≡ is_binary column.now.category }
 {
     column.is_of_category_binary()
+}
+
+/// Returns the value of the column of a name in a row, unless the row has no such column; of a repeated name the
+/// first.
+pub fn value_named<'a>(row: &'a Row, name: &str) -> Option<&'a Value>
+    ensures value { option_copied result ≡ value_in_row name.now row.now }
+    ensures found { is_some result ≡ has_one name.now row.now.columns }
+{
+    row.value_named(name)
+}
+
+/// Returns a row of a value for each column. It has to have as many values as columns.
+pub fn row(columns: Rc<Items<Column>>, values: Items<Value>) -> Row
+    requires { length values ≡ length columns.value }
+    ensures { result ≡ record { columns = columns.value; values = values } }
+{
+    Row::new(columns, values)
 }

@@ -1,5 +1,5 @@
 //! Why the bits of a column are refused: a sentence for each rule.
 
-use msi_text_base::errors::Reason;
+use msi_base::errors::Reason;
 
 pub(crate) const TYPE_BITS: Reason = Reason("the bits name no type of a column");

@@ -1,10 +1,10 @@
 //! Lists of texts whose copies share them.
 
 ghost use Rattle.std.specs.Prelude.{◌≡◌, ◌==◌, [], IfOk, IsOk, length};
-ghost use Rattle.msi_text_base.specs.Results.{OnlyMemory};
+ghost use Rattle.msi_base.specs.Results.{OnlyMemory};
 
-use msi_text_base::errors::Error;
-use msi_text_base::text::{Items, Text};
+use msi_base::errors::Error;
+use msi_base::text::{Items, Text};
 use std::marker::Model;
 use std::rc::RcSlice;
 

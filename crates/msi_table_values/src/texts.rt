@@ -1,10 +1,10 @@
 //! Copies of texts.
 
 ghost use Rattle.std.specs.Prelude.{◌≡◌, IfOk, map};
-ghost use Rattle.msi_text_base.specs.Results.{OnlyMemory};
+ghost use Rattle.msi_base.specs.Results.{OnlyMemory};
 
-use msi_text_base::errors::Error;
-use msi_text_base::text::{IntoText, Items, Text};
+use msi_base::errors::Error;
+use msi_base::text::{IntoText, Items, Text};
 use std::alloc::Global;
 
 /// Returns copies of the texts, in order.

@@ -7,8 +7,8 @@ ghost use Rattle.msi_table_values.specs.declared.value.Value.TheVariants as valu
 
 use crate::column::{Column, ColumnType};
 use crate::value::Value;
-use msi_text_base::text::Text;
-use msi_text_categories::category::Category;
+use msi_base::text::Text;
+use msi_categories::category::Category;
 
 impl Column {
     /// Returns whether a value may stand in the column (MSI SDK, "_Validation table").

@@ -5,12 +5,12 @@ ghost use Rattle.std.specs.Cmp.{po, partial_equiv_from_equiv, eq_by_cmp_equiv};
 ghost use Rattle.std.specs.Hash.{same_Alike};
 ghost use Rattle.std.specs.Ordering.{as_partial_cmp, eq_by_cmp};
 ghost use Rattle.std.proofs.Common.{refl};
-ghost use Rattle.msi_text_base.specs.Results.{OnlyMemory};
+ghost use Rattle.msi_base.specs.Results.{OnlyMemory};
 ghost use Rattle.msi_table_values.specs.Values.{value_cmp, is_null, int_of, text_of, value_hash_input};
 ghost use Rattle.msi_table_values.specs.OrderLaws.{value_cmp-total, value_eq-Decides};
 
-use msi_text_base::errors::Error;
-use msi_text_base::text::Text;
+use msi_base::errors::Error;
+use msi_base::text::Text;
 use std::alloc::Global;
 use std::cmp::Ordering;
 use std::fmt;

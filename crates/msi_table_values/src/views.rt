@@ -1,13 +1,13 @@
 //! Values borrowed from where they lie, so that no text is copied, and their order.
 
 ghost use Rattle.std.specs.Prelude.{◌≡◌, IfOk, IfErr, IsErr, IsTrue};
-ghost use Rattle.msi_text_base.specs.declared.errors.ErrorKind.TheVariants.{OutOfMemory};
+ghost use Rattle.msi_base.specs.declared.errors.ErrorKind.TheVariants.{OutOfMemory};
 ghost use Rattle.msi_table_values.specs.Values.{value_cmp, is_text, is_true as counts};
 ghost use Rattle.msi_table_values.specs.Views.{seen_value};
 
 use crate::value::Value;
-use msi_text_base::errors::Error;
-use msi_text_base::text::IntoText;
+use msi_base::errors::Error;
+use msi_base::text::IntoText;
 use std::alloc::Global;
 use std::cmp::Ordering;
 

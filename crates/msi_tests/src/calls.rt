@@ -1,9 +1,9 @@
 //! Calls of a device as rows of a table: what each is passed, what it returns, and how it ends.
 
+use msi_base::{Error, ErrorKind};
 use msi_container_device::faults::fault;
 use msi_container_device::parts::{read_all, write_all};
 use msi_container_device::{Device, Memory, Source};
-use msi_text_base::{Error, ErrorKind};
 use std::alloc::Global;
 
 /// A call of a device, or of a function over one, with what it returns.

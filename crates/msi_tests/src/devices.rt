@@ -4,8 +4,8 @@ use crate::calls::Call::{Flush, Length, Read, ReadAll, Rewind, Write, WriteAll};
 use crate::calls::End::{Flagged, Refused, Well};
 use crate::calls::{DIGITS, Step, digits, gone};
 use crate::shown::is_shown;
+use msi_base::Error;
 use msi_container_device::{Buffered, Metered};
-use msi_text_base::Error;
 use std::alloc::Global;
 use std::io::{self, Cursor, Seek, SeekFrom};
 

@@ -1,7 +1,7 @@
 //! The program `msidb`: inspects and creates Windows Installer packages from a command line.
 #![tactic(auto)]
 
-use msi_text_base::Error;
+use msi_base::Error;
 use std::process::ExitCode;
 use std::rt::Env;
 use std::{env, io};

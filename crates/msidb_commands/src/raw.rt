@@ -1,9 +1,9 @@
 //! `raw FILE`: each stream of a container, with its kind and its number of bytes.
 
 use crate::lines::Lines;
-use msi_container::compound::{self, Name};
-use msi_container::streamname;
-use msi_text_base::errors::Error;
+use msi::compound::{self, Name};
+use msi::streamname;
+use msi_base::errors::Error;
 use std::alloc::Global;
 use std::fs::{self, OpenFile};
 use std::io::{Read, Write};

@@ -2,10 +2,9 @@
 
 use crate::lines::Lines;
 use crate::packages;
-use msi::{Package, StreamReader};
+use msi::{Package, StreamReader, Streams};
+use msi_base::errors::Error;
 use msi_container_device::{Device, Source};
-use msi_streams::Streams;
-use msi_text_base::errors::Error;
 use std::alloc::Global;
 use std::io::{self, Read, Write};
 

@@ -2,8 +2,8 @@
 
 use crate::lines::Lines;
 use msi::{HasUuid, LanguageId, Timestamp};
+use msi_base::errors::Error;
 use msi_summary::SummaryInfo;
-use msi_text_base::errors::Error;
 use std::alloc::Global;
 use std::fmt::Display;
 use std::io::Write;

@@ -2,11 +2,11 @@
 
 use crate::lines::Lines;
 use msi::{Package, Tables};
+use msi_base::errors::Error;
 use msi_container_device::Source;
 use msi_query::Select;
 use msi_table::{Row, Rows};
 use msi_table_values::column::Column;
-use msi_text_base::errors::Error;
 use std::alloc::Global;
 use std::io::Write;
 

@@ -1,9 +1,9 @@
 //! The words of a command, once they are matched.
 
 use clap::ArgMatches;
+use msipkg_cli::Verb;
+use msipkg_format::Style;
 use msipkg_packages::{PackageFile, Purpose};
-use msipkg_texts::Style;
-use msipkg_words::Verb;
 
 /// A command with what was given to it.
 #[derive(Clone, Copy)]

@@ -1,8 +1,8 @@
 //! `batch`: commands of a text, a line each.
 
 use crate::commands::{run, unwritten_status};
-use msipkg_output::{Output, System};
-use msipkg_words::words_of;
+use msipkg_cli::words_of;
+use msipkg_format::{Output, System};
 use std::io;
 
 /// Runs each line of standard input as a command, and prints the line before its output. Quotes keep blanks. Messages

@@ -3,11 +3,11 @@
 use crate::asked::Asked;
 use msipkg_changes::{Change, Import, Manner, Merging};
 use msipkg_checks::CheckOptions;
+use msipkg_cli::{QUERY_USAGE, Verb};
 use msipkg_export::{FileFormat, Target};
-use msipkg_looks::{Form, Format, Look, Query};
-use msipkg_output::RowFormat;
+use msipkg_format::RowFormat;
 use msipkg_packages::Folder;
-use msipkg_words::{QUERY_USAGE, Verb};
+use msipkg_show::{Form, Format, Look, Query};
 
 /// A command.
 #[derive(Clone, Copy)]

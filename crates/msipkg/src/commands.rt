@@ -7,11 +7,10 @@ use crate::looking::look_at_each;
 use clap::ArgMatches;
 use clap::error::ErrorKind;
 use msipkg_changes::{Change, change_file, create_file, read_script};
+use msipkg_cli::{matches_of, verb_named};
 use msipkg_diff::compare_files;
-use msipkg_output::{Failure, Output, System};
+use msipkg_format::{Failure, Output, Shown, Style, System};
 use msipkg_packages::Purpose;
-use msipkg_texts::{Shown, Style};
-use msipkg_words::{matches_of, verb_named};
 
 /// The exit status where the reader of the output has gone away: that of a program which the signal for it ended.
 const CLOSED: u8 = 141;

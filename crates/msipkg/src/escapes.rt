@@ -1,10 +1,9 @@
 //! Which characters a command prints as escapes.
 
 use clap::ArgMatches;
-use msipkg_looks::Format;
-use msipkg_output::RowFormat;
-use msipkg_texts::Escapes;
-use msipkg_words::Verb;
+use msipkg_cli::Verb;
+use msipkg_format::{Escapes, RowFormat};
+use msipkg_show::Format;
 
 /// Returns what a command prints as escapes. JSON and CSV have escapes or quotes of their own.
 pub(crate) fn escapes_of(verb: Verb, given: &ArgMatches<'_>, is_terminal: bool) -> Escapes {

@@ -6,9 +6,9 @@ use crate::commands::{report, with_input};
 use msipkg_changes::mend_counts;
 use msipkg_checks::check_file;
 use msipkg_export::{export, export_line};
-use msipkg_looks::{LastNames, Look, check_query, print_query, show};
-use msipkg_output::{Failure, Output, System, failure_json};
+use msipkg_format::{Failure, Output, System, failure_json};
 use msipkg_packages::Purpose;
+use msipkg_show::{LastNames, Look, check_query, print_query, show};
 use std::alloc::Global;
 
 /// Looks at each file, and returns the greatest of their exit statuses. As JSON each file has one line, with its error

@@ -8,7 +8,7 @@ mod commands;
 mod escapes;
 mod looking;
 
-use msipkg_output::{Output, System};
+use msipkg_format::{Output, System};
 use std::io::IsTerminal;
 use std::process::ExitCode;
 use std::{env, io};

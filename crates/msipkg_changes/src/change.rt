@@ -9,10 +9,10 @@ use crate::statements::{carry_out_statements, check_statements};
 use crate::storing::store;
 use crate::streams::{add_streams, remove_parts};
 use crate::validation::Before;
+use msipkg_format::Style;
 use msipkg_packages::msi::Package;
 use msipkg_packages::output::{Failure, Opened, Output, System};
 use msipkg_packages::{Claim, FileState, PackageFile, open_to_change};
-use msipkg_texts::Style;
 use std::alloc::Global;
 
 /// A change of a package.

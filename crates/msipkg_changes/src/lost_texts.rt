@@ -1,9 +1,9 @@
 //! Texts of a package that its code pages can't hold: none is written, since it would read back as another.
 
+use msipkg_format::Shown;
 use msipkg_packages::msi::{CodePage, Error, Package, Rows, SummaryInfo, Table, ValueView};
 use msipkg_packages::output::{Cause, Failure, Opened, PROPERTIES};
 use msipkg_packages::{cell_text, property_text, rows_of};
-use msipkg_texts::Shown;
 use std::alloc::{AllocError, Global};
 
 /// Returns why no bytes were made of a package: the first text that wouldn't read back, with its place, if that is why.

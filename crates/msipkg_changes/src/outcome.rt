@@ -1,8 +1,8 @@
 //! What a change did, which is said once the file is written.
 
 use crate::validation::Added;
+use msipkg_format::{JsonObject, Shown, Style};
 use msipkg_packages::output::Output;
-use msipkg_texts::{JsonObject, Shown, Style};
 use std::alloc::{AllocError, Global};
 
 /// What a statement did, and to how many rows.

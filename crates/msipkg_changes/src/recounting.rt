@@ -5,10 +5,10 @@ use crate::emptying::empty_texts;
 use crate::outcome::{Outcome, note_mended};
 use crate::pages::recode;
 use crate::storing::store;
+use msipkg_format::Shown;
 use msipkg_packages::msi::{ErrorKind, Package};
 use msipkg_packages::output::{Failure, Opened, Output, System};
 use msipkg_packages::{Claim, PackageFile, open_to_change};
-use msipkg_texts::Shown;
 use std::alloc::Global;
 
 /// A table that is never dropped: the package says so, unless its counts are too low, which it says first.

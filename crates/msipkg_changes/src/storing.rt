@@ -2,12 +2,12 @@
 
 use crate::change::Manner;
 use crate::lost_texts::refusal;
+use msipkg_format::Shown;
 use msipkg_packages::msi::Package;
 use msipkg_packages::output::{Failure, Opened, Output, System};
 use msipkg_packages::{
     Claim, FileBytes, FileState, bytes_to_write, named_page, replace_package, verified,
 };
-use msipkg_texts::Shown;
 use std::alloc::Global;
 
 /// Replaces a file by a changed package, and leaves it alone if nothing was changed. `errors` gets a line if a

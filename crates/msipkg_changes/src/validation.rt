@@ -2,10 +2,10 @@
 //! made anew as one that has it.
 
 use crate::streams::fill_stream;
+use msipkg_format::Shown;
 use msipkg_packages::msi::{Column, Error, Insert, Package, Row, Table, Value};
 use msipkg_packages::output::{Failure, Opened, Output, System};
 use msipkg_packages::{TableNames, is_list, new_package, rows_of};
-use msipkg_texts::Shown;
 use std::alloc::{AllocError, Global};
 use std::mem;
 

@@ -7,10 +7,10 @@ use crate::streams::check_streams;
 use crate::unlisted::check_unlisted;
 use crate::validation::check_validation;
 use crate::values::check_values;
+use msipkg_format::Style;
 use msipkg_packages::msi::Package;
 use msipkg_packages::output::{Failure, Opened, Output, System};
 use msipkg_packages::{Looked, PackageFile, TableNames, open_to_look};
-use msipkg_texts::Style;
 use std::alloc::Global;
 
 /// How findings are printed.

@@ -2,8 +2,8 @@
 
 use crate::check::CheckOptions;
 use crate::shown::Cut;
+use msipkg_format::{JsonObject, write_quoted, write_text};
 use msipkg_packages::output::{Failure, Output};
-use msipkg_texts::{JsonObject, write_quoted, write_text};
 use std::alloc::Global;
 use std::{fmt, mem};
 

@@ -1,7 +1,7 @@
 //! Texts, values and rows as findings show them: with escapes, and long texts cut.
 
+use msipkg_format::Shown;
 use msipkg_packages::msi::{Column, Rows, ValueView};
-use msipkg_texts::Shown;
 use std::alloc::{AllocError, Global};
 use std::fmt::{self, Display};
 

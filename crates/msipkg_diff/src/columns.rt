@@ -2,9 +2,9 @@
 
 use crate::difference::{Change, Content, Difference, Member};
 use crate::report::Report;
+use msipkg_format::quoted;
 use msipkg_packages::msi::{Column, Table};
 use msipkg_packages::output::ColumnTypeText;
-use msipkg_texts::quoted;
 use std::alloc::{AllocError, Global};
 
 /// Compares the columns of two tables by their places if they have the same names in the same order, as a table of

@@ -4,10 +4,10 @@ use crate::facts::{compare_kinds, compare_summaries};
 use crate::report::Report;
 use crate::streams::compare_streams;
 use crate::tables::compare_tables;
+use msipkg_format::Style;
 use msipkg_packages::msi::{CodePage, Package};
 use msipkg_packages::output::{Failure, Opened, Output, System};
 use msipkg_packages::{PackageFile, StoredStreams, file_page, open_package, stored_streams};
-use msipkg_texts::Style;
 use std::alloc::Global;
 
 /// A package that is compared.

@@ -1,8 +1,8 @@
 //! A difference between two packages, as lines and as JSON.
 
+use msipkg_format::{JsonObject, Style};
 use msipkg_packages::msi::Value;
 use msipkg_packages::output::Output;
-use msipkg_texts::{JsonObject, Style};
 use std::alloc::Global;
 use std::fmt::{self, Display};
 

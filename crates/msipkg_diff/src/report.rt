@@ -1,8 +1,8 @@
 //! The differences as they are found: printed as lines, or as one line of JSON.
 
 use crate::difference::{Difference, difference_json, print_lines};
+use msipkg_format::{JsonObject, Style, write_quoted, write_text};
 use msipkg_packages::output::{Failure, Output};
-use msipkg_texts::{JsonObject, Style, write_quoted, write_text};
 use std::alloc::{AllocError, Global};
 
 /// Where differences are printed.

@@ -4,13 +4,13 @@ use crate::diff::Compared;
 use crate::difference::{Change, Content, Difference, Member};
 use crate::numbering::{Texts, content_of, numbered_rows};
 use crate::report::Report;
-use msi_compare::{Difference as RowDifference, differences};
+use msi_table::{Difference as RowDifference, differences};
+use msipkg_format::Shown;
 use msipkg_packages::msi::{
     Column, Error, Items, Package, Row, Rows, Select, Table, Value, ValueView,
 };
 use msipkg_packages::null_cells_of;
 use msipkg_packages::output::{Failure, NullCells, Opened, push_key};
-use msipkg_texts::Shown;
 use std::alloc::{AllocError, Global};
 use std::cmp::Ordering;
 

@@ -5,13 +5,13 @@ use crate::csv_tables::{export_csv, write_csv};
 use crate::json_packages::write_package;
 use crate::losses::{note_losses, note_unlisted};
 use crate::table_archives::print_archive;
+use msipkg_format::{Escapes, Shown, Style};
 use msipkg_packages::msi::{Package, Table};
 use msipkg_packages::output::{Failure, Opened, Output, RowFormat, RowPrinting, System, at_file};
 use msipkg_packages::{
     Folder, Looked, PackageFile, TableNames, is_list, open_output, open_package, open_to_look,
     rows_of, table_named,
 };
-use msipkg_texts::{Escapes, Shown, Style};
 use std::alloc::Global;
 
 /// How a file is written: as it is.

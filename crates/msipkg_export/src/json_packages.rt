@@ -1,12 +1,12 @@
 //! Packages as JSON on one line: the summary, the tables with the types of their columns, and the streams.
 
 use base64::engine::general_purpose::STANDARD;
+use msipkg_format::{JsonObject, Style, write_quoted, write_text};
 use msipkg_packages::msi::{Error, Package, Rows, SummaryInfo, Table};
 use msipkg_packages::output::{
     Failure, JsonRow, NullCells, Opened, Output, PROPERTIES, put_columns,
 };
 use msipkg_packages::{chosen_tables, kind_name, null_cells_of, property_text, rows_of};
-use msipkg_texts::{JsonObject, Style, write_quoted, write_text};
 use std::alloc::{AllocError, Global};
 
 /// How many bytes of a stream are written at a time. Three of them are four signs, so that the pieces join.

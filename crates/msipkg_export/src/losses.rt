@@ -1,10 +1,10 @@
 //! What an export loses of a package, each with a line that says so.
 
 use crate::exporting::FileFormat;
+use msipkg_format::Shown;
 use msipkg_packages::msi::{Column, ColumnType, Package, Table};
 use msipkg_packages::output::{Failure, Opened, Output};
 use msipkg_packages::{TableNames, chosen_tables};
-use msipkg_texts::Shown;
 use std::alloc::Global;
 
 /// Writes a line for each column of the exported tables of which a text archive doesn't say that it is localizable.

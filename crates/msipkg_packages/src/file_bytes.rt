@@ -2,17 +2,16 @@
 
 ghost use Rattle.std.specs.Prelude.{◌≡◌, ◌⊎◌, ◌++◌, ◌||◌, Err, IfErr, IfOk, IfSome, IsErrOf, IsOk, Ok, OnOk};
 ghost use Rattle.std.specs.Prelude.{false, is_some, true};
-ghost use Rattle.msi_text_base.specs.Refusals.{AnswersFirst, IsRefusal};
-ghost use Rattle.msi_text_base.specs.declared.errors.ErrorKind.TheVariants.{InvalidInput, OutOfMemory};
+ghost use Rattle.msi_base.specs.Refusals.{AnswersFirst, IsRefusal};
+ghost use Rattle.msi_base.specs.declared.errors.ErrorKind.TheVariants.{InvalidInput, OutOfMemory};
 ghost use Rattle.msi.specs.Meaning.{OpensTo};
 ghost use Rattle.msi.specs.Runs.{TextsAreWritable};
 ghost use Rattle.msi.specs.State.{State, parts_of};
 ghost use Rattle.msi.specs.Steps.{image_of, storage_refusal, text_refusals};
 
-use crate::reasons;
+use crate::output::{Failure, Opened, System};
+use crate::{Claim, page_in, reasons, replace_file, write_file};
 use msi::{Error, ErrorKind, Memory, Package};
-use msipkg_files::output::{Failure, Opened, System};
-use msipkg_files::{Claim, page_in, replace_file, write_file};
 use std::alloc::Global;
 use std::marker::Model;
 

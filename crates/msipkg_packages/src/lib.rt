@@ -2,29 +2,43 @@
 //! as texts.
 #![tactic(auto)]
 
+pub mod claim;
 pub mod file_bytes;
+pub mod folder;
+pub mod kinds;
+pub mod making;
+mod named_pages;
 pub mod null_streams;
 pub mod opening;
 pub mod partial;
 mod reasons;
+pub mod recoding;
+pub mod replacing;
 pub mod stored;
 pub mod summary_texts;
 pub mod tables;
 pub mod unlisted;
+pub mod without_summary;
 
-// For the crates above, which so have one way to it: the rt of some kits goes down every path between two crates.
+pub use claim::Claim;
 pub use file_bytes::{
     FileBytes, bytes_to_write, named_page, replace_package, verified, write_package,
 };
+pub use folder::Folder;
+pub use kinds::{check_kind, check_way};
+pub use making::{NewFile, open_new, open_output, write_file};
 pub use msi;
-pub use msipkg_files::{
-    Claim, Folder, NewFile, PackageFile, Purpose, check_kind, check_way, file_page, open_new,
-    open_output, output,
-};
+pub use msipkg_format as output;
 pub use null_streams::{StreamColumn, has_null_streams, null_cells_in, null_cells_of};
 pub use opening::{FileState, kind_name, new_package, open_package, open_to_change};
 pub use partial::{Looked, open_to_look};
+pub use recoding::{
+    PackageFile, Purpose, Recoded, file_page, has_page_zero, page_in, recoded_by_page,
+    recoded_instead,
+};
+pub use replacing::replace_file;
 pub use stored::{StoredStreams, stored_streams, stream_bytes};
 pub use summary_texts::{property_text, uuid_text};
 pub use tables::{cell_text, chosen_tables, is_list, rows_of, table_named};
 pub use unlisted::TableNames;
+pub use without_summary::{note_summary, without_summary};

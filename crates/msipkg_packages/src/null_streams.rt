@@ -1,9 +1,9 @@
 //! Which cells of columns of streams are null. A cell doesn't record it: rows have a stream there, whatever is stored.
 //! So a cell is null if its column takes null and the package has no stream of its row's name, such as `Icon.App`.
 
+use crate::output::{Failure, NullCells, Opened, stream_name_by};
 use crate::tables::rows_of;
 use msi::{Column, ColumnType, Package, Rows, Table};
-use msipkg_files::output::{Failure, NullCells, Opened, stream_name_by};
 use std::alloc::{AllocError, Global};
 
 /// A column of streams, among the columns of rows, whose cells may be null.

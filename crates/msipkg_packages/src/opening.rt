@@ -1,8 +1,8 @@
 //! Opening the package of a file.
 
+use crate::output::{Carrier, Failure, Opened, Origin, Output, System};
+use crate::{PackageFile, Recoded, has_page_zero, recoded_by_page, recoded_instead};
 use msi::{Error, Memory, Package, PackageType};
-use msipkg_files::output::{Carrier, Failure, Opened, Origin, Output, System};
-use msipkg_files::{PackageFile, Recoded, has_page_zero, recoded_by_page, recoded_instead};
 use std::alloc::Global;
 use std::io::Cursor;
 

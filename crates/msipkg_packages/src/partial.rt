@@ -1,9 +1,9 @@
 //! Packages that are looked at as far as they can be read.
 
 use crate::opening::{open_bytes, open_package};
+use crate::output::{Failure, Opened, Output, System};
+use crate::{PackageFile, note_summary, without_summary};
 use msi::Package;
-use msipkg_files::output::{Failure, Opened, Output, System};
-use msipkg_files::{PackageFile, note_summary, without_summary};
 
 /// A package that is looked at.
 pub struct Looked {

@@ -1,7 +1,7 @@
 //! The properties of a summary as texts, as the installer's table `_SummaryInformation` has them.
 
+use crate::output::TimeText;
 use msi::{Error, HasUuid, SummaryInfo, Timestamp};
-use msipkg_files::output::TimeText;
 use std::alloc::{AllocError, Global};
 use uuid::Uuid;
 

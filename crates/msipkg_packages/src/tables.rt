@@ -1,7 +1,7 @@
 //! The tables that a command is about.
 
+use crate::output::{Failure, Opened, push_key};
 use msi::{Error, Package, Rows, Select, Table, ValueView};
-use msipkg_files::output::{Failure, Opened, push_key};
 use std::alloc::{AllocError, Global};
 
 /// Returns whether a table only lists what the others are.

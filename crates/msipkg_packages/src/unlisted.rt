@@ -1,8 +1,8 @@
 //! Tables whose rows a file has in a stream, although `_Tables` doesn't list them.
 
+use crate::output::{Failure, Opened, System};
 use msi::compound::{self, Sizes};
 use msi::{Error, ErrorKind, Package, streamname};
-use msipkg_files::output::{Failure, Opened, System};
 use std::alloc::{AllocError, Global};
 use std::collections::BTreeSet;
 use std::fs;

@@ -3,9 +3,9 @@
 use crate::near::near_text;
 use crate::pieces::{Piece, has_kind, is_at, table_at};
 use msi_query_tokens::token::Kind;
+use msipkg_format::Shown;
 use msipkg_packages::msi::{Package, Table};
 use msipkg_packages::output::Opened;
-use msipkg_texts::Shown;
 use std::alloc::{AllocError, Global};
 
 pub(crate) fn table_fault(

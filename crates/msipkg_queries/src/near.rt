@@ -1,6 +1,6 @@
 //! The name that was meant.
 
-use msipkg_texts::Shown;
+use msipkg_format::Shown;
 use std::alloc::{AllocError, Global};
 use strsim::osa_distance;
 

@@ -4,8 +4,8 @@ use crate::comparing::{is_operator, operand_end};
 use crate::pieces::{Piece, has_kind, table_at};
 use crate::showing::said;
 use msi_query_tokens::token::Kind;
+use msipkg_format::Shown;
 use msipkg_packages::output::Failure;
-use msipkg_texts::Shown;
 use std::alloc::Global;
 
 /// Refuses a text in double quotes that has a backslash, as a path does.

@@ -1,8 +1,8 @@
 //! What messages say of values.
 
+use msipkg_format::Shown;
 use msipkg_packages::msi::Value;
 use msipkg_packages::output::{Cause, Failure};
-use msipkg_texts::Shown;
 use std::alloc::{AllocError, Global};
 
 /// How many characters of a text are shown at most.

@@ -5,8 +5,8 @@ use crate::showing::shown_value;
 use msi_query_tokens::texts;
 use msi_query_tokens::token::Kind;
 use msi_query_tokens::tokens::Tokens;
+use msipkg_format::Shown;
 use msipkg_packages::msi::{Column, ParseError, Table, Value};
-use msipkg_texts::Shown;
 use std::alloc::{AllocError, Global};
 
 pub(crate) fn insert_fault(

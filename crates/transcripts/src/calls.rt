@@ -2,12 +2,11 @@
 
 use crate::session::Session;
 use crate::{changes, commands, looks, packages, statements, summary};
-use transcripts_values::calls;
 use transcripts_words::answers::Answer;
 use transcripts_words::failure::Failure;
-use transcripts_words::files;
 use transcripts_words::tokens::tokens;
 use transcripts_words::words::Words;
+use transcripts_words::{calls, files};
 
 pub(crate) fn make(
     rt: &HostRuntime,

@@ -3,9 +3,9 @@
 use crate::counting::Counting;
 use crate::summary;
 use msi::{Error, Insert, Package};
-use transcripts_values::columns::columns;
-use transcripts_values::texts::codepage;
-use transcripts_values::values::rows;
+use transcripts_words::columns::columns;
+use transcripts_words::texts::codepage;
+use transcripts_words::values::rows;
 use transcripts_words::words::Words;
 
 /// The names of these calls.

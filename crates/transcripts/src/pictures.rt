@@ -5,9 +5,9 @@ use crate::session::Session;
 use msi::{Package, Select, Streams, Table};
 use std::alloc::Global;
 use std::io::Read;
-use transcripts_values::rows::print_rows;
 use transcripts_words::answers::Answer;
 use transcripts_words::failure::Failure;
+use transcripts_words::rows::print_rows;
 
 /// Returns all that the package of a session answers, and the bytes that a flush would write; none if there is no
 /// package.

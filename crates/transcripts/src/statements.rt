@@ -4,10 +4,10 @@ use crate::counting::Counting;
 use crate::session::Session;
 use msi::{Error, Expr, Package, Parse, Rows, Statement};
 use std::alloc::Global;
-use transcripts_values::parsing::print_refusal;
-use transcripts_values::rows::{print_names, print_rows, print_values, print_worths};
 use transcripts_words::answers::Answer;
 use transcripts_words::failure::Failure;
+use transcripts_words::parsing::print_refusal;
+use transcripts_words::rows::{print_names, print_rows, print_values, print_worths};
 
 /// The words that such a call begins with.
 pub(crate) static VERBS: [&str; 8] = [

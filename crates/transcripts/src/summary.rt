@@ -2,10 +2,10 @@
 
 use msi::{Error, FromUuid, HasUuid, SummaryInfo, Value};
 use std::alloc::AllocError;
-use transcripts_values::texts::{codepage, ticks};
-use transcripts_values::values::languages;
 use transcripts_words::answers::Answer;
 use transcripts_words::failure::Failure;
+use transcripts_words::texts::{codepage, ticks};
+use transcripts_words::values::languages;
 use transcripts_words::words::Words;
 use uuid::Uuid;
 

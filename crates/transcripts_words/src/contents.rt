@@ -4,9 +4,12 @@ use crate::answers::Answer;
 use crate::failure::Failure;
 use crate::kept::{Kept, pieces, print_few};
 use crate::words::Words;
-use msi_container::compound::{self, Bytes, Contents, Name, Steps, StreamMap};
-use msi_container::streamname;
-use msi_text_base::{Error, ErrorKind};
+use msi_base::{Error, ErrorKind};
+use msi_container_format::contents::{Bytes, Contents, StreamMap};
+use msi_container_format::name::Name;
+use msi_container_format::streamname;
+use msi_container_read::{Steps, read, read_counted};
+use msi_container_write::write;
 use std::alloc::{AllocError, Global};
 
 /// The CLSID of an installer package.
@@ -25,7 +28,7 @@ pub(crate) fn written(words: &mut Words) -> Result<Vec<u8>, Error> {
         streams,
         has_storages,
     };
-    compound::write(words.alloc, &contents, over)
+    write(words.alloc, &contents, over)
 }
 
 fn streams(words: &mut Words) -> Result<StreamMap, Error> {
@@ -65,7 +68,7 @@ pub(crate) fn stream_of_table(
     table: &str,
 ) -> Result<Vec<u8>, Failure> {
     let key = table_key(alloc, table)?;
-    let contents = compound::read(alloc, bytes)?;
+    let contents = read(alloc, bytes)?;
     match contents.streams.get(&key) {
         Some(stream) => Ok(Vec::from_slice(alloc, stream.as_slice())?),
         None => Err(Failure::Unreadable("the table has no stream")),
@@ -89,9 +92,9 @@ pub(crate) fn changed(
     bytes: &[u8],
     words: &mut Words,
 ) -> Result<Vec<u8>, Failure> {
-    let mut contents = compound::read(words.alloc, bytes)?;
+    let mut contents = read(words.alloc, bytes)?;
     change(kept, verb, &mut contents, words)?;
-    Ok(compound::write(words.alloc, &contents, 0)?)
+    Ok(write(words.alloc, &contents, 0)?)
 }
 
 fn change(
@@ -129,7 +132,7 @@ pub(crate) fn print_read(
 ) -> Result<(), Failure> {
     let most = words.count_behind("within", usize::MAX);
     let mut steps = Steps::new();
-    let outcome = compound::read_counted(words.alloc, bytes, &mut steps);
+    let outcome = read_counted(words.alloc, bytes, &mut steps);
     if steps.count() > most as u64 {
         return Err(Failure::Unreadable("there are more steps"));
     }
@@ -156,7 +159,7 @@ fn print_streams(alloc: Global, answer: &mut Answer, streams: &StreamMap) -> Res
 }
 
 pub(crate) fn print_names(alloc: Global, answer: &mut Answer, bytes: &[u8]) -> Result<(), Failure> {
-    let contents = compound::read(alloc, bytes)?;
+    let contents = read(alloc, bytes)?;
     for (name, _) in contents.streams.iter() {
         writeln!(answer, "{:?}", name.to_text(alloc)?.as_str());
     }
@@ -174,7 +177,7 @@ pub(crate) fn refused_beginnings(alloc: Global, bytes: &[u8]) -> usize {
 }
 
 fn is_invalid(alloc: Global, bytes: &[u8]) -> bool {
-    match compound::read(alloc, bytes) {
+    match read(alloc, bytes) {
         Ok(_contents) => false,
         Err(error) => error.kind() == ErrorKind::InvalidData,
     }

@@ -1,6 +1,6 @@
 //! Why a call gives no answer of its own.
 
-use msi_text_base::{Error, ErrorKind};
+use msi_base::{Error, ErrorKind};
 use std::alloc::{AllocError, AllocFailed};
 use std::{fmt, io};
 

@@ -2,12 +2,18 @@
 #![tactic(auto)]
 
 pub mod answers;
+pub mod calls;
+pub mod columns;
 pub mod containers;
 mod contents;
 pub mod failure;
 pub mod files;
 pub mod kept;
 pub mod lines;
+pub mod parsing;
 pub mod reports;
+pub mod rows;
+pub mod texts;
 pub mod tokens;
+pub mod values;
 pub mod words;

@@ -1,13 +1,13 @@
 //! The columns and the condition of a query for rows.
 
 ghost use Rattle.std.specs.Prelude.{◌≡◌, ◌==◌, ◌&&◌, IfOk, IfErr, is_none, length, option_copied};
-ghost use Rattle.msi_text_base.specs.declared.errors.ErrorKind.TheVariants.{OutOfMemory};
+ghost use Rattle.msi_base.specs.declared.errors.ErrorKind.TheVariants.{OutOfMemory};
 ghost use Rattle.msi_query.specs.Queries.{narrowed as narrowed_by, no_clauses};
 
 use super::narrowed;
+use msi_base::errors::Error;
+use msi_base::text::{Items, Text};
 use msi_query_expressions::Expr;
-use msi_text_base::errors::Error;
-use msi_text_base::text::{Items, Text};
 use std::alloc::Global;
 use std::marker::Model;
 

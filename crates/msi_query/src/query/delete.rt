@@ -1,7 +1,7 @@
 //! Queries that take rows out.
 
 ghost use Rattle.std.specs.Prelude.{◌≡◌, IfOk, IfErr, None};
-ghost use Rattle.msi_text_base.specs.declared.errors.ErrorKind.TheVariants.{OutOfMemory};
+ghost use Rattle.msi_base.specs.declared.errors.ErrorKind.TheVariants.{OutOfMemory};
 ghost use Rattle.msi_query.specs.Queries.{narrowed as narrowed_by};
 ghost use Rattle.msi_query.specs.QueryTexts.{delete_text};
 ghost use Rattle.msi_query.specs.Utf8Queries.{IsUtf8Delete};
@@ -9,10 +9,10 @@ ghost use Rattle.msi_query.specs.Utf8Queries.{IsUtf8Delete};
 use super::narrowed;
 use super::printing::{write_condition, write_named};
 use super::texts::look_at_condition;
+use msi_base::errors::Error;
+use msi_base::laws::texts_are_utf8;
+use msi_base::text::{IntoText, Text};
 use msi_query_expressions::Expr;
-use msi_text_base::errors::Error;
-use msi_text_base::laws::texts_are_utf8;
-use msi_text_base::text::{IntoText, Text};
 use std::alloc::Global;
 use std::fmt;
 use std::marker::Model;

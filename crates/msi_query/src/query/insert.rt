@@ -2,16 +2,16 @@
 
 ghost use Rattle.std.specs.Prelude.{◌≡◌, ◌++◌, ◌∷◌, [], IfOk, IfErr, OnOk, map};
 ghost use Rattle.std.specs.Fmt.{DisplaysOnOk};
-ghost use Rattle.msi_text_base.specs.declared.errors.ErrorKind.TheVariants.{OutOfMemory};
+ghost use Rattle.msi_base.specs.declared.errors.ErrorKind.TheVariants.{OutOfMemory};
 ghost use Rattle.msi_query.specs.QueryTexts.{insert_text, row_text, rows_text};
 ghost use Rattle.msi_query.specs.Utf8Queries.{IsUtf8Insert};
 
 use super::printing::{write_list, write_named};
 use super::texts::look_at_rows;
+use msi_base::errors::Error;
+use msi_base::laws::texts_are_utf8;
+use msi_base::text::{IntoText, Items, Text};
 use msi_table_values::value::Value;
-use msi_text_base::errors::Error;
-use msi_text_base::laws::texts_are_utf8;
-use msi_text_base::text::{IntoText, Items, Text};
 use std::alloc::Global;
 use std::fmt;
 use std::marker::Model;

@@ -5,9 +5,9 @@ ghost use Rattle.std.specs.Fmt.{DisplaysOnOk};
 ghost use Rattle.msi_query_tokens.specs.Names.{name_text};
 ghost use Rattle.msi_query.specs.QueryTexts.{listed, where_text};
 
+use msi_base::text::Text;
 use msi_query_expressions::Expr;
 use msi_query_tokens::names::write_name;
-use msi_text_base::text::Text;
 use std::fmt;
 
 pub(crate) fn write_list<T: fmt::Display, W: fmt::Write>(

@@ -2,7 +2,7 @@
 
 ghost use Rattle.std.specs.Prelude.{◌≡◌, ◌++◌, IfOk, IfErr, List, ℕ, Some, codes, map, option_copied};
 ghost use Rattle.std.specs.Fmt.{DisplaysOnOk, ◌++?◌};
-ghost use Rattle.msi_text_base.specs.declared.errors.ErrorKind.TheVariants.{OutOfMemory};
+ghost use Rattle.msi_base.specs.declared.errors.ErrorKind.TheVariants.{OutOfMemory};
 ghost use Rattle.msi_query.specs.Queries.{table, join, no_clauses, narrowed_query, projected_query};
 ghost use Rattle.msi_query.specs.QueryTexts.{bare_name, columns_text, join_word, query_text, side_text};
 ghost use Rattle.msi_query.specs.QueryTrees.{query_of};
@@ -12,11 +12,11 @@ use super::JoinKind;
 use super::clauses::Clauses;
 use super::printing::{write_condition, write_name_list};
 use super::texts::look_at_tree;
+use msi_base::errors::Error;
+use msi_base::text::{IntoText, Text};
 use msi_query_expressions::Expr;
 use msi_query_tokens::names::write_name;
 use msi_table_values::parts::copied_list;
-use msi_text_base::errors::Error;
-use msi_text_base::text::{IntoText, Text};
 use std::alloc::Global;
 use std::fmt;
 use std::marker::Model;

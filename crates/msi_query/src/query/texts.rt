@@ -10,11 +10,11 @@ ghost use Rattle.msi_query.specs.Utf8Queries.{IsUtf8Clauses, IsUtf8Condition, Is
 use super::clauses::Clauses;
 use super::insert::NewRow;
 use super::select::SelectTree;
+use msi_base::laws::texts_are_utf8;
 use msi_query_expressions::Expr;
 use msi_query_expressions::laws::expression_texts_are_utf8;
 use msi_query_expressions::parts::Assignment;
 use msi_table_values::laws::{listed_texts_are_utf8, listed_values_are_utf8, value_texts_are_utf8};
-use msi_text_base::laws::texts_are_utf8;
 
 pub(crate) fn look_at_condition(condition: Option<&Expr>)
     ensures { IsUtf8Condition (option_copied condition.entry) }

@@ -2,7 +2,7 @@
 
 ghost use Rattle.std.specs.Prelude.{◌≡◌, ◌++◌, ◌∷◌, [], IfOk, IfErr, None};
 ghost use Rattle.std.specs.Fmt.{DisplaysOnOk};
-ghost use Rattle.msi_text_base.specs.declared.errors.ErrorKind.TheVariants.{OutOfMemory};
+ghost use Rattle.msi_base.specs.declared.errors.ErrorKind.TheVariants.{OutOfMemory};
 ghost use Rattle.msi_query.specs.Queries.{narrowed as narrowed_by};
 ghost use Rattle.msi_query.specs.QueryTexts.{sets_text, update_text};
 ghost use Rattle.msi_query.specs.Utf8Queries.{IsUtf8Update};
@@ -10,12 +10,12 @@ ghost use Rattle.msi_query.specs.Utf8Queries.{IsUtf8Update};
 use super::narrowed;
 use super::printing::{write_condition, write_list, write_named};
 use super::texts::{look_at_condition, look_at_sets};
+use msi_base::errors::Error;
+use msi_base::laws::texts_are_utf8;
+use msi_base::text::{IntoText, Items, Text};
 use msi_query_expressions::Expr;
 use msi_query_expressions::parts::Assignment;
 use msi_table_values::value::Value;
-use msi_text_base::errors::Error;
-use msi_text_base::laws::texts_are_utf8;
-use msi_text_base::text::{IntoText, Items, Text};
 use std::alloc::Global;
 use std::fmt;
 use std::marker::Model;

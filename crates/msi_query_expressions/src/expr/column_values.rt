@@ -5,10 +5,9 @@ ghost use Rattle.msi_table_values.specs.declared.value.Value.{Value as ValueOf};
 ghost use Rattle.msi_table_values.specs.Views.{seen_value};
 ghost use Rattle.msi_query_expressions.specs.Evaluation.{value_at as value_in_row};
 
-use msi_table_rows::parts::value_named;
-use msi_table_rows::row::Row;
-use msi_table_values::parts::ValueView;
-use msi_text_base::text::Text;
+use msi_base::text::Text;
+use msi_table_values::parts::{ValueView, value_named};
+use msi_table_values::row::Row;
 
 /// What gives the values of columns, however a tree names them.
 pub(crate) trait ColumnValues<C> {

@@ -5,9 +5,9 @@ ghost use Rattle.msi_query_expressions.specs.Equated.{column_place as place_of, 
 ghost use Rattle.msi_query_expressions.specs.Trees.{expression_of};
 
 use super::{BinaryOp, Tree};
+use msi_base::text::Text;
 use msi_table_values::column::Column;
 use msi_table_values::parts::column_index;
-use msi_text_base::text::Text;
 
 fn column_place(tree: &Tree<Text>, columns: &[Column]) -> Option<usize>
     ensures { result ≡ place_of columns.now (expression_of tree.now) }

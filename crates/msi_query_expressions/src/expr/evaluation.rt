@@ -1,18 +1,18 @@
 //! The value of a tree on a row.
 
 ghost use Rattle.std.specs.Prelude.{◌≡◌, ◌||◌, IfOk, IfErr, IsErr, IsTrue};
-ghost use Rattle.msi_text_base.specs.declared.errors.ErrorKind.TheVariants.{OutOfMemory};
+ghost use Rattle.msi_base.specs.declared.errors.ErrorKind.TheVariants.{OutOfMemory};
 ghost use Rattle.msi_table_values.specs.Values.{is_true};
-ghost use Rattle.msi_query_operators.specs.Operands.{operand_value};
-ghost use Rattle.msi_query_operators.specs.OperatorValues.{is_sum, binary_value as binary_value_of};
+ghost use Rattle.msi_query_expressions.specs.Operands.{operand_value};
+ghost use Rattle.msi_query_expressions.specs.OperatorValues.{is_sum, binary_value as binary_value_of};
 ghost use Rattle.msi_query_expressions.specs.Trees.{tree_has_sum, tree_value};
 
 use super::column_values::ColumnValues;
 use super::{BinaryOp, Tree};
-use msi_query_operators::parts::{Operand, binary_value, unary_value};
+use crate::parts::{Operand, binary_value, unary_value};
+use msi_base::errors::Error;
 use msi_table_values::parts::ValueView;
 use msi_table_values::value::Value;
-use msi_text_base::errors::Error;
 use std::alloc::Global;
 
 /// No text of the row is copied, except where texts are joined.

@@ -3,7 +3,7 @@
 ghost use Rattle.std.specs.Prelude.{◌≡◌, ◌++◌, List, IfOk, IfErr, IsErr, IsTrue, false, unwrap_or, slice_get};
 ghost use Rattle.std.specs.Prelude.{option_copied};
 ghost use Rattle.std.specs.Option.{option_map_or};
-ghost use Rattle.msi_text_base.specs.declared.errors.ErrorKind.TheVariants.{OutOfMemory};
+ghost use Rattle.msi_base.specs.declared.errors.ErrorKind.TheVariants.{OutOfMemory};
 ghost use Rattle.msi_table_values.specs.declared.value.Value.{Value as ValueOf};
 ghost use Rattle.msi_table_cells.specs.declared.cell.ValueRef.TheVariants as cell;
 ghost use Rattle.msi_table_cells.specs.CellValues.{row_values};
@@ -15,14 +15,14 @@ ghost use Rattle.msi_query_expressions.specs.Trees.{expression_of, tree_has_sum,
 use super::column_values::ColumnValues;
 use super::evaluation::holds;
 use super::{Expr, Tree};
+use msi_base::errors::Error;
+use msi_base::text::Text;
+use msi_pool::stringpool::StringPool;
 use msi_table_cells::cell::ValueRef;
 use msi_table_cells::parts::view_of_cell;
 use msi_table_values::column::Column;
 use msi_table_values::parts::{ValueView, column_index};
 use msi_table_values::value::Value;
-use msi_text_base::errors::Error;
-use msi_text_base::text::Text;
-use msi_text_pool::stringpool::StringPool;
 use std::alloc::Global;
 use std::marker::Model;
 

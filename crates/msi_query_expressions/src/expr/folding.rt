@@ -1,15 +1,15 @@
 //! Trees as they are built: operators over literals alone fold to a literal.
 
 ghost use Rattle.std.specs.Prelude.{◌≡◌, IfOk, IfErr};
-ghost use Rattle.msi_text_base.specs.declared.errors.ErrorKind.TheVariants.{OutOfMemory};
+ghost use Rattle.msi_base.specs.declared.errors.ErrorKind.TheVariants.{OutOfMemory};
 ghost use Rattle.msi_query_expressions.specs.Folding.{folded_unary, folded_binary};
 ghost use Rattle.msi_query_expressions.specs.Trees.{expression_of};
 
 use super::{BinaryOp, Tree, UnaryOp};
-use msi_query_operators::parts::{Operand, binary_value, unary_value};
+use crate::parts::{Operand, binary_value, unary_value};
+use msi_base::errors::Error;
+use msi_base::text::Text;
 use msi_table_values::parts::ValueView;
-use msi_text_base::errors::Error;
-use msi_text_base::text::Text;
 use std::alloc::Global;
 
 pub(crate) fn fold_unary(alloc: Global, op: UnaryOp, tree: Tree<Text>) -> Result<Tree<Text>, Error>

@@ -2,17 +2,17 @@
 
 ghost use Rattle.std.specs.Prelude.{◌≡◌, ◌||◌, IfErr, OnOk, ℕ, List, bytes_eq};
 ghost use Rattle.std.specs.List.{list_any};
-ghost use Rattle.msi_text_base.specs.declared.errors.ErrorKind.TheVariants.{OutOfMemory};
+ghost use Rattle.msi_base.specs.declared.errors.ErrorKind.TheVariants.{OutOfMemory};
 ghost use Rattle.msi_query_expressions.specs.Evaluation.{knows_names as knows_each};
 ghost use Rattle.msi_query_expressions.specs.Expressions.{names_in};
 ghost use Rattle.msi_query_expressions.specs.Names.{has_name};
 ghost use Rattle.msi_query_expressions.specs.Trees.{expression_of};
 
 use super::Tree;
+use msi_base::errors::Error;
+use msi_base::text::Text;
 use msi_table_values::column::Column;
 use msi_table_values::parts::has_column;
-use msi_text_base::errors::Error;
-use msi_text_base::text::Text;
 use std::collections::HashSet;
 
 pub(crate) fn collect_names<'a>(

@@ -7,9 +7,9 @@ ghost use Rattle.msi_query_expressions.specs.Trees.{expression_of};
 ghost use Rattle.msi_query_expressions.specs.Vocabulary.{PrintsAlone};
 
 use crate::expr::{Expr, Tree};
-use msi_query_operators::parts::{operator_level, operator_text, prefix_text, right_operand_level};
+use crate::parts::{operator_level, operator_text, prefix_text, right_operand_level};
+use msi_base::text::Text;
 use msi_query_tokens::names::write_name;
-use msi_text_base::text::Text;
 use std::fmt;
 
 /// The level of what needs no brackets.

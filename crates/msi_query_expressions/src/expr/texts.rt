@@ -4,9 +4,9 @@ ghost use Rattle.msi_query_expressions.specs.Trees.{expression_of};
 ghost use Rattle.msi_query_expressions.specs.Utf8Expressions.{IsUtf8Expression};
 
 use super::{Expr, Tree};
+use msi_base::laws::texts_are_utf8;
+use msi_base::text::Text;
 use msi_table_values::laws::value_texts_are_utf8;
-use msi_text_base::laws::texts_are_utf8;
-use msi_text_base::text::Text;
 
 /// Looks at each text in a tree, which is UTF-8.
 fn look_at(tree: &Tree<Text>)

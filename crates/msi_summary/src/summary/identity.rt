@@ -3,12 +3,12 @@
 
 ghost use Rattle.std.specs.Prelude.{◌≡◌, OnOk, OnErr};
 ghost use Rattle.std.specs.Option.{option_copied};
-ghost use Rattle.msi_text_base.specs.Results.{OnlyMemory};
+ghost use Rattle.msi_base.specs.Results.{OnlyMemory};
 ghost use Rattle.msi_summary_properties.specs.Properties.{without_value};
 ghost use Rattle.msi_summary.specs.Summary.{text_with_id, uuid_id, with_text, without_braces};
 
 use crate::summary::SummaryInfo;
-use msi_text_base::errors::Error;
+use msi_base::errors::Error;
 
 const UUID: u32 = 9;
 

@@ -4,11 +4,11 @@
 ghost use Rattle.std.specs.Prelude.{◌≡◌, [], IfOk, OnOk, OnErr, codes, map, string_bytes};
 ghost use Rattle.std.specs.List.{join_by};
 ghost use Rattle.std.specs.Str.{trim_end};
-ghost use Rattle.msi_text_base.specs.Results.{OnlyMemory};
+ghost use Rattle.msi_base.specs.Results.{OnlyMemory};
 ghost use Rattle.msi_summary.specs.Summary.{keyword_pieces, keywords_in, keywords_of, with_keywords};
 
 use crate::summary::SummaryInfo;
-use msi_text_base::errors::Error;
+use msi_base::errors::Error;
 use std::alloc::Global;
 
 const KEYWORDS: u32 = 5;

@@ -4,16 +4,16 @@
 ghost use Rattle.std.specs.Prelude.{◌≡◌, [], IfOk, OnOk, OnErr, string_bytes, unwrap_or};
 ghost use Rattle.std.specs.Option.{option_copied};
 ghost use Rattle.std.specs.List.{after_first, before_first, filter_map, slice_split};
-ghost use Rattle.msi_text_categories.specs.Numerals.{u16_in};
-ghost use Rattle.msi_text_base.specs.Results.{OnlyMemory};
+ghost use Rattle.msi_categories.specs.Numerals.{u16_in};
+ghost use Rattle.msi_base.specs.Results.{OnlyMemory};
 ghost use Rattle.msi_summary.specs.Summary.{arch_of, is_comma, is_semicolon, languages_of, nonempty, template_of};
 ghost use Rattle.msi_summary.specs.Summary.{with_arch, with_languages, with_template};
 
 use crate::summary::SummaryInfo;
-use msi_text_base::errors::Error;
-use msi_text_base::text::IntoText;
-use msi_text_categories::language::LanguageId;
-use msi_text_categories::parts::language_list;
+use msi_base::errors::Error;
+use msi_base::text::IntoText;
+use msi_categories::language::LanguageId;
+use msi_categories::parts::language_list;
 use std::alloc::Global;
 
 const TEMPLATE: u32 = 7;

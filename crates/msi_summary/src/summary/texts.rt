@@ -3,14 +3,14 @@
 
 ghost use Rattle.std.specs.Prelude.{◌≡◌, OnOk, OnErr};
 ghost use Rattle.std.specs.Option.{option_copied};
-ghost use Rattle.msi_text_base.specs.Results.{OnlyMemory};
+ghost use Rattle.msi_base.specs.Results.{OnlyMemory};
 ghost use Rattle.msi_summary_properties.specs.Properties.{without_value};
 ghost use Rattle.msi_summary.specs.Summary.{text_with_id, text_id, with_text};
 ghost use Rattle.msi_summary.specs.Summary as property;
 
 use crate::summary::SummaryInfo;
-use msi_text_base::errors::Error;
-use msi_text_base::text::IntoText;
+use msi_base::errors::Error;
+use msi_base::text::IntoText;
 
 const TITLE: u32 = 2;
 

@@ -2,14 +2,14 @@
 //! the year 1601. Their names are those of the Windows Installer SDK.
 
 ghost use Rattle.std.specs.Prelude.{◌≡◌, OnOk, OnErr};
-ghost use Rattle.msi_text_base.specs.Results.{OnlyMemory};
+ghost use Rattle.msi_base.specs.Results.{OnlyMemory};
 ghost use Rattle.msi_summary_properties.specs.Properties.{without_value};
 ghost use Rattle.msi_summary.specs.Summary.{time_with_id, time_id, with_time};
 ghost use Rattle.msi_summary.specs.Summary as property;
 
 use crate::summary::SummaryInfo;
-use msi_text_base::errors::Error;
-use msi_text_categories::timestamp::Timestamp;
+use msi_base::errors::Error;
+use msi_categories::timestamp::Timestamp;
 
 const LAST_PRINTED: u32 = 11;
 

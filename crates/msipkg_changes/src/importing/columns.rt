@@ -1,8 +1,8 @@
 //! The columns of tables that are created.
 
 use crate::importing::rules::rule_about;
+use msipkg_import::{GivenColumn, GivenTable};
 use msipkg_packages::msi::{Category, Column, ColumnBuilder, ColumnType, Error, Value};
-use msipkg_reading::{GivenColumn, GivenTable};
 use std::alloc::Global;
 
 /// How many columns are built at most: one more than a table may have, so that one with too many is refused, however

@@ -2,11 +2,11 @@
 
 use crate::importing::rows::{columns_of, package_rows};
 use crate::importing::rules::{VALIDATION, has_category};
+use msipkg_format::Shown;
+use msipkg_import::GivenTable;
 use msipkg_packages::msi::{Category, Column, Package, Row, Value};
 use msipkg_packages::output::{Failure, Opened, Output};
 use msipkg_packages::rows_of;
-use msipkg_reading::GivenTable;
-use msipkg_texts::Shown;
 use std::alloc::{AllocError, Global};
 use std::collections::BTreeMap;
 

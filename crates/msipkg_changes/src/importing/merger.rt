@@ -2,9 +2,9 @@
 
 use crate::importing::Merging;
 use crate::importing::rows::check_row;
+use msipkg_import::GivenTable;
 use msipkg_packages::msi::{Column, Error, Value};
 use msipkg_packages::output::Failure;
-use msipkg_reading::GivenTable;
 use std::alloc::Global;
 use std::collections::BTreeMap;
 

@@ -2,10 +2,10 @@
 //! that the package has no such stream.
 
 use crate::importing::rows::{columns_of, package_row};
+use msipkg_import::GivenTable;
 use msipkg_packages::has_null_streams;
 use msipkg_packages::msi::{Column, ColumnType, Error, Package, Value, ValueView};
 use msipkg_packages::output::{Failure, Opened, push_key};
-use msipkg_reading::GivenTable;
 use std::alloc::{AllocError, Global};
 
 /// Removes the streams of rows for which tables give null. A row for which a table gives a stream in another column

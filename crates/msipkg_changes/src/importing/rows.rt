@@ -1,11 +1,11 @@
 //! Rows that files give, as a package's table has them.
 
-use msi_text_rows::csv_value;
+use msi_csv_json::csv_value;
+use msipkg_import::GivenTable;
 use msipkg_packages::has_null_streams;
 use msipkg_packages::msi::{Column, Error, Package, Value};
 use msipkg_packages::output::{Failure, Opened};
 use msipkg_queries::{near_text, said, shown_value};
-use msipkg_reading::GivenTable;
 use std::alloc::{AllocError, Global};
 
 pub(crate) fn columns_of<'a>(package: &'a Package<Opened>, name: &str) -> &'a [Column] {

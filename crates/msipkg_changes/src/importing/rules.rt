@@ -2,9 +2,9 @@
 
 use crate::importing::rows::package_rows;
 pub(crate) use crate::validation::VALIDATION;
+use msipkg_import::GivenTable;
 use msipkg_packages::msi::{Category, Column, Value};
 use msipkg_packages::output::Failure;
-use msipkg_reading::GivenTable;
 use std::alloc::Global;
 
 /// Returns the rows of `_Validation` among tables, with values for the columns that it has in the package. A value that

@@ -8,9 +8,9 @@ use crate::importing::merger::merged_rows;
 use crate::importing::rows::{check_rows, columns_of, package_rows};
 use crate::importing::rules::{VALIDATION, rules_of};
 use crate::validation::{add_validation, copied_rows};
+use msipkg_import::GivenTable;
 use msipkg_packages::msi::{Delete, Error, Insert, Package, Value};
 use msipkg_packages::output::{Failure, Opened};
-use msipkg_reading::GivenTable;
 use std::alloc::Global;
 
 /// Adds tables with their rows. Rows of `_Validation` say more of columns, and aren't stored themselves. All tables are

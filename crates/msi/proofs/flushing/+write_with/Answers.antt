@@ -1,6 +1,6 @@
 use Rattle.std.proofs.Common.{◌∙◌, rules}
 use Rattle.std.specs.Vec.Iter.{into_iter_items}
-use Rattle.msi_streams.specs.Renewing.{with_renewed}
+use Rattle.msi.specs.Renewing.{with_renewed}
 use Rattle.msi.specs.Flushing.{root_contents, told}
 use Rattle.msi.proofs.FaultLemmas.{memory_faultless}
 use Rattle.msi.proofs.OverwritingLemmas.{memory_early}

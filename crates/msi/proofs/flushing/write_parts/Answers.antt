@@ -1,11 +1,11 @@
 use Rattle.std.proofs.Common.{◌≡◌, Some, refl, rules, subst}
 use Rattle.std.specs.Vec.Iter.{into_iter_items}
-use Rattle.msi_text_base.specs.declared.errors.ErrorKind.TheVariants.{InvalidInput}
-use Rattle.msi_text_pool_base.specs.Pool.{Pool, unindexed}
-use Rattle.msi_text_base.specs.Refusals.{AnswersFirst, IsRefusal, or_refused}
-use Rattle.msi_text_base.proofs.RefusalLemmas.{accepted_first, first_passed}
+use Rattle.msi_base.specs.declared.errors.ErrorKind.TheVariants.{InvalidInput}
+use Rattle.msi_pool_places.specs.Pool.{Pool, unindexed}
+use Rattle.msi_base.specs.Refusals.{AnswersFirst, IsRefusal, or_refused}
+use Rattle.msi_base.proofs.RefusalLemmas.{accepted_first, first_passed}
 use Rattle.msi_database_storage.specs.Streams.{Streams}
-use Rattle.msi_streams.specs.Renewing.{renewed_over, text_refusals, with_renewed}
+use Rattle.msi.specs.Renewing.{renewed_over, text_refusals, with_renewed}
 use Rattle.msi.specs.Flushing.{Overwrites, root_contents, told, unwritten_of}
 use Rattle.msi.proofs.FaultLemmas.{passed_faultless, unwritten_faultless}
 use Rattle.msi.proofs.FlushStepLemmas.{flush_refused_as, flush_written, left_streams, over_cleared}

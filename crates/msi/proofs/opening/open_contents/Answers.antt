@@ -1,5 +1,5 @@
 use Rattle.std.proofs.Common.{ap}
-use Rattle.msi_text_pool_base.specs.Pool.{unindexed}
+use Rattle.msi_pool_places.specs.Pool.{unindexed}
 use Rattle.msi.specs.Meaning.{open_steps}
 use Rattle.msi.specs.Opening.{StopsAmong}
 use Rattle.msi.proofs.OpenStepLemmas.{database_stops, passed_on, pool_stops}

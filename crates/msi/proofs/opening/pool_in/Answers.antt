@@ -1,7 +1,7 @@
 use Rattle.std.proofs.Common.{◌≡◌, ◌∙◌, ap, sym, Some, [], ◌∷◌, None}
-use Rattle.msi_text_pool_base.specs.Pool.{newly_indexed}
+use Rattle.msi_pool_places.specs.Pool.{newly_indexed}
 use Rattle.std.specs.FinMap.{entries}
-use Rattle.msi_database_system.specs.Keys.{string_data_name, table_key}
+use Rattle.msi_database_schema.specs.Keys.{string_data_name, table_key}
 use Rattle.msi_database_storage.specs.Streams.{stream_at}
 use Rattle.msi.specs.Meaning.{has_pool, has_texts, reads_pool, reads_texts}
 use Rattle.msi.specs.Opening.{StopsAmong}

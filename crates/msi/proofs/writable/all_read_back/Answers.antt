@@ -1,4 +1,4 @@
-use Rattle.msi_text_pool_base.specs.Pool.{unindexed}
+use Rattle.msi_pool_places.specs.Pool.{unindexed}
 use Rattle.msi.proofs.WritableLemmas.{both_pass, pool_writable, set_writable}
 use Rattle.msi.proofs.writable.all_read_back.Goals as goal
 

@@ -3,7 +3,7 @@ use Rattle.std.proofs.lemmas.Result.{IfOk-from_err}
 use Rattle.std.proofs.lemmas.Bool.{not-true, not-false}
 use Rattle.msi_container_format.specs.Container.{name}
 use Rattle.msi_container_read.proofs.OwnNameLemmas.{known_more, known_has_place, own_more, known_all}
-use Rattle.msi_text_base.specs.declared.errors.ErrorKind.TheVariants.{OutOfMemory}
+use Rattle.msi_base.specs.declared.errors.ErrorKind.TheVariants.{OutOfMemory}
 use Rattle.msi_container_read.proofs.PassedLemmas.{kind_passed, memory_is_valid, kind_of}
 use Rattle.msi_container_read.proofs.names.names_of.Goals as goal
 

@@ -1,7 +1,7 @@
 use Rattle.std.proofs.Common.{◌≡◌, ◌*◌, ◌/◌, ℕ, List, [], ◌++◌, vec_len, ◌∙◌, ap, refl, arith, Vec, Global}
 use Rattle.std.specs.List.{AllZip}
 use Rattle.msi_container_format.specs.Container.{sector_size, all_sectors, all_mini_sectors, IsMembers}
-use Rattle.msi_container_chains.specs.Claims.{CanClaim}
+use Rattle.msi_container_read.specs.Claims.{CanClaim}
 use Rattle.msi_container_read.specs.Reading.{views, mini_limit}
 use Rattle.msi_container_read.proofs.ListingLemmas.{if_ok_map3, gives_not_invalid}
 use Rattle.msi_container_read.proofs.PlanPartsLemmas.{claimed_room, few_claimed}

@@ -2,11 +2,11 @@ use Rattle.std.proofs.Common.{◌≡◌, ◌+◌, ◌++◌, vec_len, ◌∙◌, 
 use Rattle.std.specs.Int.{div_ceil}
 use Rattle.std.proofs.lemmas.List.{append_assoc}
 use Rattle.std.proofs.lemmas.Result.{err_from_is_err_and}
-use Rattle.msi_container_chains.specs.Claims.{CanClaim}
+use Rattle.msi_container_read.specs.Claims.{CanClaim}
 use Rattle.msi_container_format.specs.Chains.{IsChain}
 use Rattle.msi_container_format.specs.Container.{successor, sector_size, size, IsMiniFat}
 use Rattle.msi_container_read.proofs.PlanPartsLemmas.{claim_front, claim_back, claimed_room}
-use Rattle.msi_container_chains.specs.Counts.{links}
+use Rattle.msi_container_read.specs.Counts.{links}
 use Rattle.msi_container_read.proofs.OutlineLemmas.{grown, steps_twice}
 use Rattle.msi_container_read.proofs.RoomLemmas.{few_taken}
 use Rattle.msi_container_read.proofs.reading.read_mini.Goals as goal

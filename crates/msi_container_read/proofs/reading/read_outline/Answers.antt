@@ -1,6 +1,6 @@
 use Rattle.std.proofs.Common.{◌≡◌, ℕ, List, vec_len, ◌∙◌, ap, refl, inr}
 use Rattle.std.proofs.lemmas.Result.{IfOk-from_err, err_from_is_err_and}
-use Rattle.msi_text_base.specs.declared.errors.ErrorKind.TheVariants.{OutOfMemory}
+use Rattle.msi_base.specs.declared.errors.ErrorKind.TheVariants.{OutOfMemory}
 use Rattle.msi_container_read.specs.Reading.{views}
 use Rattle.msi_container_read.proofs.ListingLemmas.{some_size, covered}
 use Rattle.msi_container_read.proofs.PlanPartsLemmas.{plan_of, start_of, memory_left, few_claimed}

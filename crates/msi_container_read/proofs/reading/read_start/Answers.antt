@@ -1,6 +1,6 @@
 use Rattle.std.proofs.Common.{arith, ◌≡◌, ℕ, List, [], ◌++◌, length, vec_len, ◌∙◌, sym, ap, refl, length-append}
 use Rattle.std.proofs.lemmas.Result.{IfOk-from_err, err_from_is_err_and}
-use Rattle.msi_container_chains.specs.Claims.{CanClaim}
+use Rattle.msi_container_read.specs.Claims.{CanClaim}
 use Rattle.msi_container_format.specs.Container.{IsWholeChain, successor, fat_of}
 use Rattle.msi_container_read.specs.Reading.{IsStart}
 use Rattle.msi_container_read.proofs.PlanPartsLemmas.{claim_front, claim_back, claimed_room, few_claimed}

@@ -6,7 +6,7 @@ use Rattle.std.proofs.lemmas.List.Elements.{All-filter, All-from_get_or, All-sam
 use Rattle.msi_container_format.specs.Container as container
 use Rattle.msi_container_read.proofs.KindLemmas.{kept_one, kept_none}
 use Rattle.msi_container_read.proofs.streams.of_kind.Goals.{then-kind+in_ok-push, else-kind}
-use Rattle.msi_text_base.specs.declared.errors.ErrorKind.TheVariants.{OutOfMemory}
+use Rattle.msi_base.specs.declared.errors.ErrorKind.TheVariants.{OutOfMemory}
 use Rattle.msi_container_read.proofs.PassedLemmas.{refused_memory}
 use Rattle.msi_container_read.proofs.streams.of_kind.Goals as goal
 

@@ -3,10 +3,10 @@ use Rattle.std.proofs.lemmas.Result.{err_from_is_err_and}
 use Rattle.std.proofs.lemmas.List.{append_assoc, length-take-le, take_more, take_all, map_push}
 use Rattle.std.proofs.lemmas.List.Sums.{sum_by_push}
 use Rattle.std.proofs.lemmas.Slice.Zip.{all_zipped_more, AllZip-long}
-use Rattle.msi_container_chains.specs.Claims.{CanClaim}
+use Rattle.msi_container_read.specs.Claims.{CanClaim}
 use Rattle.msi_container_format.specs.Container.{sectors_in, mini_sectors_in, all_sectors, all_mini_sectors}
 use Rattle.msi_container_read.specs.Reading.{views}
-use Rattle.msi_container_chains.specs.Counts.{links}
+use Rattle.msi_container_read.specs.Counts.{links}
 use Rattle.msi_container_read.proofs.ListLemmas.{paired_at}
 use Rattle.msi_container_read.proofs.StreamChainLemmas.{flat_map_zip_none, flat_map_zip_push, can_claim_next}
 use Rattle.msi_container_read.proofs.streams.walk_each.Goals as goal

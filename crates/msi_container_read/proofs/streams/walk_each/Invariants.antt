@@ -1,9 +1,9 @@
 use Rattle.std.proofs.Common.{◌≡◌, ℕ, List, ◌+◌, ◌≤◌, ◌++◌, take, vec_len, sum_by}
 use Rattle.std.specs.List.{AllZip}
-use Rattle.msi_container_chains.specs.Claims.{CanClaim}
+use Rattle.msi_container_read.specs.Claims.{CanClaim}
 use Rattle.msi_container_format.specs.Container.{IsMembers, all_sectors, all_mini_sectors}
 use Rattle.msi_container_read.specs.Reading.{views}
-use Rattle.msi_container_chains.specs.Counts.{links}
+use Rattle.msi_container_read.specs.Counts.{links}
 use Rattle.msi_container_read.proofs.streams.walk_each.Given as goal
 
 abbrev pub invariant-loop-entry : goal.invariant-loop-entry

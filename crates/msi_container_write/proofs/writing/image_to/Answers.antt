@@ -2,8 +2,8 @@ use Rattle.std.proofs.Common.{◌≡◌, length, ◌∙◌, ap, sym, subst, inl,
 use Rattle.std.proofs.lemmas.Bool.{false≢true}
 use Rattle.std.proofs.lemmas.Result.{IfOk-from_err, IfErr-weaker, on_err_weaker, on_ok_weaker}
 use Rattle.std.specs.FinMap.{entries}
-use Rattle.msi_text_base.specs.declared.errors.ErrorKind.TheVariants.{InvalidInput, OutOfMemory}
-use Rattle.msi_text_base.proofs.ResultLemmas.{on_err_from}
+use Rattle.msi_base.specs.declared.errors.ErrorKind.TheVariants.{InvalidInput, OutOfMemory}
+use Rattle.msi_base.proofs.ResultLemmas.{on_err_from}
 use Rattle.msi_container_device.specs.Held.{bytes_told}
 use Rattle.msi_container_device.proofs.HeldLemmas.{part_none}
 use Rattle.msi_container_write.specs.Index.{streams_of}

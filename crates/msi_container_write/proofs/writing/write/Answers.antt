@@ -1,6 +1,6 @@
 use Rattle.std.proofs.Common.{◌≡◌, subst}
 use Rattle.std.specs.Prelude.{IfOk, IsErrOf, IsTrue, ◌↔◌}
-use Rattle.msi_text_base.specs.declared.errors.ErrorKind.TheVariants.{InvalidInput}
+use Rattle.msi_base.specs.declared.errors.ErrorKind.TheVariants.{InvalidInput}
 use Rattle.msi_container_format.specs.declared.contents.Contents.{Contents}
 use Rattle.msi_container_format.specs.Container.{Holds}
 use Rattle.msi_container_write.specs.Layout as spec

@@ -1,5 +1,5 @@
 use Rattle.std.proofs.Common.{ℕ, ◌+◌, arith}
-use Rattle.msi_text_base.proofs.ResultLemmas.{on_err_from}
+use Rattle.msi_base.proofs.ResultLemmas.{on_err_from}
 use Rattle.msi_container_write.specs.Image.{image_byte}
 use Rattle.msi_container_write.specs.Index.{streams_of}
 use Rattle.msi_container_write.specs.Layout.{mini_fat_run, parts_of}

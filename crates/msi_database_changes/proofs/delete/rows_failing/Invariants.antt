@@ -2,7 +2,7 @@ use Rattle.std.proofs.Common.{◌≡◌, true, false, filter}
 use Rattle.msi_table_cells.specs.CellValues.{row_values}
 use Rattle.msi_query_expressions.specs.Conditions.{meets}
 use Rattle.msi_database_changes.specs.Database.{same_bool}
-use Rattle.msi_database_cells.specs.Texts.{in_use, rows_released}
+use Rattle.msi_database_changes.specs.Texts.{in_use, rows_released}
 use Rattle.msi_database_changes.proofs.delete.rows_failing.Given as goal
 
 abbrev pub invariant-loop-row : goal.invariant-loop-row

@@ -1,6 +1,6 @@
 use Rattle.std.proofs.Common.{◌≡◌, not, filter}
 use Rattle.msi_database_changes.specs.Drop.{is_row_about}
-use Rattle.msi_database_cells.specs.Texts.{in_use, rows_released}
+use Rattle.msi_database_changes.specs.Texts.{in_use, rows_released}
 use Rattle.msi_database_changes.proofs.drop.rows_without.Given as goal
 
 abbrev pub invariant-loop-row : goal.invariant-loop-row

@@ -1,5 +1,5 @@
 use Rattle.std.proofs.Common.{true}
-use Rattle.msi_database_cells.specs.Texts.{in_use}
+use Rattle.msi_database_changes.specs.Texts.{in_use}
 use Rattle.msi_database_changes.proofs.InsertingLemmas.{added_is}
 use Rattle.msi_database_changes.proofs.insert.add_rows.Goals as goal
 

@@ -1,6 +1,6 @@
 use Rattle.std.proofs.Common.{◌≡◌, map, not, drop}
-use Rattle.msi_text_base.specs.declared.errors.ErrorKind.TheVariants.{InvalidInput}
-use Rattle.msi_text_base.specs.Refusals.{first_refusal}
+use Rattle.msi_base.specs.declared.errors.ErrorKind.TheVariants.{InvalidInput}
+use Rattle.msi_base.specs.Refusals.{first_refusal}
 use Rattle.msi_database_changes.specs.Insert.{row_fits}
 use Rattle.msi_database_changes.proofs.insert.refuse_misfits.Given as goal
 

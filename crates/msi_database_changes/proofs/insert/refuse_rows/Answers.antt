@@ -1,15 +1,15 @@
 use Rattle.std.proofs.Common.{◌+◌, List, length, map, not, subst, sym, arith}
-use Rattle.msi_text_base.specs.declared.errors.ErrorKind.{ErrorKind}
-use Rattle.msi_text_base.specs.declared.errors.ErrorKind.TheVariants.{InvalidInput}
-use Rattle.msi_text_pool_base.specs.Pool.{Place}
-use Rattle.msi_text_base.specs.Refusals.{Refusals, IsRefusal, unless_refused}
+use Rattle.msi_base.specs.declared.errors.ErrorKind.{ErrorKind}
+use Rattle.msi_base.specs.declared.errors.ErrorKind.TheVariants.{InvalidInput}
+use Rattle.msi_pool_places.specs.Pool.{Place}
+use Rattle.msi_base.specs.Refusals.{Refusals, IsRefusal, unless_refused}
 use Rattle.msi_table_values.specs.declared.value.Value.{Value}
 use Rattle.msi_table_cells.specs.declared.cell.ValueRef.{ValueRef}
 use Rattle.msi_table_values.specs.Columns.{ColumnDef}
-use Rattle.msi_text_base.proofs.RefusalLemmas.{err_passed}
+use Rattle.msi_base.proofs.RefusalLemmas.{err_passed}
 use Rattle.msi_database_changes.specs.Insert.{keys_of, row_fits, row_refusals, table_with}
 use Rattle.msi_table_cells.specs.KeyOrder.{key_of}
-use Rattle.msi_database_cells.specs.KeySets.{clash_refusals}
+use Rattle.msi_database_changes.specs.KeySets.{clash_refusals}
 use Rattle.msi_database_changes.proofs.InsertingLemmas.{length_refusals, too_long, short_enough, refused_in_front, passed, refused_behind, none_refuses}
 use Rattle.msi_database_changes.proofs.RefusedLemmas.{refused_between}
 use Rattle.msi_database_changes.proofs.insert.refuse_rows.Goals as goal

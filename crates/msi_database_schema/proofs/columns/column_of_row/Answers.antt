@@ -1,5 +1,5 @@
 use Rattle.std.proofs.Common.{◌∙◌, [], ℕ, List, Option, ap, subst, option_map}
-use Rattle.msi_text_base.specs.Results.{Gives}
+use Rattle.msi_base.specs.Results.{Gives}
 use Rattle.msi_table_values.specs.Columns.{ColumnDef, begun_column, column_of_bits}
 use Rattle.msi_database_schema.specs.RowOrders.{describing}
 use Rattle.msi_database_schema.specs.Schema.{bits_in, described, validation_row}

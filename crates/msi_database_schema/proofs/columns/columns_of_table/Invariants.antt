@@ -1,5 +1,5 @@
 use Rattle.std.proofs.Common.{◌≡◌, Some, vec_len}
-use Rattle.msi_text_base.specs.Lists.{all_present, tabulated}
+use Rattle.msi_base.specs.Lists.{all_present, tabulated}
 use Rattle.msi_database_schema.specs.RowOrders.{describing}
 use Rattle.msi_database_schema.proofs.TablesLemmas.{numbered}
 use Rattle.msi_database_schema.proofs.columns.columns_of_table.Given as goal

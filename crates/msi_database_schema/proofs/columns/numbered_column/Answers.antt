@@ -1,5 +1,5 @@
 use Rattle.std.proofs.Common.{◌∙◌, List, Option, ap, option_and_then, subst, sym}
-use Rattle.msi_text_base.specs.Results.{Gives}
+use Rattle.msi_base.specs.Results.{Gives}
 use Rattle.msi_table_values.specs.declared.value.Value.{Value}
 use Rattle.msi_database_schema.specs.RowOrders.{describing}
 use Rattle.msi_database_schema.specs.Schema.{column_of_row}

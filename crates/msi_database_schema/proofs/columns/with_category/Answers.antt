@@ -1,6 +1,6 @@
 use Rattle.std.proofs.Common.{◌∙◌, ap, sym, Option}
-use Rattle.msi_text_categories.specs.declared.category.Category.{Category}
-use Rattle.msi_text_categories.specs.Categories.{category_in}
+use Rattle.msi_categories.specs.declared.category.Category.{Category}
+use Rattle.msi_categories.specs.Categories.{category_in}
 use Rattle.msi_database_schema.specs.Schema.{text_at}
 use Rattle.msi_database_schema.proofs.ReadColumnLemmas.{category_is, with_category}
 use Rattle.msi_database_schema.proofs.columns.with_category.Goals as goal

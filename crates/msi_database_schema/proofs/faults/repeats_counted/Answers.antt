@@ -1,7 +1,7 @@
 use Rattle.std.proofs.Common.{◌≡◌, ◌+◌, List, rules, subst, IfOk}
 use Rattle.std.proofs.lemmas.List.Elements.{filter_from_retain}
 use borrow.Author.Tests.{tests}
-use Rattle.msi_text_base.specs.Lists.{has_pair}
+use Rattle.msi_base.specs.Lists.{has_pair}
 use Rattle.msi_table_values.specs.declared.value.Value.{Value}
 use Rattle.msi_database_schema.specs.Schema.{counted, share_key}
 use Rattle.msi_database_schema.proofs.OrderlessLemmas.{is_counted}

@@ -2,7 +2,7 @@ use Rattle.std.proofs.Common.{◌≡◌, ◌+◌, ◌∙◌, rules, of_calls, sy
 use Rattle.std.proofs.lemmas.List.Sorted.{IsPartitionPoint-from_clause}
 use Rattle.std.specs.Ordering.{is_eq, is_le, is_lt}
 use Rattle.std.proofs.lemmas.List.Elements.{filter_agree}
-use Rattle.msi_text_base.specs.Lists.{list_cmp}
+use Rattle.msi_base.specs.Lists.{list_cmp}
 use Rattle.msi_database_schema.specs.Schema.{is_about, text_at}
 use Rattle.msi_database_schema.proofs.OrderLemmas.{below_parts, passed_before, up_parts, up_to_bound}
 use Rattle.msi_database_schema.proofs.RowOrderLemmas.{about_is, names_total, tables_ascend}

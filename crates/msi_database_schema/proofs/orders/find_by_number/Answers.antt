@@ -3,7 +3,7 @@ use Rattle.std.proofs.lemmas.List.Sorted.{IsPartitionPoint-from_clause}
 use Rattle.std.specs.Ordering.{is_eq, is_lt}
 use Rattle.msi_database_schema.specs.RowOrders.{number_in, numbers_cmp}
 use Rattle.msi_database_schema.specs.Schema.{has_number, is_about}
-use Rattle.msi_text_base.proofs.ListLemmas.{find_same}
+use Rattle.msi_base.proofs.ListLemmas.{find_same}
 use Rattle.msi_database_schema.proofs.OrderLemmas.{below_parts, found_at, found_first, found_here, missing_here, past_here}
 use Rattle.msi_database_schema.proofs.RowOrderLemmas.{at_number, numbers_total}
 use Rattle.msi_database_schema.proofs.orders.find_by_number.Goals as goal

@@ -3,7 +3,7 @@ use Rattle.std.proofs.lemmas.List.Sorted.{IsPartitionPoint-from_clause}
 use Rattle.std.specs.Ordering.{is_eq, is_lt}
 use Rattle.msi_database_schema.specs.RowOrders.{texts_at, texts_cmp}
 use Rattle.msi_database_schema.specs.Schema.{is_about, text_at}
-use Rattle.msi_text_base.proofs.ListLemmas.{find_same}
+use Rattle.msi_base.proofs.ListLemmas.{find_same}
 use Rattle.msi_database_schema.proofs.OrderLemmas.{below_parts, found_at, found_first, found_here, missing_here, past_here}
 use Rattle.msi_database_schema.proofs.RowOrderLemmas.{at_texts, texts_total}
 use Rattle.msi_database_schema.proofs.orders.find_by_texts.Goals as goal

@@ -2,7 +2,7 @@ use Rattle.std.proofs.Common.{◌≡◌, rules, ap}
 use Rattle.std.proofs.lemmas.Fn.{always_returns_same}
 use Rattle.std.proofs.lemmas.Result.{IfOk-at_ok}
 use Rattle.std.specs.Ordering.{is_lt}
-use Rattle.msi_text_base.specs.Lists.{stable_sort}
+use Rattle.msi_base.specs.Lists.{stable_sort}
 use Rattle.msi_table_cells.proofs.StableSortLemmas.{sorted_by_closure}
 use Rattle.msi_database_schema.specs.RowOrders.{by_texts, texts_at, texts_cmp}
 use Rattle.msi_database_schema.proofs.OrderLemmas.{order-weak}

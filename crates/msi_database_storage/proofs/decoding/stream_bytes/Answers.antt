@@ -1,6 +1,6 @@
 use Rattle.std.proofs.Common.{◌∙◌, Some, None}
 use Rattle.std.specs.FinMap.{entries}
-use Rattle.msi_database_system.specs.Keys.{table_key}
+use Rattle.msi_database_schema.specs.Keys.{table_key}
 use Rattle.msi_database_storage.proofs.StreamAtLemmas.{nothing_held, held_at}
 use Rattle.msi_database_storage.proofs.decoding.stream_bytes.Goals as goal
 

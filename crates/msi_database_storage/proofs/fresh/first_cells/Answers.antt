@@ -2,7 +2,7 @@ use Rattle.std.proofs.Common.{◌≡◌, ap, ◌∙◌, [], is_some, List, Some,
 use Rattle.std.proofs.lemmas.Result.{IfOk-weaker}
 use Rattle.msi_table_cells.specs.declared.cell.ValueRef.{ValueRef}
 use Rattle.msi_database_changes.specs.Insert.{cells_added}
-use Rattle.msi_database_cells.specs.Texts.{in_use}
+use Rattle.msi_database_changes.specs.Texts.{in_use}
 use Rattle.msi_database_storage.proofs.FreshCallLemmas.{first_added, only_memory, still_some, taken_alike}
 use Rattle.msi_database_storage.proofs.fresh.first_cells.Goals as goal
 

@@ -1,5 +1,5 @@
 use Rattle.std.proofs.Common.{◌∙◌, [], ◌∷◌, ap}
-use Rattle.msi_database_cells.specs.Texts.{settled}
+use Rattle.msi_database_changes.specs.Texts.{settled}
 use Rattle.msi_database_storage.proofs.FreshMadeLemmas.{fresh_settled}
 use Rattle.msi_database_storage.proofs.fresh.new_tables.Goals as goal
 

@@ -1,5 +1,5 @@
 use Rattle.std.proofs.Common.{◌≡◌}
-use Rattle.msi_text_base.specs.Lists.{tabulated}
+use Rattle.msi_base.specs.Lists.{tabulated}
 use Rattle.msi_database_storage.specs.Naming.{is_named_in}
 use Rattle.msi_database_storage.proofs.naming.named_places.Given as goal
 

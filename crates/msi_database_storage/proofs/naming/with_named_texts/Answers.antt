@@ -1,8 +1,8 @@
 use Rattle.std.proofs.Common.{◌∙◌, ◌++◌, [], ap, sym, subst, length}
 use Rattle.std.specs.Prelude.{◌==◌}
 use Rattle.std.specs.List.{list_any}
-use Rattle.msi_text_pool_base.specs.Pool.{unindexed, PlacesWritten}
-use Rattle.msi_text_pool.proofs.ForgottenLemmas.{none_lost}
+use Rattle.msi_pool_places.specs.Pool.{unindexed, PlacesWritten}
+use Rattle.msi_pool.proofs.ForgottenLemmas.{none_lost}
 use Rattle.msi_table.specs.Census.{IsCensus, numbers_of_rows}
 use Rattle.msi_database_storage.proofs.NamingLemmas.{marks_many, shown_by}
 use Rattle.msi_database_storage.proofs.naming.with_named_texts.Goals as goal

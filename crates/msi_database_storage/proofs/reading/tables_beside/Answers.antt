@@ -1,11 +1,11 @@
 use Rattle.std.proofs.Common.{◌≡◌, ◌∙◌, ap, sym, Some, refl}
-use Rattle.msi_text_pool_base.specs.Pool.{unindexed}
+use Rattle.msi_pool_places.specs.Pool.{unindexed}
 use Rattle.std.specs.Prelude.{map, option_map}
 use Rattle.std.specs.FinMap.{entries}
 use Rattle.msi_table_cells.specs.CellValues.{row_values}
 use Rattle.msi_database_schema.specs.RowOrders.{rows_of}
 use Rattle.msi_database_schema.specs.Schema.{SchemaRows, schema_of}
-use Rattle.msi_database_system.specs.System.{columns_columns, columns_name, tables_columns, tables_name, validation_columns, validation_name}
+use Rattle.msi_database_schema.specs.System.{columns_columns, columns_name, tables_columns, tables_name, validation_columns, validation_name}
 use Rattle.msi_database_storage.specs.Streams.{stored_rows}
 use Rattle.msi_database_storage.specs.Agreement.{described_by, schema_in}
 use Rattle.msi_database_storage.proofs.ReadingLemmas.{described_fails, schema_is, told_kind, told_long, told_ok}

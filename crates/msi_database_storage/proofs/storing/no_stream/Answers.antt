@@ -1,4 +1,4 @@
-use Rattle.msi_database_system.proofs.KeyLemmas.{table_key_is_name}
+use Rattle.msi_database_schema.proofs.KeyLemmas.{table_key_is_name}
 use Rattle.msi_database_storage.proofs.storing.no_stream.Goals as goal
 
 pub short_table_key-requires : goal.short_table_key-requires

@@ -1,5 +1,5 @@
 use Rattle.std.proofs.Common.{ap, ◌∙◌}
-use Rattle.msi_database_system.specs.Keys.{table_key}
+use Rattle.msi_database_schema.specs.Keys.{table_key}
 use Rattle.msi_database_storage.proofs.WideningLemmas.{put_long}
 use Rattle.msi_database_storage.proofs.widening.store_long.Goals as goal
 

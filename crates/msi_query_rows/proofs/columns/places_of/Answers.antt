@@ -1,5 +1,5 @@
 use Rattle.std.proofs.Common.{refl}
-use Rattle.msi_text_base.specs.declared.errors.ErrorKind.TheVariants.{OutOfMemory}
+use Rattle.msi_base.specs.declared.errors.ErrorKind.TheVariants.{OutOfMemory}
 use Rattle.msi_query_rows.proofs.RefusedLemmas.{memory_passed, no_value}
 use Rattle.msi_query_rows.proofs.columns.places_of.Goals as goal
 

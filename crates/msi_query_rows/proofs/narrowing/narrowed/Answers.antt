@@ -1,5 +1,5 @@
 use Rattle.msi_query_rows.proofs.RefusedLemmas.{memory_refuses, narrowed_given, narrowed_refused, no_value}
-use Rattle.msi_text_base.proofs.RefusalLemmas.{err_passed}
+use Rattle.msi_base.proofs.RefusalLemmas.{err_passed}
 use Rattle.msi_query_rows.proofs.narrowing.narrowed.Goals as goal
 
 pub returns-in_err-refuse_unknown-clause-ok : goal.returns-in_err-refuse_unknown-clause-ok

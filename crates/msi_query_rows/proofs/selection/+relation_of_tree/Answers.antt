@@ -3,7 +3,7 @@ use Rattle.msi_query.specs.QueryTrees.{query_of}
 use Rattle.msi_query.specs.Rows.{tables_values}
 use Rattle.msi_query_rows.proofs.JoinLemmas.{join_answer, table_answer}
 use Rattle.msi_query_rows.proofs.RefusedLemmas.{join_fails, left_refused, no_value, right_refused, table_fails, table_refused}
-use Rattle.msi_text_base.proofs.RefusalLemmas.{err_passed}
+use Rattle.msi_base.proofs.RefusalLemmas.{err_passed}
 use Rattle.msi_query_rows.proofs.WidthLemmas.{join_is_wide, narrowed_is_wide}
 use Rattle.msi_query_rows.proofs.selection.+relation_of_tree.Goals as goal
 

@@ -5,7 +5,7 @@ use Rattle.msi_query_expressions.specs.Conditions.{meets}
 use Rattle.msi_query.specs.Rows.{RelationCells, relation_values, rows_values}
 use Rattle.msi_query.specs.Selection.{joined_columns, rows_of_row}
 use Rattle.msi_query_rows.proofs.JoinLemmas.{join_refused, clauses_refused, join_narrowed}
-use Rattle.msi_text_base.proofs.RefusalLemmas.{err_passed}
+use Rattle.msi_base.proofs.RefusalLemmas.{err_passed}
 use Rattle.msi_query_rows.proofs.selection.joined.Goals as goal
 
 pub returns-then-not-knows_names-clause-kind : goal.returns-then-not-knows_names-clause-kind

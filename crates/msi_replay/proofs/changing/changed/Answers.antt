@@ -1,5 +1,5 @@
 use Rattle.std.proofs.Common.{◌≡◌, ◌∙◌, ℕ, List, Result, ap, refl, subst, sym}
-use Rattle.msi_text_base.specs.declared.errors.ErrorKind.{ErrorKind}
+use Rattle.msi_base.specs.declared.errors.ErrorKind.{ErrorKind}
 use Rattle.msi_table_values.specs.Columns.{ColumnDef}
 use Rattle.msi_database_changes.specs.Changes.{Change, sound_refusal}
 use Rattle.msi_database_changes.specs.Create as creates
@@ -8,9 +8,9 @@ use Rattle.msi_database_changes.specs.Drop as drops
 use Rattle.msi_database_changes.specs.Insert as inserts
 use Rattle.msi_database_changes.specs.Update as updates
 use Rattle.std.specs.Prelude.{◌++◌, [], ◌∷◌, not, string_bytes}
-use Rattle.msi_text_base.specs.declared.errors.ErrorKind.TheVariants.{NotFound}
-use Rattle.msi_text_base.specs.Refusals.{AnswersWith, Refusals}
-use Rattle.msi_database_system.specs.Keys.{stream_key}
+use Rattle.msi_base.specs.declared.errors.ErrorKind.TheVariants.{NotFound}
+use Rattle.msi_base.specs.Refusals.{AnswersWith, Refusals}
+use Rattle.msi_database_schema.specs.Keys.{stream_key}
 use Rattle.msi_database_storage.specs.Streams.{without_stream}
 use Rattle.msi.specs.State.{State, parts_of}
 use Rattle.msi.specs.Calls as calls

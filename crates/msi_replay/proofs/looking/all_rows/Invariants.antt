@@ -1,5 +1,5 @@
 use Rattle.std.proofs.Common.{◌≡◌, ◌++◌, map}
-use Rattle.msi_table_rows.specs.Row.{RowDef}
+use Rattle.msi_table_values.specs.Row.{RowDef}
 use Rattle.msi_query.specs.Rows.{rows_values}
 use Rattle.msi_replay.proofs.looking.all_rows.Given as goal
 

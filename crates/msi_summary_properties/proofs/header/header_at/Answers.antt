@@ -1,6 +1,6 @@
 use Rattle.std.specs.Int.{w16, w32}
 use Rattle.std.proofs.lemmas.Result.{err_from_is_err_and}
-use Rattle.msi_text_base.specs.Numbers.{bytes_at, number_at}
+use Rattle.msi_base.specs.Numbers.{bytes_at, number_at}
 use Rattle.msi_summary_properties.specs.Reading.{header_at, os_with_number}
 use Rattle.msi_summary_properties.proofs.HeaderLemmas.{header_of, no_section, other_mark, other_version, passes}
 use Rattle.msi_summary_properties.proofs.StepLemmas.{bind_fails}

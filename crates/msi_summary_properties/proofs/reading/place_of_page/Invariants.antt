@@ -1,5 +1,5 @@
 use Rattle.std.proofs.Common.{◌≡◌, drop, eqb}
-use Rattle.msi_text_base.specs.Lists.{entry_where}
+use Rattle.msi_base.specs.Lists.{entry_where}
 use Rattle.msi_summary_properties.proofs.reading.place_of_page.Given as goal
 
 abbrev pub invariant-loop-id : goal.invariant-loop-id

@@ -1,6 +1,6 @@
 use Rattle.std.proofs.Common.{◌≡◌, ◌⊎◌, take, string_bytes}
 use Rattle.std.specs.List.{AllByRecursion}
-use Rattle.msi_text_base.specs.Pages.{Reads}
+use Rattle.msi_base.specs.Pages.{Reads}
 use Rattle.msi_summary_properties.specs.SharedTexts.{BeginsCharacter, IsCut}
 use Rattle.msi_summary_properties.proofs.shared.cut_at.Given as goal
 

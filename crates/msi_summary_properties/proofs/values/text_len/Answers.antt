@@ -1,6 +1,6 @@
 use Rattle.std.proofs.Common.{◌≡◌, Some, subst}
 use Rattle.std.specs.Int.{w32}
-use Rattle.msi_text_base.specs.Numbers.{number_at}
+use Rattle.msi_base.specs.Numbers.{number_at}
 use Rattle.msi_summary_properties.proofs.SharedTextsLemmas.{begins_text}
 use Rattle.msi_summary_properties.proofs.values.text_len.Goals as goal
 

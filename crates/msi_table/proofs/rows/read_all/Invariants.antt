@@ -1,5 +1,5 @@
 use Rattle.std.proofs.Common.{◌≡◌}
-use Rattle.msi_text_base.specs.Lists.{tabulated}
+use Rattle.msi_base.specs.Lists.{tabulated}
 use Rattle.msi_table.specs.Cells.{row_in}
 use Rattle.msi_table_values.specs.Columns.{types_of}
 use Rattle.msi_table.proofs.rows.read_all.Given as goal

@@ -1,5 +1,5 @@
 use Rattle.std.proofs.Common.{◌≡◌, ◌*◌, sum, take}
-use Rattle.msi_text_base.specs.Lists.{tabulated}
+use Rattle.msi_base.specs.Lists.{tabulated}
 use Rattle.msi_table.specs.Cells.{widths, cell_at}
 use Rattle.msi_table_values.specs.Columns.{types_of}
 use Rattle.msi_table.proofs.rows.read_row.Given as goal

@@ -1,5 +1,5 @@
 use Rattle.std.proofs.Common.{true, refl, sym, subst}
-use Rattle.msi_text_base.proofs.RefusalLemmas.{accepted_first, first_passed}
+use Rattle.msi_base.proofs.RefusalLemmas.{accepted_first, first_passed}
 use Rattle.msi_database_changes.specs.Database.{Database}
 use Rattle.msi_database_changes.specs.Delete.{delete_rows, early_delete_refusals}
 use Rattle.msi.specs.State.{parts_of}

@@ -1,5 +1,5 @@
 use Rattle.std.proofs.Common.{true, refl, sym, subst}
-use Rattle.msi_text_base.proofs.RefusalLemmas.{accepted_first, first_passed}
+use Rattle.msi_base.proofs.RefusalLemmas.{accepted_first, first_passed}
 use Rattle.msi_database_changes.specs.Database.{Database}
 use Rattle.msi_database_changes.specs.Drop.{early_drop_refusals, drop_table}
 use Rattle.msi.proofs.ChangeLemmas.{after_drop, answered_behind, change_left}

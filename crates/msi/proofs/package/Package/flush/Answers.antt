@@ -1,5 +1,5 @@
 use Rattle.std.proofs.Common.{◌∙◌, ap, sym}
-use Rattle.msi_text_base.proofs.RefusalLemmas.{first_passed}
+use Rattle.msi_base.proofs.RefusalLemmas.{first_passed}
 use Rattle.msi.specs.Steps.{flush_refusals}
 use Rattle.msi.specs.Whole.{Whole}
 use Rattle.msi.proofs.FlushStepLemmas.{flush_nothing, pending_nothing, pending_written}

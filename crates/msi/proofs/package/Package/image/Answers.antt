@@ -1,16 +1,16 @@
 use Rattle.std.proofs.Common.{◌≡◌, ◌∙◌, Some, ap, inr, rules, subst, sym}
 use Rattle.std.specs.Prelude.{IfErr, IfOk, Ok}
-use Rattle.msi_text_base.specs.declared.errors.ErrorKind.TheVariants.{InvalidInput}
-use Rattle.msi_text_pool_base.specs.Pool.{Pool, unindexed}
+use Rattle.msi_base.specs.declared.errors.ErrorKind.TheVariants.{InvalidInput}
+use Rattle.msi_pool_places.specs.Pool.{Pool, unindexed}
 use Rattle.msi_container_write.specs.Borrowed.{contents_of}
-use Rattle.msi_text_base.specs.Refusals.{AnswersFirst, IsRefusal, or_refused}
-use Rattle.msi_text_base.proofs.RefusalLemmas.{accepted_first, first_passed}
+use Rattle.msi_base.specs.Refusals.{AnswersFirst, IsRefusal, or_refused}
+use Rattle.msi_base.proofs.RefusalLemmas.{accepted_first, first_passed}
 use Rattle.msi_database_storage.specs.Streams.{Streams}
 use Rattle.std.specs.FinMap.{entries}
 use Rattle.std.specs.Vec.Iter.{into_iter_items}
 use Rattle.msi.specs.State.{State}
 use Rattle.msi.specs.Steps.{image_of, streams_written}
-use Rattle.msi_streams.specs.Renewing.{opened, renewed_over, text_refusals, with_renewed}
+use Rattle.msi.specs.Renewing.{opened, renewed_over, text_refusals, with_renewed}
 use Rattle.msi.specs.Whole.{Whole, state_of, with_open}
 use Rattle.msi.proofs.CreatingLemmas.{err_as}
 use Rattle.msi.proofs.ImagingLemmas.{all_put, answer_done, answer_failed, image_stored, image_unwritten, texts_first}

@@ -1,4 +1,4 @@
-use Rattle.msi_text_base.specs.Refusals.{first_refusal}
+use Rattle.msi_base.specs.Refusals.{first_refusal}
 use Rattle.msi.specs.Steps.{flush_refusals}
 use Rattle.msi.proofs.TextRefusalLemmas.{first_handed}
 use Rattle.msi.proofs.package.Package.into_inner.Goals as goal

@@ -1,4 +1,4 @@
-use Rattle.msi_text_base.proofs.RefusalLemmas.{accepted_first, err_passed, first_passed}
+use Rattle.msi_base.proofs.RefusalLemmas.{accepted_first, err_passed, first_passed}
 use Rattle.std.proofs.Common.{true, refl, sym, subst}
 use Rattle.msi_database_changes.specs.Create.{create_table}
 use Rattle.msi_database_changes.specs.Database.{Database}

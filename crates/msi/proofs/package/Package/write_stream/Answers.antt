@@ -1,7 +1,7 @@
 use Rattle.std.proofs.Common.{◌∙◌, ap}
 use Rattle.msi_database_changes.specs.Database.{is_sound}
 use Rattle.msi_database_storage.specs.Kept.{Kept}
-use Rattle.msi_text_base.proofs.RefusalLemmas.{none_answered}
+use Rattle.msi_base.proofs.RefusalLemmas.{none_answered}
 use Rattle.msi.specs.State.{parts_of}
 use Rattle.msi.specs.Steps.{name_refusals}
 use Rattle.msi.proofs.StreamRefusalLemmas.{key_accepted, key_is, storages_seen, write_passes}

@@ -1,5 +1,5 @@
 use Rattle.std.proofs.Common.{◌∙◌, inr, sym}
-use Rattle.msi_text_base.proofs.RefusalLemmas.{err_passed, first_answered, none_answered}
+use Rattle.msi_base.proofs.RefusalLemmas.{err_passed, first_answered, none_answered}
 use Rattle.msi_database_changes.specs.Recounting.{counting_refusals, early_recount_refusals, recount}
 use Rattle.msi_database_changes.proofs.RefusedLemmas.{behind_passed, not_refused, refused_first}
 use Rattle.msi_database_storage.proofs.RecountingLemmas.{counts_are}

@@ -1,6 +1,6 @@
 use Rattle.std.proofs.Common.{◌≡◌, ◌∙◌, true, sym}
 use Rattle.std.specs.FinMap.{entries}
-use Rattle.msi_text_pool_base.specs.Pool.{unindexed}
+use Rattle.msi_pool_places.specs.Pool.{unindexed}
 use Rattle.msi_database_changes.specs.Database.{names_stay_in_pool, validation_is_standard}
 use Rattle.msi_database_storage.proofs.RecountingLemmas.{counts_fit_is}
 use Rattle.msi_database.proofs.RecountingLemmas.{none_refused, refused_for_columns, refused_for_counts, standard_here}

@@ -1,5 +1,5 @@
-use Rattle.msi_text_pool_base.specs.Pool.{unindexed}
-use Rattle.msi_text_base.proofs.RefusalLemmas.{accepted_first, first_passed, err_passed}
+use Rattle.msi_pool_places.specs.Pool.{unindexed}
+use Rattle.msi_base.proofs.RefusalLemmas.{accepted_first, first_passed, err_passed}
 use Rattle.msi_database_changes.specs.Create.{create_table}
 use Rattle.msi_database.specs.Creating.{create_refusals}
 use Rattle.msi_database.specs.Making.{base_with}

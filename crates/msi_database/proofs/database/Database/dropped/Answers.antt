@@ -1,8 +1,8 @@
 use Rattle.std.proofs.Common.{ap, ◌++◌}
-use Rattle.msi_text_pool_base.specs.Pool.{unindexed}
+use Rattle.msi_pool_places.specs.Pool.{unindexed}
 use Rattle.std.specs.FinMap.{entries}
 use Rattle.msi_database_changes.specs.Changes.{no_change, pool_of}
-use Rattle.msi_database_system.specs.System.{tables_name, columns_name, validation_name}
+use Rattle.msi_database_schema.specs.System.{tables_name, columns_name, validation_name}
 use Rattle.msi_database_storage.specs.Kept.{Kept}
 use Rattle.msi_database.specs.Dropping.{about_given_back, rows_given_back, own_stream, system_stream}
 use Rattle.msi_database.proofs.DroppingCallLemmas.{DropLeft, began_by, drop_called, went_on}

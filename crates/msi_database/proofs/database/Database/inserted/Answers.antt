@@ -1,11 +1,11 @@
 use Rattle.std.proofs.Common.{◌∙◌, ap, ap₂, refl, sym, List, subst}
 use Rattle.std.proofs.lemmas.Result.{IfOk-weaker, err_from_is_err_and}
-use Rattle.msi_text_pool_base.specs.Pool.{unindexed}
+use Rattle.msi_pool_places.specs.Pool.{unindexed}
 use Rattle.msi_table_values.specs.declared.value.Value.{Value}
 use Rattle.msi_table_cells.specs.declared.cell.ValueRef.{ValueRef}
-use Rattle.msi_text_base.specs.Refusals.{first_refusal}
-use Rattle.msi_text_base.proofs.RefusalLemmas.{err_passed}
-use Rattle.msi_database_system.specs.System.{is_system_table}
+use Rattle.msi_base.specs.Refusals.{first_refusal}
+use Rattle.msi_base.proofs.RefusalLemmas.{err_passed}
+use Rattle.msi_database_schema.specs.System.{is_system_table}
 use Rattle.msi_database_changes.specs.Insert.{row_refusals, table_with}
 use Rattle.msi_database_storage.specs.Kept.{Kept}
 use Rattle.msi_database.specs.Keeping.{IsKeptDatabase}

@@ -1,5 +1,5 @@
 use Rattle.std.proofs.Common.{◌∙◌}
-use Rattle.msi_text_pool_base.specs.Pool.{unindexed}
+use Rattle.msi_pool_places.specs.Pool.{unindexed}
 use Rattle.std.specs.Vec.Iter.{into_iter_items}
 use Rattle.msi_database.proofs.FreshKeptLemmas.{fresh_parts, names_are_own}
 use Rattle.msi_database.proofs.database.Database.new.Goals as goal

@@ -1,4 +1,4 @@
-use Rattle.msi_text_pool_base.specs.Pool.{unindexed}
+use Rattle.msi_pool_places.specs.Pool.{unindexed}
 use Rattle.msi_database.proofs.OtherLemmas.{stays, there_before}
 use Rattle.msi_database.proofs.database.Database.put_back_stream.Goals as goal
 

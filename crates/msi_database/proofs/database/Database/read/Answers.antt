@@ -1,12 +1,12 @@
 use Rattle.std.proofs.Common.{◌≡◌, ◌∙◌, [], ap, sym, subst, is_some, map, List}
 use Rattle.std.specs.Prelude.{if◌then◌else◌}
 use Rattle.std.specs.FinMap.{entries}
-use Rattle.msi_text_pool_base.specs.Pool.{Pool, unindexed}
+use Rattle.msi_pool_places.specs.Pool.{Pool, unindexed}
 use Rattle.msi_table_cells.specs.declared.cell.ValueRef.{ValueRef}
 use Rattle.msi_table.specs.Tables.{TableDef}
-use Rattle.msi_text_base.proofs.RefusalLemmas.{err_passed}
+use Rattle.msi_base.proofs.RefusalLemmas.{err_passed}
 use Rattle.msi_table.specs.Census.{IsCensus}
-use Rattle.msi_database_system.specs.System.{validation_name}
+use Rattle.msi_database_schema.specs.System.{validation_name}
 use Rattle.msi_database_storage.specs.Kept.{AreAsLong, kept_of, table_kept, table_kept_at}
 use Rattle.msi_database_storage.specs.Naming.{numbers_named, numbers_of_tables, pool_shown}
 use Rattle.msi_database.specs.Keeping.{AreKept}

@@ -1,6 +1,6 @@
 use Rattle.std.proofs.Common.{◌∷◌, [], not, ◌∙◌}
-use Rattle.msi_text_base.specs.declared.errors.ErrorKind.TheVariants.{AlreadyExists, InvalidData, NotFound}
-use Rattle.msi_database_system.specs.System.{validation_name}
+use Rattle.msi_base.specs.declared.errors.ErrorKind.TheVariants.{AlreadyExists, InvalidData, NotFound}
+use Rattle.msi_database_schema.specs.System.{validation_name}
 use Rattle.msi_database_changes.specs.Create.{new_table_refusals}
 use Rattle.msi_database_changes.specs.Database.{has_table, is_sound}
 use Rattle.msi_database.proofs.CreatingLemmas.{error_passed, refused_behind_sound}

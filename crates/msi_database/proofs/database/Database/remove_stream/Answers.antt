@@ -1,5 +1,5 @@
 use Rattle.std.proofs.Common.{None}
-use Rattle.msi_text_pool_base.specs.Pool.{unindexed}
+use Rattle.msi_pool_places.specs.Pool.{unindexed}
 use Rattle.msi_database.proofs.OtherLemmas.{held_before, stays}
 use Rattle.msi_database.proofs.database.Database.remove_stream.Goals as goal
 

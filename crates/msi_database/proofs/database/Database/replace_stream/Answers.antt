@@ -1,6 +1,6 @@
 use Rattle.std.proofs.Common.{Some}
-use Rattle.msi_text_pool_base.specs.Pool.{unindexed}
-use Rattle.msi_text_base.proofs.ResultLemmas.{on_err_from}
+use Rattle.msi_pool_places.specs.Pool.{unindexed}
+use Rattle.msi_base.proofs.ResultLemmas.{on_err_from}
 use Rattle.msi_database.proofs.OtherLemmas.{absent_before, held_before, stays, there_after}
 use Rattle.msi_database.proofs.database.Database.replace_stream.Goals as goal
 

@@ -1,4 +1,4 @@
-use Rattle.msi_text_base.proofs.RefusalLemmas.{first_answered, none_answered}
+use Rattle.msi_base.proofs.RefusalLemmas.{first_answered, none_answered}
 use Rattle.msi_database_changes.specs.Delete.{early_delete_refusals}
 use Rattle.msi_database.specs.Making.{delete_of}
 use Rattle.msi_database.proofs.database.Database.rows_deleted.Goals as goal

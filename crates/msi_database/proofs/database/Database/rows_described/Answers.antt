@@ -1,9 +1,9 @@
 use Rattle.std.proofs.Common.{List, [], ◌∷◌, ◌∙◌, ap, refl}
-use Rattle.msi_text_base.specs.declared.errors.ErrorKind.TheVariants.{OutOfMemory}
+use Rattle.msi_base.specs.declared.errors.ErrorKind.TheVariants.{OutOfMemory}
 use Rattle.msi_table_values.specs.declared.value.Value.{Value}
-use Rattle.msi_database_cells.specs.Texts.{in_use}
+use Rattle.msi_database_changes.specs.Texts.{in_use}
 use Rattle.msi_database_storage.proofs.PassedLemmas.{memory_refused, no_value}
-use Rattle.msi_text_base.proofs.RefusalLemmas.{err_passed}
+use Rattle.msi_base.proofs.RefusalLemmas.{err_passed}
 use Rattle.msi_database.proofs.SystemRowsLemmas.{columns_refuse, described_given, tables_refuse, validation_refuses}
 use Rattle.msi_database.proofs.database.Database.rows_described.Goals as goal
 

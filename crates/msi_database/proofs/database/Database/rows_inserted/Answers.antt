@@ -1,4 +1,4 @@
-use Rattle.msi_text_base.proofs.RefusalLemmas.{first_answered, none_answered}
+use Rattle.msi_base.proofs.RefusalLemmas.{first_answered, none_answered}
 use Rattle.msi_database_changes.specs.Insert.{early_insert_refusals}
 use Rattle.msi_database.specs.Making.{insert_of}
 use Rattle.msi_database.proofs.database.Database.rows_inserted.Goals as goal

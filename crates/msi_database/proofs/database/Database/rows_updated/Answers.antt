@@ -1,4 +1,4 @@
-use Rattle.msi_text_base.proofs.RefusalLemmas.{first_answered, none_answered}
+use Rattle.msi_base.proofs.RefusalLemmas.{first_answered, none_answered}
 use Rattle.msi_database_changes.specs.Update.{early_update_refusals}
 use Rattle.msi_database_changes.specs.RowUpdates.{update_of}
 use Rattle.msi_database.proofs.database.Database.rows_updated.Goals as goal

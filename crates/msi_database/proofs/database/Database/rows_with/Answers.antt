@@ -1,10 +1,10 @@
 use Rattle.std.proofs.Common.{◌≡◌, ap, sym, subst, ◌∙◌, Some, true}
 use Rattle.std.specs.Prelude.{IfErr}
 use Rattle.std.proofs.lemmas.Result.{IfOk-weaker}
-use Rattle.msi_text_base.specs.declared.errors.ErrorKind.TheVariants.{InvalidInput}
-use Rattle.msi_text_pool_base.specs.Pool.{unindexed}
-use Rattle.msi_text_base.specs.Refusals.{IsRefusal, or_refused}
-use Rattle.msi_database_cells.specs.Texts.{in_use}
+use Rattle.msi_base.specs.declared.errors.ErrorKind.TheVariants.{InvalidInput}
+use Rattle.msi_pool_places.specs.Pool.{unindexed}
+use Rattle.msi_base.specs.Refusals.{IsRefusal, or_refused}
+use Rattle.msi_database_changes.specs.Texts.{in_use}
 use Rattle.msi_database_changes.specs.Insert.{cells_added}
 use Rattle.msi_database.specs.Creating.{rows_with}
 use Rattle.msi_database.proofs.CreatedAnewLemmas.{rows_at_last}

@@ -1,4 +1,4 @@
-use Rattle.msi_text_pool_base.specs.Pool.{unindexed}
+use Rattle.msi_pool_places.specs.Pool.{unindexed}
 use Rattle.std.specs.FinMap.{entries}
 use Rattle.msi_database.proofs.PageLemmas.{kept_with_page}
 use Rattle.msi_database.proofs.database.Database.set_codepage.Goals as goal

@@ -1,4 +1,4 @@
-use Rattle.msi_text_pool_base.specs.Pool.{unindexed}
+use Rattle.msi_pool_places.specs.Pool.{unindexed}
 use Rattle.std.specs.Vec.Iter.{into_iter_items}
 use Rattle.msi_database.proofs.ChangingLemmas.{streams_stored, tables_moved_in}
 use Rattle.msi_database.proofs.database.Database.store_tables.Goals as goal

@@ -1,5 +1,5 @@
 use Rattle.msi_database_storage.proofs.PassedLemmas.{memory_passed, no_value}
-use Rattle.msi_text_base.specs.declared.errors.ErrorKind.TheVariants.{OutOfMemory}
+use Rattle.msi_base.specs.declared.errors.ErrorKind.TheVariants.{OutOfMemory}
 use Rattle.std.proofs.Common.{refl}
 use Rattle.msi_database.proofs.database.Database.streams_for.Goals as goal
 

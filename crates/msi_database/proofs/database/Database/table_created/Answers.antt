@@ -1,9 +1,9 @@
 use Rattle.std.proofs.Common.{List, ap, subst, sym, ◌∙◌}
 use Rattle.std.proofs.lemmas.Result.{IfOk-weaker}
-use Rattle.msi_text_pool_base.specs.Pool.{unindexed}
+use Rattle.msi_pool_places.specs.Pool.{unindexed}
 use Rattle.msi_table_values.specs.Columns.{ColumnDef}
-use Rattle.msi_text_base.specs.Refusals.{first_refusal}
-use Rattle.msi_text_base.proofs.RefusalLemmas.{err_passed, first_answered, none_answered}
+use Rattle.msi_base.specs.Refusals.{first_refusal}
+use Rattle.msi_base.proofs.RefusalLemmas.{err_passed, first_answered, none_answered}
 use Rattle.msi_database_storage.specs.Kept.{Kept}
 use Rattle.msi_database.specs.Creating.{IsCreated, create_refusals}
 use Rattle.msi_database.specs.Keeping.{IsKeptDatabase}

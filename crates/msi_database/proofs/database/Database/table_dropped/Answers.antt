@@ -1,5 +1,5 @@
 use Rattle.std.proofs.Common.{refl}
-use Rattle.msi_text_base.proofs.RefusalLemmas.{first_answered, none_answered}
+use Rattle.msi_base.proofs.RefusalLemmas.{first_answered, none_answered}
 use Rattle.msi_database_changes.specs.Drop.{early_drop_refusals}
 use Rattle.msi_database.proofs.database.Database.table_dropped.Goals as goal
 

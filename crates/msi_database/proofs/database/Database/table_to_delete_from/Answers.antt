@@ -1,11 +1,11 @@
 use Rattle.std.proofs.Common.{◌∙◌, ◌∷◌, [], ap, not, subst, sym, List, ℕ, Some, None}
-use Rattle.msi_text_base.specs.declared.errors.ErrorKind.TheVariants.{InvalidInput}
+use Rattle.msi_base.specs.declared.errors.ErrorKind.TheVariants.{InvalidInput}
 use Rattle.msi_table_values.specs.Columns.{ColumnDef}
 use Rattle.msi_query.specs.Queries.{DeleteQuery}
-use Rattle.msi_text_base.proofs.RefusalLemmas.{err_is, err_passed}
-use Rattle.msi_text_base.specs.Refusals.{Refusals}
+use Rattle.msi_base.proofs.RefusalLemmas.{err_is, err_passed}
+use Rattle.msi_base.specs.Refusals.{Refusals}
 use Rattle.msi_query.specs.Selection.{condition_names, has_columns}
-use Rattle.msi_database_system.specs.System.{is_system_table}
+use Rattle.msi_database_schema.specs.System.{is_system_table}
 use Rattle.msi_database_changes.specs.Delete.{delete_rows, early_delete_refusals}
 use Rattle.msi_database.specs.Listed.{IsKnown}
 use Rattle.msi_database.specs.Making.{delete_of}

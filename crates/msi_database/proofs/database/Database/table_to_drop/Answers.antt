@@ -1,5 +1,5 @@
 use Rattle.std.proofs.Common.{[]}
-use Rattle.msi_text_base.proofs.RefusalLemmas.{err_is, err_passed}
+use Rattle.msi_base.proofs.RefusalLemmas.{err_is, err_passed}
 use Rattle.msi_database_changes.specs.Changes.{missing_or}
 use Rattle.msi_database_changes.specs.Database.{table_at}
 use Rattle.msi_database_changes.proofs.RefusedLemmas.{front_holds}

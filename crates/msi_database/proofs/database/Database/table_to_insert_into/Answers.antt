@@ -2,9 +2,9 @@ use Rattle.std.proofs.Common.{◌∙◌, ap, subst, sym, List, ℕ, Some, None}
 use Rattle.msi_table_values.specs.declared.value.Value.{Value}
 use Rattle.msi_table_values.specs.Columns.{ColumnDef}
 use Rattle.msi_query.specs.Queries.{InsertQuery}
-use Rattle.msi_text_base.proofs.RefusalLemmas.{err_is, err_passed}
-use Rattle.msi_text_base.specs.Refusals.{Refusals, first_refusal}
-use Rattle.msi_database_system.specs.System.{is_system_table}
+use Rattle.msi_base.proofs.RefusalLemmas.{err_is, err_passed}
+use Rattle.msi_base.specs.Refusals.{Refusals, first_refusal}
+use Rattle.msi_database_schema.specs.System.{is_system_table}
 use Rattle.msi_database_changes.specs.Insert.{early_insert_refusals, insert_rows, misfit_refusals}
 use Rattle.msi_database.specs.Listed.{IsKnown}
 use Rattle.msi_database.specs.Making.{insert_of}

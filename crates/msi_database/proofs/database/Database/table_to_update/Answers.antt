@@ -1,8 +1,8 @@
 use Rattle.std.proofs.Common.{◌∙◌, ap, subst, sym, List, ℕ, Some, None}
 use Rattle.msi_table_values.specs.Columns.{ColumnDef}
 use Rattle.msi_query.specs.Queries.{UpdateQuery}
-use Rattle.msi_text_base.proofs.RefusalLemmas.{err_is, err_passed}
-use Rattle.msi_text_base.specs.Refusals.{Refusals, first_refusal}
+use Rattle.msi_base.proofs.RefusalLemmas.{err_is, err_passed}
+use Rattle.msi_base.specs.Refusals.{Refusals, first_refusal}
 use Rattle.msi_database_changes.specs.Update.{early_update_refusals, is_update_barred, set_refusals, update_rows}
 use Rattle.msi_database_changes.specs.RowUpdates.{update_of}
 use Rattle.msi_database.specs.Listed.{IsKnown}

@@ -1,5 +1,5 @@
 use Rattle.std.proofs.Common.{sym, ◌∙◌}
-use Rattle.msi_text_pool_base.specs.Pool.{unindexed}
+use Rattle.msi_pool_places.specs.Pool.{unindexed}
 use Rattle.std.specs.FinMap.{entries}
 use Rattle.msi_database.proofs.TablesKeptLemmas.{listed_kept}
 use Rattle.msi_database.proofs.database.Database.tables.Goals as goal

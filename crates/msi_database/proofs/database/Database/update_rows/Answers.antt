@@ -1,10 +1,10 @@
 use Rattle.std.proofs.Common.{◌≡◌, ◌∷◌, [], subst, sym}
-use Rattle.msi_text_pool_base.specs.Pool.{unindexed}
+use Rattle.msi_pool_places.specs.Pool.{unindexed}
 use Rattle.std.proofs.lemmas.Result.{IfOk-weaker, on_ok_weaker}
 use Rattle.msi_query.specs.Queries.{UpdateQuery}
 use Rattle.msi_database_changes.specs.RowUpdates.{update_of}
-use Rattle.msi_text_base.proofs.RefusalLemmas.{accepted_first, first_passed}
-use Rattle.msi_text_base.specs.Refusals.{AnswersFirst}
+use Rattle.msi_base.proofs.RefusalLemmas.{accepted_first, first_passed}
+use Rattle.msi_base.specs.Refusals.{AnswersFirst}
 use Rattle.msi_database_changes.specs.Update.{early_update_refusals, update_rows}
 use Rattle.msi_database_storage.specs.Kept.{kept_of}
 use Rattle.msi_database_storage.specs.Storing.{stored_in}

@@ -1,7 +1,7 @@
 use Rattle.std.proofs.Common.{ap, subst, ◌∙◌, fold, List, map}
 use Rattle.std.specs.FinMap.{entries}
 use Rattle.msi_container_format.specs.Streams as maps
-use Rattle.msi_text_pool_base.specs.Pool.{IndexedPool, unindexed}
+use Rattle.msi_pool_places.specs.Pool.{IndexedPool, unindexed}
 use Rattle.msi_table.specs.Tables.{TableDef, long_table_of}
 use Rattle.msi_database_storage.specs.Kept.{Kept}
 use Rattle.msi_database_storage.specs.Streams.{Streams}

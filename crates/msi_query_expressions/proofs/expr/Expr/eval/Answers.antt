@@ -4,7 +4,7 @@ use Rattle.std.proofs.lemmas.Bool.{or_left, or_right}
 use Rattle.msi_table_values.specs.Values.{is_text}
 use Rattle.msi_query_expressions.specs.Conditions.{has_sum}
 use Rattle.msi_query_expressions.specs.Evaluation.{value_at, value_of}
-use Rattle.msi_query_operators.specs.Operands.{operand_value}
+use Rattle.msi_query_expressions.specs.Operands.{operand_value}
 use Rattle.msi_query_expressions.proofs.TreeLemmas.{tree_has_sum-expression_of, tree_value-expression_of}
 use Rattle.msi_query_expressions.proofs.expr.Expr.eval.Goals as goal
 

@@ -1,5 +1,5 @@
 use Rattle.std.proofs.Common.{List}
-use Rattle.msi_text_pool_base.specs.Pool.{Place}
+use Rattle.msi_pool_places.specs.Pool.{Place}
 use Rattle.msi_recode.specs.PoolReading.{AreWritten}
 use Rattle.msi_recode.specs.Readers.{page_of}
 use Rattle.msi_recode.proofs.TextsLemmas.{AreInFront}

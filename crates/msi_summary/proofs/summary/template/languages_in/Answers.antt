@@ -2,7 +2,7 @@ use Rattle.std.proofs.Common.{rules, tests, lit<}
 use Rattle.std.proofs.lemmas.Iterator.{items_from_collect}
 use Rattle.std.proofs.lemmas.Iterator.Consumers.{YieldsList-from_filter_map, YieldsList-at}
 use Rattle.std.proofs.lemmas.Iterator.Splits.{YieldsList-from_str_split}
-use Rattle.msi_text_categories.specs.Numerals.{u16_in}
+use Rattle.msi_categories.specs.Numerals.{u16_in}
 use Rattle.msi_summary.proofs.summary.template.languages_in.Goals as goal
 
 pub returns-clause-ok : goal.returns-clause-ok

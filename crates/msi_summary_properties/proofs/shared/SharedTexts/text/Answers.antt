@@ -1,6 +1,6 @@
 use Rattle.std.proofs.Common.{◌∙◌, sym, ap, subst}
 use Rattle.std.specs.Prelude.{length, slice_range}
-use Rattle.msi_text_base.specs.Pages.{Reads}
+use Rattle.msi_base.specs.Pages.{Reads}
 use Rattle.msi_summary_properties.proofs.PageCutLemmas.{for_all_any, other_page, own_page, reads_all}
 use Rattle.msi_summary_properties.proofs.SharedTextsLemmas.{ascii_between}
 use Rattle.msi_summary_properties.specs.SharedTexts.{page_for_all}

@@ -1,5 +1,5 @@
 use Rattle.std.proofs.Common.{◌+◌, ◌*◌, take, drop}
-use Rattle.msi_text_base.specs.Lists.{tabulated}
+use Rattle.msi_base.specs.Lists.{tabulated}
 use Rattle.msi_table.specs.Cells.{cell_in, width}
 use Rattle.msi_table.specs.Census.{CountsMore, numbers_of_row}
 use Rattle.msi_table.proofs.census.Census.count_column.Given as goal

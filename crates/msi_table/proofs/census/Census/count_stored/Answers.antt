@@ -1,5 +1,5 @@
 use Rattle.std.proofs.Common.{◌≡◌, ◌∙◌, List, is_some, subst}
-use Rattle.msi_text_base.specs.Lists.{tabulated}
+use Rattle.msi_base.specs.Lists.{tabulated}
 use Rattle.msi_table_values.specs.Columns.{ColumnDef, types_of}
 use Rattle.msi_table.specs.Cells.{row_count, row_in, rows_in}
 use Rattle.msi_table.specs.Census.{CountsMore, numbers_of_rows}

@@ -1,6 +1,6 @@
 use Rattle.std.proofs.Common.{◌≡◌}
 use Rattle.std.proofs.lemmas.Result.{IfOk-weaker}
-use Rattle.msi_text_base.specs.Lists.{tabulated}
+use Rattle.msi_base.specs.Lists.{tabulated}
 use Rattle.msi_table.specs.Cells.{row_in}
 use Rattle.msi_table.specs.Rows.{AreAsWide}
 use Rattle.msi_table_values.specs.Columns.{types_of}

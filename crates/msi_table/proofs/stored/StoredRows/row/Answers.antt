@@ -1,8 +1,8 @@
 use Rattle.std.proofs.Common.{◌≡◌, ◌<◌, ◌∙◌, Some, ap, arith, sym}
 use Rattle.std.specs.Prelude.{slice_get}
 use Rattle.std.proofs.lemmas.Result.{IfOk-weaker}
-use Rattle.msi_text_base.specs.Lists.{tabulated}
-use Rattle.msi_text_base.proofs.ListLemmas.{tabulated_at}
+use Rattle.msi_base.specs.Lists.{tabulated}
+use Rattle.msi_base.proofs.ListLemmas.{tabulated_at}
 use Rattle.msi_table.specs.Cells.{row_in}
 use Rattle.msi_table_values.specs.Columns.{types_of}
 use Rattle.msi_table.proofs.ReadRowsLemmas.{length-tabulated}

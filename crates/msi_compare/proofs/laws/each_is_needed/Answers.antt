@@ -1,5 +1,0 @@
-use Rattle.msi_compare.proofs.NeedLemmas.{each_needed}
-use Rattle.msi_compare.proofs.laws.each_is_needed.Goals as goal
-
-pub returns : goal.returns
-returns c = each_needed

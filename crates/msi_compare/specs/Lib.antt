@@ -1,3 +1,0 @@
--- The words of this crate.
-pub mod Differences
-pub mod Laws

@@ -1,0 +1,17 @@
+use Rattle.std.proofs.lemmas.Result.{err_from_is_err_and}
+use Rattle.msi_database_schema.proofs.system.referring_columns.Goals as goal
+
+pub returns-in_err-bound_column-clause-ok : goal.returns-in_err-bound_column-clause-ok
+returns-in_err-bound_column-clause-ok c = let p = err_from_is_err_and c.from_residual.result c.from_residual.ensures.1 in rw p.1 tt
+
+pub returns-in_err-bound_column-2-clause-ok : goal.returns-in_err-bound_column-2-clause-ok
+returns-in_err-bound_column-2-clause-ok c = let p = err_from_is_err_and c.from_residual-in_err-bound_column-2.result c.from_residual-in_err-bound_column-2.ensures.1 in rw p.1 tt
+
+pub returns-in_err-key_table_column-clause-ok : goal.returns-in_err-key_table_column-clause-ok
+returns-in_err-key_table_column-clause-ok c = let p = err_from_is_err_and c.from_residual-in_err-key_table_column.result c.from_residual-in_err-key_table_column.ensures.1 in rw p.1 tt
+
+pub returns-in_err-key_column_column-clause-ok : goal.returns-in_err-key_column_column-clause-ok
+returns-in_err-key_column_column-clause-ok c = let p = err_from_is_err_and c.from_residual-in_err-key_column_column.result c.from_residual-in_err-key_column_column.ensures.1 in rw p.1 tt
+
+pub returns-in_err-from_array-clause-ok : goal.returns-in_err-from_array-clause-ok
+returns-in_err-from_array-clause-ok c = let p = err_from_is_err_and c.from_residual-in_err-from_array.result c.from_residual-in_err-from_array.ensures.1 in rw p.1 tt

@@ -1,6 +1,0 @@
-use Rattle.std.proofs.Common.{refl}
-use Rattle.msi_database_system.proofs.names.string_pool_key.Goals as goal
-
-pub short_table_key-requires : goal.short_table_key-requires
-unfolding Rattle.std.specs.Str.chars
-short_table_key-requires c = refl

@@ -1,8 +1,0 @@
-use Rattle.std.proofs.Common.{◌≡◌, map, take}
-use Rattle.msi_text_categories.specs.Categories.{category_name}
-use Rattle.msi_database_system.proofs.system.category_names.Given as goal
-
-abbrev pub invariant-loop-category : goal.invariant-loop-category
-invariant-loop-category l = record {
-  names : map (λ name. name.now) l.names.items ≡ map category_name (take l.category-index l.category-items);
-}

@@ -1,0 +1,12 @@
+use Rattle.std.proofs.Common.{◌≡◌}
+use Rattle.std.specs.Prelude.{vec_len}
+use Rattle.msi_pool_places.specs.JoinedTexts.{IsJoined, places_joined}
+use Rattle.msi_pool_places.proofs.ForgettingLemmas.{gone_through}
+use Rattle.msi_pool_places.proofs.joined.JoinedTexts.forget_texts.Given as goal
+
+abbrev pub invariant-loop-i : goal.invariant-loop-i
+invariant-loop-i l = record {
+  joined : IsJoined l.self;
+  many : vec_len l.self.counts ≡ vec_len l.initial.self.counts;
+  places : places_joined l.self ≡ gone_through l.is_named (places_joined l.initial.self) l.i;
+}

@@ -1,5 +1,0 @@
--- The words of this crate.
-pub mod Cursor
-pub mod Refusals
-pub mod Listing
-pub mod Renewing

@@ -1,2 +1,0 @@
--- The words of this crate.
-pub mod Row

@@ -1,5 +1,0 @@
-use Rattle.msi_text_base.proofs.PageTablesLemmas.{tables_agree}
-use Rattle.msi_text_base.proofs.laws.page_tables_agree.Goals as goal
-
-pub returns : goal.returns
-returns c = tables_agree

@@ -1,7 +1,0 @@
-use Rattle.std.proofs.Common.{refl}
-use Rattle.msi_text_categories.specs.LanguageRows.{languages_alone}
-use Rattle.msi_text_categories.proofs.language.rows.languages_alone.Goals as goal
-
-pub returns : goal.returns
-unfolding languages_alone
-returns c = refl

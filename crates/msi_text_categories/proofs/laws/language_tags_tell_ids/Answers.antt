@@ -1,5 +1,0 @@
-use Rattle.msi_text_categories.proofs.LanguageRowsLemmas as lemmas
-use Rattle.msi_text_categories.proofs.laws.language_tags_tell_ids.Goals as goal
-
-pub returns : goal.returns
-returns c = lemmas.language_tags_tell_ids

@@ -1,6 +1,0 @@
-use Rattle.std.proofs.Common.{chars}
-use Rattle.msi_text_pages.proofs.SpellingLemmas.{carried}
-use Rattle.msi_text_pages.proofs.encoder.Encoder.carries.Goals as goal
-
-pub returns : goal.returns
-returns c = carried c.args.self.now (chars c.args.text.now) c.has_all.result c.has_all.ensures

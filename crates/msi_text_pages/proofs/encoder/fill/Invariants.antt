@@ -1,5 +1,0 @@
-use Rattle.msi_text_pages.specs.Spelling.{IsIndex}
-use Rattle.msi_text_pages.proofs.encoder.fill.Given as goal
-
-abbrev pub invariant-loop-number : goal.invariant-loop-number
-invariant-loop-number l = IsIndex l.decoder l.number l.numbers

@@ -1,9 +1,0 @@
-use Rattle.std.proofs.Common.{◌≡◌}
-use Rattle.msi_text_pool_base.proofs.RecountingLemmas.{changed_before, set_before}
-use Rattle.msi_text_places.proofs.places.set_counts.Given as goal
-
-abbrev pub invariant-loop-i : goal.invariant-loop-i
-invariant-loop-i l = record {
-  places : l.places.items ≡ set_before l.counts l.initial.places.items l.i;
-  changed : l.changed ≡ changed_before l.counts l.initial.places.items l.i;
-}

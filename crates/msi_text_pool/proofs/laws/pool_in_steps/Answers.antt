@@ -1,5 +1,0 @@
-use Rattle.msi_text_pool.proofs.ReadStreamLemmas.{pool_in_steps}
-use Rattle.msi_text_pool.proofs.laws.pool_in_steps.Goals as goal
-
-pub returns : goal.returns
-returns c = pool_in_steps

@@ -1,5 +1,0 @@
-use Rattle.msi_text_pool.proofs.PoolReadBackLemmas as laws
-use Rattle.msi_text_pool.proofs.laws.pools_read_back.Goals as goal
-
-pub returns : goal.returns
-returns c = laws.pools_read_back

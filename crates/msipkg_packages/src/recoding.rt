@@ -1,0 +1,244 @@
+//! Packages with texts in a page that packages aren't read in: they are recoded to UTF-8 first.
+
+use crate::kinds::check_kind;
+use crate::named_pages::{NamedPages, database_page, has_utf8_texts};
+use msi::compound::{self, Contents, StreamMap};
+use msi_base::Error;
+use msi_recode::{TextPage, recode_contents};
+use msipkg_format::{Cause, Failure, Output, Pages, Shown, System};
+use std::alloc::Global;
+use std::rc::Rc;
+
+/// The refusal of a change that would lose texts.
+const UNNAMED: &str = "it names no code page, and its texts aren't UTF-8: add --page N";
+
+/// What a package is opened for.
+#[derive(Clone, Copy, Debug)]
+pub enum Purpose {
+    /// It is looked at.
+    Look,
+    /// It is changed, and may not be recoded.
+    Change,
+    /// It is changed, and is written with its texts in UTF-8 where it is recoded, which is noted.
+    Recode,
+    /// The same, but it isn't noted.
+    RecodeSilently,
+}
+
+/// The file of a package, and how it is read.
+#[derive(Clone, Copy, Debug)]
+pub struct PackageFile<'a> {
+    /// The path of the file.
+    pub path: &'a str,
+    /// The page of the texts, where the package names page 0, which says nothing of it.
+    pub page: Option<i32>,
+    /// What the package is opened for.
+    pub purpose: Purpose,
+}
+
+/// The bytes of a package with its texts in UTF-8.
+pub struct Recoded {
+    bytes: Vec<u8>,
+    pages: Pages,
+    /// Whether storages below the root are left out.
+    is_part: bool,
+}
+
+/// Written out, so that a function that owns one calls one drop, and its proof doesn't go through those of the parts.
+impl Drop for Recoded {
+    fn drop(self) {
+        let Recoded {
+            bytes: _,
+            pages: _,
+            is_part: _,
+        } = self;
+    }
+}
+
+impl Recoded {
+    /// Returns the bytes.
+    pub fn into_bytes(self) -> Vec<u8> {
+        let Recoded {
+            bytes,
+            pages: _,
+            is_part: _,
+        } = self;
+        bytes
+    }
+
+    /// Fails if the package is changed and may not be recoded, and notes else that its texts are.
+    ///
+    /// # Errors
+    /// Fails with the pages of the texts.
+    pub fn permit(&self, file: &PackageFile<'_>, notes: &mut Output) -> Result<(), Failure> {
+        match file.purpose {
+            Purpose::Look | Purpose::Recode => {
+                self.note(file.path, notes);
+                Ok(())
+            }
+            Purpose::RecodeSilently => Ok(()),
+            Purpose::Change => Err(Failure::new(Cause::Recoding(self.pages))),
+        }
+    }
+
+    fn note(&self, path: &str, notes: &mut Output) {
+        if self.pages.is_empty() {
+            return;
+        }
+        let (path, pages) = (Shown::escaped(path), self.pages);
+        let left_out = if self.is_part {
+            ", and storages below the root are left out"
+        } else {
+            ""
+        };
+        writeln!(
+            notes,
+            "msipkg: {path}: texts in {pages} are read as UTF-8{left_out}"
+        );
+    }
+}
+
+/// Returns a package's bytes with its texts in UTF-8 if a page is given and the package has texts to be recoded. Such a
+/// package isn't tried as it is, since it would be read as UTF-8, in which no bytes are refused. What no package can be
+/// is refused here, before it is opened.
+///
+/// # Errors
+/// Fails as `check_kind` and `recode_file` do.
+pub fn recoded_by_page(rt: &System, file: &PackageFile<'_>) -> Result<Option<Recoded>, Failure> {
+    check_kind(rt, file.path)?;
+    match file.page {
+        Some(_) => recode_file(rt, file),
+        None => Ok(None),
+    }
+}
+
+/// Returns whether a package that is changed names page 0. One that is only looked at isn't read for that.
+///
+/// # Errors
+/// Fails if it does and has texts that aren't UTF-8: they would be read with U+FFFD, and be written so. Fails as the
+/// calls of the system do, too. A file that is no container isn't judged.
+pub fn has_page_zero(rt: &System, file: &PackageFile<'_>) -> Result<bool, Failure> {
+    if matches!(file.purpose, Purpose::Look) {
+        return Ok(false);
+    }
+    let bytes = Rc::new(rt.alloc(), rt.read(file.path)?)?;
+    match compound::read_shared(rt.alloc(), bytes) {
+        Ok(contents) => check_streams(rt.alloc(), &contents.streams),
+        Err(_) => Ok(false),
+    }
+}
+
+/// Returns whether these streams name page 0, and fails if they do and have texts that aren't UTF-8.
+fn check_streams(alloc: Global, streams: &StreamMap) -> Result<bool, Failure> {
+    if !matches!(database_page(alloc, streams)?, Some(0)) {
+        return Ok(false);
+    }
+    if has_utf8_texts(alloc, streams)? {
+        return Ok(true);
+    }
+    Err(Failure::rule(UNNAMED))
+}
+
+/// Returns the number of the page that a file names for its package's database, if it names one.
+///
+/// # Errors
+/// Fails as the calls of the system do. A file that is no container names none.
+pub fn file_page(rt: &System, path: &str) -> Result<Option<i32>, Failure> {
+    let bytes = Rc::new(rt.alloc(), rt.read(path)?)?;
+    match compound::read_shared(rt.alloc(), bytes) {
+        Ok(contents) => Ok(database_page(rt.alloc(), &contents.streams)?),
+        Err(_) => Ok(None),
+    }
+}
+
+/// Returns the number of the page that bytes name for their package's database, if they name one.
+///
+/// # Errors
+/// Fails if they are no container, and if memory is refused.
+pub fn page_in(alloc: Global, bytes: &[u8]) -> Result<Option<i32>, Error> {
+    database_page(alloc, &compound::read(alloc, bytes)?.streams)
+}
+
+/// Returns the bytes of a package that isn't opened as it is, for this failure, with its texts in UTF-8.
+///
+/// # Errors
+/// Fails as `recode_file` does, and with that failure if no invalid data was found or there are no texts to be recoded.
+pub fn recoded_instead(
+    rt: &System,
+    file: &PackageFile<'_>,
+    failure: Failure,
+) -> Result<Recoded, Failure> {
+    if !failure.is_invalid_data() {
+        return Err(failure);
+    }
+    match recode_file(rt, file)? {
+        Some(recoded) => Ok(recoded),
+        None => Err(failure),
+    }
+}
+
+/// Returns a package's bytes with its texts in UTF-8, if one of its pages isn't one that packages are read in, or it is
+/// page 0 and a page is given.
+fn recode_file(rt: &System, file: &PackageFile<'_>) -> Result<Option<Recoded>, Failure> {
+    let bytes = Rc::new(rt.alloc(), rt.read(file.path)?)?;
+    match compound::read_shared(rt.alloc(), bytes) {
+        Ok(contents) => recoded_of(rt.alloc(), contents, file),
+        Err(_) => Ok(None),
+    }
+}
+
+fn recoded_of(
+    alloc: Global,
+    contents: Contents,
+    file: &PackageFile<'_>,
+) -> Result<Option<Recoded>, Failure> {
+    let pages = NamedPages::of(alloc, &contents.streams)?.recoded_from(file.page);
+    if pages.is_empty() {
+        return Ok(None);
+    }
+    Ok(Some(recoded_from(alloc, contents, pages, file)?))
+}
+
+pub(crate) fn recoded_or_plain(
+    alloc: Global,
+    contents: Contents,
+    file: &PackageFile<'_>,
+) -> Result<Recoded, Failure> {
+    let pages = NamedPages::of(alloc, &contents.streams)?.recoded_from(file.page);
+    if pages.is_empty() {
+        return written(alloc, contents, pages, file.purpose);
+    }
+    recoded_from(alloc, contents, pages, file)
+}
+
+fn recoded_from(
+    alloc: Global,
+    contents: Contents,
+    pages: Pages,
+    file: &PackageFile<'_>,
+) -> Result<Recoded, Failure> {
+    match recode_contents(alloc, file.page.and_then(TextPage::of), contents) {
+        Ok(contents) => written(alloc, contents, pages, file.purpose),
+        Err(error) => Err(Failure::new(Cause::Text(error))),
+    }
+}
+
+/// Writes a package of these contents. Storages below the root can't be written, so they are left out where the package
+/// is only looked at.
+fn written(
+    alloc: Global,
+    mut contents: Contents,
+    pages: Pages,
+    purpose: Purpose,
+) -> Result<Recoded, Failure> {
+    let is_part = contents.has_storages && matches!(purpose, Purpose::Look);
+    if is_part {
+        contents.has_storages = false;
+    }
+    let bytes = compound::write(alloc, &contents, 0)?;
+    Ok(Recoded {
+        bytes,
+        pages,
+        is_part,
+    })
+}

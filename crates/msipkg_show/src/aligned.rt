@@ -1,0 +1,91 @@
+//! Rows under the names of their columns, aligned. They are gone over twice, for the widths of the columns and to be
+//! written, so that none of their texts is kept.
+
+use msipkg_format::{Style, Widths};
+use msipkg_packages::msi::{Column, Rows, ValueView};
+use msipkg_packages::output::{NullCells, Output, value_width, write_value};
+use std::alloc::{AllocError, Global};
+
+pub(crate) fn widths_of(
+    alloc: Global,
+    style: Style,
+    mut rows: Rows<'_>,
+    nulls: &NullCells,
+) -> Result<Widths, AllocError> {
+    let mut widths = Widths::new(alloc, rows.columns().len())?;
+    widen_by_names(style, rows.columns(), &mut widths);
+    for number in 0..rows.len() {
+        widen_by_row(style, &rows, number, nulls, &mut widths);
+        rows.pass();
+    }
+    Ok(widths)
+}
+
+fn widen_by_names(style: Style, columns: &[Column], widths: &mut Widths) {
+    for (place, column) in columns.iter().enumerate() {
+        widths.widen(place, style.width(column.name()));
+    }
+}
+
+fn widen_by_row(
+    style: Style,
+    rows: &Rows<'_>,
+    number: usize,
+    nulls: &NullCells,
+    widths: &mut Widths,
+) {
+    for place in 0..rows.columns().len() {
+        match nulls.value_in(rows, number, place) {
+            ValueView::Str(text) => widths.widen_by_text(place, style, text),
+            value => widths.widen(place, value_width(style, value)),
+        }
+    }
+}
+
+/// Writes nothing if there are no columns.
+pub(crate) fn write_aligned(
+    style: Style,
+    widths: &Widths,
+    mut rows: Rows<'_>,
+    nulls: &NullCells,
+    output: &mut Output,
+) {
+    if rows.columns().is_empty() {
+        return;
+    }
+    write_names(style, widths, rows.columns(), output);
+    widths.write_dashes(output);
+    for number in 0..rows.len() {
+        write_row(style, widths, &rows, number, nulls, output);
+        rows.pass();
+    }
+}
+
+fn write_names(style: Style, widths: &Widths, columns: &[Column], output: &mut Output) {
+    for (place, column) in columns.iter().enumerate() {
+        let name = column.name();
+        style.print(name, output);
+        widths.fill_up(place, style.width(name), output);
+    }
+    output.push_str("\n");
+}
+
+/// Writes the values of the next row. The last one isn't filled up, so its width isn't asked for.
+fn write_row(
+    style: Style,
+    widths: &Widths,
+    rows: &Rows<'_>,
+    number: usize,
+    nulls: &NullCells,
+    output: &mut Output,
+) {
+    let count = rows.columns().len();
+    for place in 0..count {
+        let value = nulls.value_in(rows, number, place);
+        write_value(style, value, output);
+        if place + 1 < count {
+            widths.fill_up(place, value_width(style, value), output);
+        }
+    }
+    output.push_str("\n");
+}

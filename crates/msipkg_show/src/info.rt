@@ -1,0 +1,132 @@
+//! `info FILE..`: what a package is, in a few lines.
+
+use crate::facts::Facts;
+use crate::product::add_product;
+use crate::summary::add_summary;
+use crate::tables::count_rows;
+use msipkg_format::Style;
+use msipkg_packages::msi::{CodePage, Error, Package};
+use msipkg_packages::output::{Failure, Opened, Output, System};
+use msipkg_packages::{Looked, StoredStreams, file_page, kind_name, stored_streams, stream_bytes};
+use std::alloc::Global;
+
+/// Prints what a file's package is, as lines or as JSON on one line, and returns whether all tables can be read. Fails
+/// if a stream can't be found in the file.
+pub(crate) fn print_info(
+    rt: &System,
+    style: Style,
+    file: &str,
+    looked: &mut Looked,
+    is_json: bool,
+    output: &mut Output,
+) -> Result<bool, Failure> {
+    let stored = stored_streams(rt, file, &looked.package)?;
+    let page = stored_page(rt, file, &looked.package)?;
+    let mut facts = Facts::new(rt.alloc(), style, file, is_json);
+    add_head(&looked.package, page, &mut facts);
+    write_facts(rt.alloc(), looked, stored.as_ref(), facts, output)
+}
+
+/// Returns the number of the page that a file names for its package's database, where another may be read as UTF-8.
+fn stored_page(rt: &System, file: &str, package: &Package<Opened>) -> Result<Option<i32>, Failure> {
+    if matches!(package.database_codepage(), CodePage::Utf8) {
+        file_page(rt, file)
+    } else {
+        Ok(None)
+    }
+}
+
+fn write_facts(
+    alloc: Global,
+    looked: &mut Looked,
+    stored: Option<&StoredStreams>,
+    mut facts: Facts,
+    output: &mut Output,
+) -> Result<bool, Failure> {
+    add_names(alloc, looked, &mut facts);
+    let is_read = add_parts(alloc, &looked.package, stored, &mut facts)?;
+    add_changeable(&mut looked.package, &mut facts);
+    facts.print(output);
+    Ok(is_read)
+}
+
+fn add_names(alloc: Global, looked: &Looked, facts: &mut Facts) {
+    add_product(alloc, &looked.package, facts);
+    if looked.has_summary {
+        add_summary(looked.package.summary_info(), facts);
+    }
+}
+
+fn add_parts(
+    alloc: Global,
+    package: &Package<Opened>,
+    stored: Option<&StoredStreams>,
+    facts: &mut Facts,
+) -> Result<bool, Error> {
+    let is_read = add_tables(alloc, package, facts);
+    add_streams(package, stored, facts)?;
+    facts.truth("signed", package.has_digital_signature());
+    Ok(is_read)
+}
+
+fn add_head(package: &Package<Opened>, stored_page: Option<i32>, facts: &mut Facts) {
+    let page = package.database_codepage().id();
+    facts.text("kind", Some(kind_name(package.package_type())));
+    match stored_page {
+        Some(stored) if stored != page => {
+            facts.noted_number("database_codepage", i64::from(stored), "read as UTF-8");
+        }
+        Some(_) | None => facts.number("database_codepage", Some(i64::from(page))),
+    }
+}
+
+fn add_tables(alloc: Global, package: &Package<Opened>, facts: &mut Facts) -> bool {
+    let (mut unreadable, mut rows) = (0usize, 0usize);
+    for table in package.tables() {
+        match count_rows(alloc, package, table.name()) {
+            Ok(count) => rows = rows.saturating_add(count),
+            Err(_) => unreadable = unreadable.saturating_add(1),
+        }
+    }
+    facts.number("tables", signed(package.tables().len()));
+    if unreadable > 0 {
+        facts.number("unreadable_tables", signed(unreadable));
+    }
+    facts.number("rows", signed(rows));
+    unreadable == 0
+}
+
+fn add_streams(
+    package: &Package<Opened>,
+    stored: Option<&StoredStreams>,
+    facts: &mut Facts,
+) -> Result<(), Error> {
+    let (mut streams, mut bytes) = (0usize, 0usize);
+    for name in package.streams() {
+        let len = stream_bytes(package, stored, name?.as_str())?.len();
+        streams = streams.saturating_add(1);
+        bytes = bytes.saturating_add(len);
+    }
+    facts.number("streams", signed(streams));
+    facts.number("stream_bytes", signed(bytes));
+    Ok(())
+}
+
+fn signed(count: usize) -> Option<i64> {
+    i64::try_from(count).ok()
+}
+
+/// Adds whether the package's tables can be changed, and if not, why. The page is set to itself, which is a change like
+/// any other, and nothing is written.
+fn add_changeable(package: &mut Package<Opened>, facts: &mut Facts) {
+    let page = package.database_codepage();
+    match package.set_database_codepage(page) {
+        Ok(()) => facts.truth("changeable", true),
+        Err(error) => add_refusal(&error, facts),
+    }
+}
+
+fn add_refusal(error: &Error, facts: &mut Facts) {
+    facts.truth("changeable", false);
+    facts.shown("why_not", error);
+}
