@@ -1,18 +1,16 @@
 //! The commands that change a package: each is lent the one that is opened here.
 
-use crate::importing::{Import, Losses, import_files};
 use crate::outcome::Outcome;
 use crate::pages::recode;
-use crate::properties::set_properties;
 use crate::recounting::{mend_first, noted};
 use crate::statements::{carry_out_statements, check_statements};
 use crate::storing::store;
 use crate::streams::{add_streams, remove_parts};
-use crate::validation::Before;
 use msipkg_format::Style;
+use msipkg_import::{Losses, Merging, import_given, note_losses, read_files};
 use msipkg_packages::msi::Package;
 use msipkg_packages::output::{Failure, Opened, Output, System};
-use msipkg_packages::{Claim, FileState, PackageFile, open_to_change};
+use msipkg_packages::{Before, Claim, FileState, PackageFile, open_to_change, set_properties};
 use std::alloc::Global;
 
 /// A change of a package.
@@ -34,6 +32,17 @@ pub enum Change<'a, 'b> {
         set: &'b [&'a str],
         cleared: &'b [&'a str],
     },
+}
+
+/// What is imported.
+#[derive(Clone, Copy)]
+pub struct Import<'a, 'b> {
+    /// The paths of the files.
+    pub paths: &'b [&'a str],
+    /// What becomes of rows whose keys are there.
+    pub merging: Merging,
+    /// Whether something may be lost that the package can't hold.
+    pub is_lossy: bool,
 }
 
 /// How a package is changed.
@@ -122,9 +131,9 @@ fn apply(
             is_signature,
         } => remove_parts(rt.alloc(), package, names, is_signature),
         Change::Execute(texts) => execute(rt.alloc(), package, texts, manner, outcome),
-        Change::Import(import) => {
+        Change::Import(asked) => {
             let losses = &mut Losses::new(file, notes);
-            import_files(rt, package, import, manner, outcome, losses)
+            import_files(rt, package, asked, manner, outcome, losses)
         }
         Change::Properties { set, cleared } => set_properties(rt.alloc(), package, set, cleared),
     }
@@ -144,4 +153,24 @@ fn execute(
         Ok(()) => Ok(()),
         Err(failure) => Err(noted(package, failure)),
     }
+}
+
+/// Counts that are too low for the tables of the files are mended first.
+fn import_files(
+    rt: &System,
+    package: &mut Package<Opened>,
+    asked: Import<'_, '_>,
+    manner: Manner,
+    outcome: &mut Outcome,
+    losses: &mut Losses<'_>,
+) -> Result<(), Failure> {
+    let given = read_files(rt, asked.paths)?;
+    if given.page.is_some() || !given.tables.is_empty() {
+        mend_first(package, manner, outcome);
+    }
+    if let Err(failure) = import_given(rt.alloc(), package, &given, asked.merging) {
+        return Err(noted(package, failure));
+    }
+    note_losses(rt.alloc(), package, given.tables.as_slice(), losses)?;
+    losses.permit(asked.is_lossy)
 }

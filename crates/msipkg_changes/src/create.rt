@@ -2,7 +2,7 @@
 
 use msipkg_packages::msi::{CodePage, Package, PackageType};
 use msipkg_packages::output::{Failure, Opened, System};
-use msipkg_packages::{FileBytes, new_package, verified, write_package};
+use msipkg_packages::{FileBytes, new_package, page_of, verified, write_package};
 use std::alloc::Global;
 
 /// Makes a file with a new package of a kind, `installer`, `patch` or `transform`. Its texts are in the code page of a
@@ -40,17 +40,6 @@ fn kind_of(name: &str) -> Result<PackageType, Failure> {
         "patch" => Ok(PackageType::Patch),
         "transform" => Ok(PackageType::Transform),
         _ => Err(Failure::rule("a package is an installer, a patch or a transform")),
-    }
-}
-
-pub(crate) fn page_of(number: &str) -> Result<CodePage, Failure> {
-    let known = match number.parse::<i32>() {
-        Ok(number) => CodePage::from_id(number),
-        Err(_) => None,
-    };
-    match known {
-        Some(page) => Ok(page),
-        None => Err(Failure::rule("there is no code page of this number")),
     }
 }
 

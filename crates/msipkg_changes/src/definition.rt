@@ -2,6 +2,7 @@
 
 use crate::tokens::{Token, Tokens};
 use msipkg_format::Shown;
+use msipkg_packages::check_reserved;
 use msipkg_packages::msi::{Column, Error};
 use msipkg_packages::output::Failure;
 use msipkg_queries::{near_text, said};
@@ -86,16 +87,6 @@ fn creation<'a>(alloc: Global, tokens: &mut Tokens<'a>) -> Result<Definition<'a>
     let columns = columns(alloc, tokens)?;
     tokens.expect_end()?;
     Ok(Definition::Create { table, columns })
-}
-
-/// Fails if the installer uses the name itself: it lists streams and storages as tables of these names.
-pub(crate) fn check_reserved(table: &str) -> Result<(), Failure> {
-    match table {
-        "_Streams" | "_Storages" => {
-            Err(Failure::rule("_Streams and _Storages are reserved for the installer"))
-        }
-        _ => Ok(()),
-    }
 }
 
 fn columns(alloc: Global, tokens: &mut Tokens<'_>) -> Result<Vec<Column>, Failure> {

@@ -3,7 +3,7 @@
 use crate::applied::{apply_definition, apply_statement, counted};
 use crate::definition::{Definition, definition_of, is_definition};
 use crate::outcome::{Carried, Outcome};
-use crate::validation::add_validation;
+use msipkg_packages::add_validation;
 use msipkg_packages::msi::Package;
 use msipkg_packages::output::{Failure, Opened};
 use msipkg_queries::{check_statement, explained, read_statement};

@@ -1,9 +1,9 @@
 //! `add FILE NAME=PATH..` and `remove FILE NAME..`: streams of a package.
 
+use msipkg_packages::fill_stream;
 use msipkg_packages::msi::Package;
 use msipkg_packages::output::{Failure, Opened, System};
 use std::alloc::Global;
-use std::io::Write;
 
 /// Stores files as streams, each written as `NAME=PATH`. Fails at the first word that has no `=`, whose file can't be
 /// read, or whose name no stream may have. Those in front of it are stored.
@@ -35,14 +35,6 @@ fn fill_named(
     bytes: &[u8],
 ) -> Result<(), Failure> {
     fill_stream(package, name, bytes).map_err(|failure| failure.at(alloc, "stream", name))
-}
-
-pub(crate) fn fill_stream(
-    package: &mut Package<Opened>,
-    name: &str,
-    bytes: &[u8],
-) -> Result<(), Failure> {
-    Ok(package.write_stream(name)?.write_all(bytes)?)
 }
 
 /// Removes streams of a package, and its digital signature if that is asked for. Fails if nothing is asked for, if the

@@ -11,13 +11,16 @@ mod named_pages;
 pub mod null_streams;
 pub mod opening;
 pub mod partial;
+pub mod properties;
 mod reasons;
 pub mod recoding;
 pub mod replacing;
 pub mod stored;
+pub mod streams;
 pub mod summary_texts;
 pub mod tables;
 pub mod unlisted;
+pub mod validation;
 pub mod without_summary;
 
 pub use claim::Claim;
@@ -32,13 +35,16 @@ pub use msipkg_format as output;
 pub use null_streams::{StreamColumn, has_null_streams, null_cells_in, null_cells_of};
 pub use opening::{FileState, kind_name, new_package, open_package, open_to_change};
 pub use partial::{Looked, open_to_look};
+pub use properties::{clear_property, page_of, set_properties, set_property};
 pub use recoding::{
     PackageFile, Purpose, Recoded, file_page, has_page_zero, page_in, recoded_by_page,
     recoded_instead,
 };
 pub use replacing::replace_file;
 pub use stored::{StoredStreams, stored_streams, stream_bytes};
+pub use streams::fill_stream;
 pub use summary_texts::{property_text, uuid_text};
-pub use tables::{cell_text, chosen_tables, is_list, rows_of, table_named};
+pub use tables::{cell_text, check_reserved, chosen_tables, is_list, rows_of, table_named};
 pub use unlisted::TableNames;
+pub use validation::{Added, Before, VALIDATION, add_validation, copied_rows};
 pub use without_summary::{note_summary, without_summary};

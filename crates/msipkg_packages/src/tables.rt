@@ -110,3 +110,13 @@ pub fn cell_text(
     }
     Ok(text)
 }
+
+/// Fails if the installer uses the name of a table itself: it lists streams and storages as tables of these names.
+pub fn check_reserved(table: &str) -> Result<(), Failure> {
+    match table {
+        "_Streams" | "_Storages" => {
+            Err(Failure::rule("_Streams and _Storages are reserved for the installer"))
+        }
+        _ => Ok(()),
+    }
+}

@@ -1,19 +1,21 @@
 //! Packages without `_Validation`, in which the library creates no table: before a table is created, such a package is
 //! made anew as one that has it.
 
+use crate::opening::new_package;
+use crate::output::{Failure, Opened, Output, System};
 use crate::streams::fill_stream;
+use crate::tables::{is_list, rows_of};
+use crate::unlisted::TableNames;
+use msi::{Column, Error, Insert, Package, Row, Table, Value};
 use msipkg_format::Shown;
-use msipkg_packages::msi::{Column, Error, Insert, Package, Row, Table, Value};
-use msipkg_packages::output::{Failure, Opened, Output, System};
-use msipkg_packages::{TableNames, is_list, new_package, rows_of};
 use std::alloc::{AllocError, Global};
 use std::mem;
 
 /// The table that describes columns further.
-pub(crate) const VALIDATION: &str = "_Validation";
+pub const VALIDATION: &str = "_Validation";
 
 /// What a package had before it was changed.
-pub(crate) struct Before {
+pub struct Before {
     is_signed: bool,
     /// The tables that it listed, if `_Validation` wasn't among them.
     listed: Option<TableNames>,
@@ -30,7 +32,7 @@ impl Drop for Before {
 }
 
 impl Before {
-    pub(crate) fn of(alloc: Global, package: &Package<Opened>) -> Result<Before, AllocError> {
+    pub fn of(alloc: Global, package: &Package<Opened>) -> Result<Before, AllocError> {
         let listed = if package.has_table(VALIDATION) {
             None
         } else {
@@ -44,7 +46,7 @@ impl Before {
 
     /// Returns what adding `_Validation` did to the package of a file, if it was added. Fails at a table of which the
     /// file has rows and that the package didn't list: a package made anew doesn't have them.
-    pub(crate) fn added(
+    pub fn added(
         &self,
         rt: &System,
         file: &str,
@@ -69,13 +71,13 @@ impl Before {
 
 /// What adding `_Validation` did to a package.
 #[derive(Clone, Copy, Debug)]
-pub(crate) struct Added {
+pub struct Added {
     lost_signature: bool,
 }
 
 impl Added {
     /// Writes a line that says so, and one if the signature was left out for it.
-    pub(crate) fn note(self, file: &str, notes: &mut Output) {
+    pub fn note(self, file: &str, notes: &mut Output) {
         let file = Shown::escaped(file);
         writeln!(
             notes,
@@ -90,7 +92,7 @@ impl Added {
 /// Adds `_Validation`, as a new package has it, if it doesn't exist. It then describes all tables. Fails if the package
 /// isn't sound, at a table that can't be read or has a row that its columns don't take, and at a stream that can't be
 /// read.
-pub(crate) fn add_validation(alloc: Global, package: &mut Package<Opened>) -> Result<(), Failure> {
+pub fn add_validation(alloc: Global, package: &mut Package<Opened>) -> Result<(), Failure> {
     if package.has_table(VALIDATION) {
         return Ok(());
     }
@@ -174,7 +176,7 @@ fn copy_table(
     Ok(made.insert_rows(Insert::into(alloc, table)?.rows(rows)?)?)
 }
 
-pub(crate) fn copied_rows(
+pub fn copied_rows(
     alloc: Global,
     package: &Package<Opened>,
     table: &str,

@@ -1,8 +1,7 @@
 //! `summary FILE --set NAME=VALUE.. --clear NAME..`: properties of a package's summary.
 
-use crate::create::page_of;
-use msipkg_packages::msi::{Error, HasUuid, LanguageId, Package, SummaryInfo, Timestamp};
-use msipkg_packages::output::{Failure, Opened};
+use crate::output::{Failure, Opened};
+use msi::{CodePage, Error, HasUuid, LanguageId, Package, SummaryInfo, Timestamp};
 use std::alloc::Global;
 use uuid::Uuid;
 
@@ -56,7 +55,7 @@ static PROPERTIES: [(&str, Property); 18] = [
 
 /// Sets properties, each written as `NAME=VALUE`, and then clears others. Fails at the first word that names no
 /// property or whose value the property doesn't take. Those in front of it are set.
-pub(crate) fn set_properties(
+pub fn set_properties(
     alloc: Global,
     package: &mut Package<Opened>,
     pairs: &[&str],
@@ -76,7 +75,7 @@ fn set_pair(alloc: Global, summary: &mut SummaryInfo, pair: &str) -> Result<(), 
     set_property(alloc, summary, name, value).map_err(|failure| failure.at(alloc, "property", name))
 }
 
-pub(crate) fn set_property(
+pub fn set_property(
     alloc: Global,
     summary: &mut SummaryInfo,
     name: &str,
@@ -95,7 +94,7 @@ fn clear_all(alloc: Global, summary: &mut SummaryInfo, names: &[&str]) -> Result
     Ok(())
 }
 
-pub(crate) fn clear_property(summary: &mut SummaryInfo, name: &str) -> Result<(), Failure> {
+pub fn clear_property(summary: &mut SummaryInfo, name: &str) -> Result<(), Failure> {
     match property_named(name) {
         Some(property) => clear(summary, property),
         None => Err(no_property()),
@@ -258,5 +257,16 @@ fn clear_plain(summary: &mut SummaryInfo, property: Property) {
         Property::WordCount => summary.clear_word_count(),
         Property::CharacterCount => summary.clear_character_count(),
         _ => summary.clear_doc_security(),
+    }
+}
+
+pub fn page_of(number: &str) -> Result<CodePage, Failure> {
+    let known = match number.parse::<i32>() {
+        Ok(number) => CodePage::from_id(number),
+        Err(_) => None,
+    };
+    match known {
+        Some(page) => Ok(page),
+        None => Err(Failure::rule("there is no code page of this number")),
     }
 }

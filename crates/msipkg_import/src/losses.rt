@@ -1,12 +1,12 @@
 //! What files say of columns in `_Validation`, and a package doesn't hold.
 
-use crate::importing::rows::{columns_of, package_rows};
-use crate::importing::rules::{VALIDATION, has_category};
+use crate::given::GivenTable;
+use crate::rows::{columns_of, package_rows};
+use crate::rules::has_category;
 use msipkg_format::Shown;
-use msipkg_import::GivenTable;
 use msipkg_packages::msi::{Category, Column, Package, Row, Value};
 use msipkg_packages::output::{Failure, Opened, Output};
-use msipkg_packages::rows_of;
+use msipkg_packages::{VALIDATION, rows_of};
 use std::alloc::{AllocError, Global};
 use std::collections::BTreeMap;
 
@@ -60,7 +60,7 @@ fn key_of(alloc: Global, table: &str, column: &str) -> Result<String, AllocError
 }
 
 /// Notes what a package doesn't hold of rows of `_Validation` among tables: each cell and each row has a line.
-pub(crate) fn note_losses(
+pub fn note_losses(
     alloc: Global,
     package: &Package<Opened>,
     tables: &[GivenTable],
@@ -76,14 +76,14 @@ pub(crate) fn note_losses(
 
 /// Where lines are written on what a package's file loses, and how many there are.
 #[derive(Drop)]
-pub(crate) struct Losses<'a> {
+pub struct Losses<'a> {
     file: &'a str,
     lines: &'a mut Output,
     count: usize,
 }
 
 impl<'a> Losses<'a> {
-    pub(crate) fn new(file: &'a str, lines: &'a mut Output) -> Losses<'a> {
+    pub fn new(file: &'a str, lines: &'a mut Output) -> Losses<'a> {
         Losses {
             file,
             lines,
@@ -91,7 +91,7 @@ impl<'a> Losses<'a> {
         }
     }
 
-    pub(crate) fn permit(&self, is_lossy: bool) -> Result<(), Failure> {
+    pub fn permit(&self, is_lossy: bool) -> Result<(), Failure> {
         if self.count > 0 && !is_lossy {
             return Err(Failure::rule(LOSSY));
         }

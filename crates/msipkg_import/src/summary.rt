@@ -1,9 +1,9 @@
 //! Giving a package a summary.
 
-use crate::properties::{clear_property, set_property};
-use msipkg_import::GivenProperty;
+use crate::given::GivenProperty;
 use msipkg_packages::msi::{Error, Package, SummaryInfo};
 use msipkg_packages::output::{Failure, Opened, PROPERTIES};
+use msipkg_packages::{clear_property, set_property};
 use std::alloc::{AllocError, Global};
 
 /// Replaces the summary of a package. Of the old one only the code page stays, if no other is given.

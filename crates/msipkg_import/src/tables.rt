@@ -1,16 +1,15 @@
 //! Giving a package tables.
 
-use crate::definition::check_reserved;
+use crate::columns::built_columns;
+use crate::descriptions::describe;
+use crate::given::GivenTable;
 use crate::importing::Merging;
-use crate::importing::columns::built_columns;
-use crate::importing::descriptions::describe;
-use crate::importing::merger::merged_rows;
-use crate::importing::rows::{check_rows, columns_of, package_rows};
-use crate::importing::rules::{VALIDATION, rules_of};
-use crate::validation::{add_validation, copied_rows};
-use msipkg_import::GivenTable;
+use crate::merger::merged_rows;
+use crate::rows::{check_rows, columns_of, package_rows};
+use crate::rules::rules_of;
 use msipkg_packages::msi::{Delete, Error, Insert, Package, Value};
 use msipkg_packages::output::{Failure, Opened};
+use msipkg_packages::{VALIDATION, add_validation, check_reserved, copied_rows};
 use std::alloc::Global;
 
 /// Adds tables with their rows. Rows of `_Validation` say more of columns, and aren't stored themselves. All tables are

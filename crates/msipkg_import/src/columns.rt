@@ -1,7 +1,7 @@
 //! The columns of tables that are created.
 
-use crate::importing::rules::rule_about;
-use msipkg_import::{GivenColumn, GivenTable};
+use crate::given::{GivenColumn, GivenTable};
+use crate::rules::rule_about;
 use msipkg_packages::msi::{Category, Column, ColumnBuilder, ColumnType, Error, Value};
 use std::alloc::Global;
 
