@@ -13,7 +13,7 @@ use Rattle.msi_table_cells.specs.CellValues.{row_values}
 use Rattle.msi_table.specs.Tables.{TableDef}
 use Rattle.msi_table_cells.specs.Fitting.{FitsTable}
 use Rattle.msi_query.specs.Queries.{InsertQuery, UpdateQuery, DeleteQuery}
-use Rattle.msi_query_expressions.specs.Conditions.{meets}
+use Rattle.msi_query.specs.Conditions.{meets}
 use Rattle.msi_base.specs.Refusals.{first_refusal, unless_refused}
 use Rattle.msi_table_cells.specs.TableCells.{TableCells}
 use Rattle.msi_query.specs.Selection.{has_columns, condition_names}

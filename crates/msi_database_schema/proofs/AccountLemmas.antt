@@ -1,8 +1,8 @@
 -- Counts of places against the cells that name them, through one text taken or given back.
 use Rattle.std.proofs.Common.{◌≡◌, ◌≢◌, ℕ, zero, suc, ◌+◌, ◌-◌, ◌<◌, ◌≤◌, List, length, refl, sym, ap, ◌∙◌, subst, arith, if◌then◌else◌, ◌==◌, slice_get}
-use Rattle.msi_pool_places.specs.Pool.{Place}
-use Rattle.msi_pool_places.specs.FirstFit.{count_of}
-use Rattle.msi_pool_places.specs.FirstFitLaws.{text_at, count_at, OthersStay, Takes, GivesBack}
+use Rattle.msi_pool.specs.Pool.{Place}
+use Rattle.msi_pool.specs.FirstFit.{count_of}
+use Rattle.msi_pool.specs.FirstFitLaws.{text_at, count_at, OthersStay, Takes, GivesBack}
 use Rattle.msi_table_cells.proofs.StoredValuesLemmas.{once_same, once_other, by_number}
 
 -- how often each number is named

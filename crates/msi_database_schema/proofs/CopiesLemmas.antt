@@ -1,7 +1,7 @@
 -- Copies that were made of places are of their texts.
 use Rattle.std.proofs.Common.{◌≡◌, ℕ, List, map, All, refl, subst, sym}
 use Rattle.std.proofs.lemmas.List.Elements.{All-map}
-use Rattle.msi_pool_places.specs.Pool.{Place}
+use Rattle.msi_pool.specs.Pool.{Place}
 use Rattle.msi_database_schema.specs.Copies.{IsListCopy, IsTextCopy, list_copy, text_copy}
 
 pub texts_are : (places : List Place) (numbers : List ℕ) (copies : List (ℕ × List ℕ)) → copies ≡ map (text_copy places) numbers → All (IsTextCopy places) copies

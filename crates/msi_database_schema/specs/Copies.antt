@@ -1,8 +1,8 @@
 -- Texts of a pool's places, copied once for all the columns that they describe.
 use Rattle.std.specs.Prelude.{◌≡◌, ◌==◌, ℕ, List}
 use Rattle.std.specs.List.{slice_split}
-use Rattle.msi_pool_places.specs.Pool.{Place}
-use Rattle.msi_pool_places.specs.FirstFitLaws.{text_at}
+use Rattle.msi_pool.specs.Pool.{Place}
+use Rattle.msi_pool.specs.FirstFitLaws.{text_at}
 
 -- the texts between each two semicolons
 abbrev pub parted : List ℕ → List (List ℕ)

@@ -4,7 +4,7 @@ ghost use Rattle.std.specs.Prelude.{◌≡◌, ◌==◌, ℕ, Contains, IfOk, If
 ghost use Rattle.std.specs.List.{slice_split};
 ghost use Rattle.std.specs.List.Sorted.{IsStrictlyIncreasing};
 ghost use Rattle.msi_base.specs.Results.{OnlyMemory};
-ghost use Rattle.msi_pool_places.specs.FirstFitLaws.{text_at};
+ghost use Rattle.msi_pool.specs.FirstFitLaws.{text_at};
 ghost use Rattle.msi_database_schema.specs.Copies.{list_copy, parted, text_copy};
 
 use msi_base::errors::Error;
@@ -28,7 +28,7 @@ pub(crate) struct Copies<'a> {
 
 impl<'a> Model for Copies<'a> {
     ghost use Rattle.std.specs.Prelude.{All, List};
-    ghost use Rattle.msi_pool_places.specs.Pool as pools;
+    ghost use Rattle.msi_pool.specs.Pool as pools;
     ghost use Rattle.msi_database_schema.specs.Copies.{IsListCopy, IsTextCopy};
 
     ghost Value = { List pools.Place };

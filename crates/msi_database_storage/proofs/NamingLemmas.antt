@@ -9,7 +9,7 @@ use Rattle.std.proofs.lemmas.Option.{get_or_from_slice_get}
 use Rattle.std.proofs.Math.Seq.{take-length}
 use Rattle.msi_base.specs.Lists.{tabulated}
 use Rattle.msi_base.proofs.ListLemmas.{all_dropped, drop_next, tabulated_at}
-use Rattle.msi_pool_places.specs.Pool.{Pool, without_unnamed_texts}
+use Rattle.msi_pool.specs.Pool.{Pool, without_unnamed_texts}
 use Rattle.msi_pool.proofs.ForgottenLemmas.{marks_stand}
 use Rattle.msi_table_values.specs.Columns.{types_of}
 use Rattle.msi_table.specs.Cells.{rows_in}

@@ -11,7 +11,7 @@ use Rattle.msi_base.specs.declared.errors.ErrorKind.{ErrorKind}
 use Rattle.msi_base.specs.declared.errors.ErrorKind.TheVariants.{InvalidData, OutOfMemory}
 use Rattle.msi_base.specs.declared.errors.ErrorKind.TheVariants as kinds
 use Rattle.msi_base.specs.Results.{FailsAs, Gives}
-use Rattle.msi_pool_places.specs.Pool.{Place, Pool}
+use Rattle.msi_pool.specs.Pool.{Place, Pool}
 use Rattle.msi_container_format.specs.Names.{is_name_length}
 use Rattle.msi_table_values.specs.declared.column.ColumnType.TheVariants as coltype
 use Rattle.msi_table_values.specs.declared.value.Value.{Value}

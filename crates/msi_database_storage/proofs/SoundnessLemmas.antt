@@ -10,9 +10,9 @@ use Rattle.std.proofs.lemmas.List.{map_push, take_more}
 use Rattle.std.proofs.lemmas.List.Folds.{list_all-append, list_all-map, list_all_at}
 use Rattle.msi_base.specs.Lists.{numbers_from, tabulated}
 use Rattle.msi_base.proofs.ListLemmas.{each_number}
-use Rattle.msi_pool_places.specs.Pool.{Place, Pool}
-use Rattle.msi_pool_places.specs.FirstFit.{count_of}
-use Rattle.msi_pool_places.specs.FirstFitLaws.{count_at}
+use Rattle.msi_pool.specs.Pool.{Place, Pool}
+use Rattle.msi_pool.specs.FirstFit.{count_of}
+use Rattle.msi_pool.specs.FirstFitLaws.{count_at}
 use Rattle.msi_table_values.specs.Columns.{ColumnDef}
 use Rattle.msi_table.specs.Census.{CensusDef, IsCensus, most_counted, times_named}
 use Rattle.msi_table.specs.Tables.{TableDef}

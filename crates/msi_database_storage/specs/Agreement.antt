@@ -2,7 +2,7 @@
 use Rattle.std.specs.Prelude.{◌≡◌, ℕ, ◌==◌, Bool, List, [], ◌++◌, map, Option, Some, option_map, option_and_then}
 use Rattle.std.specs.Prelude.{unwrap_or, MatchBool}
 use Rattle.std.specs.List.{AllByRecursion, list_any}
-use Rattle.msi_pool_places.specs.Pool.{Pool}
+use Rattle.msi_pool.specs.Pool.{Pool}
 use Rattle.msi_table_values.specs.declared.value.Value.{Value}
 use Rattle.msi_table_values.specs.Columns.{ColumnDef}
 use Rattle.msi_table_cells.specs.CellValues.{row_values}

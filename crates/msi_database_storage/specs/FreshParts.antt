@@ -1,6 +1,6 @@
 -- The parts of a new database, and the first rows of a table.
 use Rattle.std.specs.Prelude.{◌≡◌, false, List, [], IsSomeAnd}
-use Rattle.msi_pool_places.specs.Pool.{Pool}
+use Rattle.msi_pool.specs.Pool.{Pool}
 use Rattle.msi_table_values.specs.declared.value.Value.{Value}
 use Rattle.msi_table.specs.Tables.{TableDef, CanStore}
 use Rattle.msi_database_schema.specs.Keys.{table_key}

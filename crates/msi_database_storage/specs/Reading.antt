@@ -1,6 +1,6 @@
 -- Which database a pool and the streams of a container's root make.
 use Rattle.std.specs.Prelude.{◌≡◌}
-use Rattle.msi_pool_places.specs.Pool.{Pool, with_named_texts}
+use Rattle.msi_pool.specs.Pool.{Pool, with_named_texts}
 use Rattle.msi_database_storage.specs.Streams.{Streams}
 use Rattle.msi_database_storage.specs.Kept.{Kept}
 use Rattle.msi_database_storage.specs.Agreement.{DatabaseIs, is_shown}

@@ -3,7 +3,7 @@
 ghost use Rattle.std.specs.Prelude.{◌≡◌, ◌∷◌, [], IfOk, OnOk, Some, false, is_some, length, true};
 ghost use Rattle.msi_container_format.specs.Names.{is_name_length};
 ghost use Rattle.msi_base.specs.Results.{OnlyMemory};
-ghost use Rattle.msi_pool_places.specs.Pool.{unindexed};
+ghost use Rattle.msi_pool.specs.Pool.{unindexed};
 ghost use Rattle.msi_database_schema.specs.Keys.{table_key as key_of};
 ghost use Rattle.msi_database_changes.specs.Insert.{cells_added};
 ghost use Rattle.msi_database_changes.specs.Texts.{in_use};

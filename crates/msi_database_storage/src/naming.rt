@@ -4,7 +4,7 @@ ghost use Rattle.std.specs.Prelude.{◌≡◌, ◌≤◌, ◌++◌, ◌||◌, �
 ghost use Rattle.std.specs.FinMap.{entries};
 ghost use Rattle.msi_base.specs.Lists.{tabulated};
 ghost use Rattle.msi_base.specs.Results.{OnlyMemory};
-ghost use Rattle.msi_pool_places.specs.Pool.{CountsFit, unindexed};
+ghost use Rattle.msi_pool.specs.Pool.{CountsFit, unindexed};
 ghost use Rattle.msi_table.specs.Census.{IsCensus, numbers_of_rows};
 ghost use Rattle.msi_database_storage.specs.Kept.{AreAsLong, table_kept};
 ghost use Rattle.msi_database_storage.specs.Naming.{is_named_in, numbers_of_tables, pool_shown};

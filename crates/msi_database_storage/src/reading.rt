@@ -5,7 +5,7 @@ ghost use Rattle.std.specs.FinMap.{entries};
 ghost use Rattle.msi_base.specs.declared.errors.ErrorKind.TheVariants.{InvalidData};
 ghost use Rattle.msi_base.specs.Results.{OnlyMemory};
 ghost use Rattle.msi_table_values.specs.Columns.{most_columns};
-ghost use Rattle.msi_pool_places.specs.Pool.{unindexed};
+ghost use Rattle.msi_pool.specs.Pool.{unindexed};
 ghost use Rattle.msi_base.specs.Refusals.{IsRefusal, or_refused};
 ghost use Rattle.msi_database_schema.specs.Schema.{table_with};
 ghost use Rattle.msi_database_schema.specs.System.{validation_columns as columns_of_validation, validation_name};

@@ -3,7 +3,7 @@
 ghost use Rattle.std.specs.Prelude.{◌≡◌, IfOk};
 ghost use Rattle.std.specs.FinMap.{entries};
 ghost use Rattle.msi_base.specs.Results.{OnlyMemory};
-ghost use Rattle.msi_pool_places.specs.Pool.{Pool};
+ghost use Rattle.msi_pool.specs.Pool.{Pool};
 ghost use Rattle.msi_table.specs.Census.{CountsMore, IsCensus, numbers_of_rows};
 ghost use Rattle.msi_database_schema.specs.Schema.{table_with};
 ghost use Rattle.msi_database_schema.specs.System.{validation_columns, validation_name};

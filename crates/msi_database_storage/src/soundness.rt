@@ -4,8 +4,8 @@ ghost use Rattle.std.specs.Prelude.{◌≡◌, ◌&&◌, ℕ, Bool, List, bytes_
 ghost use Rattle.std.specs.FinMap.{entries};
 ghost use Rattle.std.specs.List.{list_all};
 ghost use Rattle.std.specs.Option as options;
-ghost use Rattle.msi_pool_places.specs.FirstFit.{most_places as most_of};
-ghost use Rattle.msi_pool_places.specs.Pool.{unindexed};
+ghost use Rattle.msi_pool.specs.FirstFit.{most_places as most_of};
+ghost use Rattle.msi_pool.specs.Pool.{unindexed};
 ghost use Rattle.msi_table.specs.Census.{IsCensus};
 ghost use Rattle.msi_database_schema.specs.System.{validation_columns, validation_name};
 ghost use Rattle.msi_database_changes.specs.Database.{are_alike as alike, is_readable_table, is_sound as is_sound_one};

@@ -13,7 +13,7 @@ use Rattle.std.proofs.lemmas.Bool.{and_parts}
 use Rattle.msi_base.specs.Lists.{placed, stable_sort}
 use Rattle.msi_base.proofs.BoolLemmas.{by_test}
 use Rattle.msi_base.proofs.ListLemmas.{filter_yes, filter_no, filter_same}
-use Rattle.msi_pool_places.specs.Pool.{Place}
+use Rattle.msi_pool.specs.Pool.{Place}
 use Rattle.msi_table_cells.specs.declared.cell.ValueRef.{ValueRef}
 use Rattle.msi_table_values.specs.declared.value.Value.{Value}
 use Rattle.msi_table_cells.specs.CellValues.{value_of_cell, row_values}

@@ -3,7 +3,7 @@
 ghost use Rattle.std.specs.Prelude.{◌≡◌, ◌++◌, ◌∷◌, ◌==◌, map, IfOk, OnOk, if◌then◌else◌, length, List, option_copied};
 ghost use Rattle.std.specs.Prelude.{string_bytes};
 ghost use Rattle.std.specs.List.{filter_map};
-ghost use Rattle.msi_pool_places.specs.Pool.{Place};
+ghost use Rattle.msi_pool.specs.Pool.{Place};
 ghost use Rattle.msi_base.specs.Results.{OnlyMemory};
 ghost use Rattle.msi_table_values.specs.Columns.{column_index as index_of};
 ghost use Rattle.msi_query.specs.Rows.{column_at as column_there, relation_values};

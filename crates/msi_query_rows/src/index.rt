@@ -1,7 +1,7 @@
 //! Rows in the order of their values in a column, so that those with a value are found by halving.
 
 ghost use Rattle.std.specs.Prelude.{◌≡◌, List, Some, IfSome, OnOk, filter};
-ghost use Rattle.msi_pool_places.specs.Pool.{Place};
+ghost use Rattle.msi_pool.specs.Pool.{Place};
 ghost use Rattle.msi_base.specs.Results.{OnlyMemory};
 ghost use Rattle.msi_table_cells.specs.CellValues.{value_of_cell};
 ghost use Rattle.msi_table_cells.specs.declared.cell.ValueRef.{ValueRef as Cell};

@@ -8,7 +8,7 @@ use Rattle.std.proofs.lemmas.Bool.Decides.{nat_tests}
 use Rattle.std.proofs.lemmas.List.{length-set, length-replicate, get_or-replicate, take_more}
 use Rattle.std.proofs.lemmas.Grind.{flat_map-append}
 use Rattle.std.specs.List.{cons_option}
-use Rattle.msi_pool_places.specs.References.{number_of}
+use Rattle.msi_pool.specs.References.{number_of}
 use Rattle.msi_table_values.proofs.ColumnTypesLemmas.{below_types, length-types_of, type_at}
 use Rattle.std.proofs.lemmas.List.Sums.{sum_by-append, sum_by-cons}
 use Rattle.std.proofs.lemmas.List.Folds.{list_all-append, list_all-map}

@@ -9,7 +9,7 @@ use Rattle.std.specs.List.{AllByRecursion}
 use Rattle.std.specs.Prelude.{slice_get, slice_index, slice_index_or, All, nat_le, ◌==◌, if◌then◌else◌}
 use Rattle.msi_base.specs.Lists.{numbers_from, tabulated}
 use Rattle.msi_base.proofs.ListLemmas.{all_mapped, length-numbers_from, tabulated_at}
-use Rattle.msi_pool_places.specs.References.{number_of}
+use Rattle.msi_pool.specs.References.{number_of}
 use Rattle.msi_table_values.specs.declared.column.ColumnType.{ColumnType}
 use Rattle.msi_table_values.specs.declared.column.ColumnType.TheVariants as coltype
 use Rattle.msi_table_cells.specs.declared.cell.ValueRef.TheVariants as cell

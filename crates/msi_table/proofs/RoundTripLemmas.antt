@@ -9,7 +9,7 @@ use Rattle.msi_table_values.specs.declared.column.ColumnType.TheVariants as colt
 use Rattle.msi_table_cells.specs.declared.cell.ValueRef.{ValueRef}
 use Rattle.msi_table_cells.specs.declared.cell.ValueRef.TheVariants as cell
 use Rattle.msi_table.specs.Cells.{cell_of_number, cell_in, cell_bytes, width}
-use Rattle.msi_pool_places.specs.References.{number_of, reference_width}
+use Rattle.msi_pool.specs.References.{number_of, reference_width}
 use Rattle.msi_table_cells.specs.Fitting.{FitsColumn, reference_bound}
 
 pub number_of-to_le_bytes_16 : (m : ℕ) → m < 65536 → number_of (to_le_bytes w16 m) ≡ m

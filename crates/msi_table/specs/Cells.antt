@@ -6,7 +6,7 @@ use Rattle.std.specs.Option as options
 use Rattle.std.specs.List.{flat_map}
 use Rattle.std.specs.Int.{w16, w32, to_le_bytes, bytes_low_first, cast_unsigned}
 use Rattle.msi_base.specs.Lists.{tabulated}
-use Rattle.msi_pool_places.specs.References.{reference_width, number_of}
+use Rattle.msi_pool.specs.References.{reference_width, number_of}
 use Rattle.msi_table_values.specs.declared.column.ColumnType.{ColumnType}
 use Rattle.msi_table_values.specs.declared.column.ColumnType.TheVariants as coltype
 use Rattle.msi_table_cells.specs.declared.cell.ValueRef.{ValueRef}

@@ -10,7 +10,7 @@ use Rattle.std.specs.Cmp.Lexicographic.{slice_cmp, lists_total}
 use Rattle.std.proofs.lemmas.List as lists
 use Rattle.std.proofs.lemmas.List.Sorted.{ranks_by}
 use Rattle.std.proofs.lemmas.Option.{slice_get_cases, slice_get-map}
-use Rattle.msi_pool_places.specs.Pool.{Place}
+use Rattle.msi_pool.specs.Pool.{Place}
 use Rattle.msi_table_values.specs.Columns.{ColumnDef, is_of_category_binary}
 use Rattle.msi_table_values.specs.OrderLaws.{value_cmp-total}
 use Rattle.msi_table_cells.specs.CellOrderLaws.{cell_cmp-total}

@@ -6,9 +6,9 @@ use Rattle.std.proofs.lemmas.Int.{ints}
 use Rattle.std.proofs.lemmas.List.Sums.{sum_by-cons}
 use Rattle.std.proofs.lemmas.Option.{cond_some, some_pair_parts}
 use Rattle.std.specs.Prelude.{nat_lt, not, int_le, neg_ℤ, pos, option_and_then, ◌||◌}
-use Rattle.msi_pool_places.specs.Pool.{Place}
-use Rattle.msi_pool_places.specs.FirstFit.{count_of, first_fit, lowered, most_places, taken, with_text_at}
-use Rattle.msi_pool_places.specs.FirstFitLaws.{count_at, text_at, GivenBackTakesOne, GivesBack, OthersStay, TakenPlacesHoldTheirText, Takes}
+use Rattle.msi_pool.specs.Pool.{Place}
+use Rattle.msi_pool.specs.FirstFit.{count_of, first_fit, lowered, most_places, taken, with_text_at}
+use Rattle.msi_pool.specs.FirstFitLaws.{count_at, text_at, GivenBackTakesOne, GivesBack, OthersStay, TakenPlacesHoldTheirText, Takes}
 use Rattle.msi_table_values.specs.declared.column.ColumnType.{ColumnType}
 use Rattle.msi_table_values.specs.declared.column.ColumnType.TheVariants as coltype
 use Rattle.msi_table_values.specs.declared.value.Value.{Value}

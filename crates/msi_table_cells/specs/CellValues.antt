@@ -1,8 +1,8 @@
 -- Values and cells: what a cell stands for, what storing a value takes from the pool, and what removing one gives back.
 use Rattle.std.specs.Prelude.{Bool, List, map, Option, Some, option_map}
-use Rattle.msi_pool_places.specs.Pool.{Place}
-use Rattle.msi_pool_places.specs.FirstFit.{taken, given_back}
-use Rattle.msi_pool_places.specs.FirstFitLaws.{text_at}
+use Rattle.msi_pool.specs.Pool.{Place}
+use Rattle.msi_pool.specs.FirstFit.{taken, given_back}
+use Rattle.msi_pool.specs.FirstFitLaws.{text_at}
 use Rattle.msi_table_cells.specs.declared.cell.ValueRef.{ValueRef}
 use Rattle.msi_table_cells.specs.declared.cell.ValueRef.TheVariants as cell
 use Rattle.msi_table_values.specs.declared.value.Value.{Value}

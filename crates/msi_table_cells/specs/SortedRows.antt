@@ -3,7 +3,7 @@ use Rattle.std.specs.Prelude.{◌≡◌, ◌⊎◌, ◌↔◌, Bool, false, List
 use Rattle.std.specs.List.{AllByRecursion}
 use Rattle.std.specs.List.Sorted.{IsSorted, IsSortedByKey, IsStable}
 use Rattle.std.specs.declared.cmp.Ordering.{Ordering}
-use Rattle.msi_pool_places.specs.Pool.{Place}
+use Rattle.msi_pool.specs.Pool.{Place}
 use Rattle.msi_table_values.specs.declared.column.ColumnType.{ColumnType}
 use Rattle.msi_table_values.specs.declared.column.ColumnType.TheVariants as coltype
 use Rattle.msi_table_cells.specs.declared.cell.ValueRef.{ValueRef}

@@ -6,7 +6,7 @@ ghost use Rattle.std.specs.Ordering.{as_partial_cmp, eq_by_cmp};
 ghost use Rattle.std.proofs.Common.{refl};
 ghost use Rattle.msi_base.specs.Results.{OnlyMemory};
 ghost use Rattle.msi_base.specs.declared.errors.ErrorKind.TheVariants.{InvalidData, InvalidInput};
-ghost use Rattle.msi_pool_places.specs.Pool.{unindexed};
+ghost use Rattle.msi_pool.specs.Pool.{unindexed};
 ghost use Rattle.msi_table_values.specs.Refusals.{FailsWith};
 ghost use Rattle.msi_table_values.specs.Values.{text_of};
 ghost use Rattle.msi_table_cells.specs.CellOrder.{cell_cmp};

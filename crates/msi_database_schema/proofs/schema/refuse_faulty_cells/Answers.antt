@@ -1,6 +1,6 @@
 use Rattle.std.proofs.Common.{◌∙◌, List, IfErr, ap, map, subst}
 use Rattle.msi_base.specs.Results.{FailsAs}
-use Rattle.msi_pool_places.specs.Pool.{Place}
+use Rattle.msi_pool.specs.Pool.{Place}
 use Rattle.msi_table_cells.specs.CellValues.{row_values}
 use Rattle.msi_database_schema.specs.RowOrders.{rows_of}
 use Rattle.msi_database_schema.specs.Schema.{SchemaRows, tables_of}

@@ -1,7 +1,7 @@
 use Rattle.std.proofs.Common.{◌∙◌, ◌++◌, [], ap, sym, subst, length}
 use Rattle.std.specs.Prelude.{◌==◌}
 use Rattle.std.specs.List.{list_any}
-use Rattle.msi_pool_places.specs.Pool.{unindexed, PlacesWritten}
+use Rattle.msi_pool.specs.Pool.{unindexed, PlacesWritten}
 use Rattle.msi_pool.proofs.ForgottenLemmas.{none_lost}
 use Rattle.msi_table.specs.Census.{IsCensus, numbers_of_rows}
 use Rattle.msi_database_storage.proofs.NamingLemmas.{marks_many, shown_by}

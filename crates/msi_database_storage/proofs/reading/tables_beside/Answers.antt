@@ -1,5 +1,5 @@
 use Rattle.std.proofs.Common.{◌≡◌, ◌∙◌, ap, sym, Some, refl}
-use Rattle.msi_pool_places.specs.Pool.{unindexed}
+use Rattle.msi_pool.specs.Pool.{unindexed}
 use Rattle.std.specs.Prelude.{map, option_map}
 use Rattle.std.specs.FinMap.{entries}
 use Rattle.msi_table_cells.specs.CellValues.{row_values}

@@ -1,7 +1,7 @@
 use Rattle.std.proofs.Common.{◌∙◌, ap, sym, Some}
 use Rattle.std.specs.FinMap.{entries}
 use Rattle.msi_base.proofs.RefusalLemmas.{err_passed}
-use Rattle.msi_pool_places.specs.Pool.{unindexed}
+use Rattle.msi_pool.specs.Pool.{unindexed}
 use Rattle.msi_database_storage.proofs.ReadingLemmas.{standard_stored, unread_refused}
 use Rattle.msi_database_storage.proofs.reading.tables_in.Goals as goal
 

@@ -1,6 +1,6 @@
 use Rattle.std.proofs.Common.{◌∙◌, refl}
 use Rattle.std.specs.FinMap.{entries}
-use Rattle.msi_pool_places.specs.Pool.{unindexed}
+use Rattle.msi_pool.specs.Pool.{unindexed}
 use Rattle.msi_database_changes.specs.Database.{Database, names_stay_in_pool, named_numbers, pool_fits_width, tables_are_readable, validation_is_standard}
 use Rattle.msi_database_storage.specs.Kept.{database_kept}
 use Rattle.msi_database_storage.proofs.SoundnessLemmas.{fifth_decides, first_fails, fourth_fails, second_fails, standard_kept, third_fails}

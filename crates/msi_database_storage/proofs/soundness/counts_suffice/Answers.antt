@@ -1,7 +1,7 @@
 use Rattle.std.proofs.Common.{◌≡◌, ◌<◌, ◌∙◌, ap, length, slice_get, arith}
 use Rattle.std.specs.Prelude.{slice_index}
-use Rattle.msi_pool_places.specs.FirstFit.{count_of}
-use Rattle.msi_pool_places.specs.FirstFitLaws.{count_at}
+use Rattle.msi_pool.specs.FirstFit.{count_of}
+use Rattle.msi_pool.specs.FirstFitLaws.{count_at}
 use Rattle.msi_database_storage.proofs.SoundnessLemmas.{all_counts, count_lacks, count_suffices, counted_at}
 use Rattle.msi_database_storage.proofs.soundness.counts_suffice.Goals as goal
 
