@@ -12,6 +12,7 @@ use Rattle.msi_database_changes.specs.Update.{update_rows}
 use Rattle.msi_database_changes.specs.Delete.{delete_rows}
 use Rattle.msi_database_changes.specs.Create.{create_table}
 use Rattle.msi_database_changes.specs.Drop.{drop_table}
+use Rattle.msi_summary.specs.declared.property.SummaryProperty.{SummaryProperty}
 use Rattle.msi.specs.Calls.{Call, Answer}
 use Rattle.msi.specs.Calls as calls
 use Rattle.msi.specs.Steps.{Step, outcome, changed, changing, recounted, recounting, leaving_or, is_lending, with_streams, Lends, LendsOrRefuses}
@@ -60,7 +61,7 @@ lending_leaves s call None next (Ok a) new l then' = then' a l
 lending_leaves s call None next (Err kind) new l then' = absurd l
 lending_leaves s call (Some kind) next answer new l then' = inl l.1
 
-info_leaves : (s : State) (questions : List calls.SummaryQuestion) (a : Answer) (new : State) → Lends s (calls.summary_info questions) a new → Leaves s new
+info_leaves : (s : State) (questions : List SummaryProperty) (a : Answer) (new : State) → Lends s (calls.summary_info questions) a new → Leaves s new
 info_leaves s questions (calls.summary_says answers) new l = inl l.2
 info_leaves s questions _ new l = absurd l
 

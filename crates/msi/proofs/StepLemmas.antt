@@ -23,6 +23,7 @@ use Rattle.msi_database_changes.proofs.ShownLemmas.{ok_first}
 use Rattle.msi_database_storage.specs.Streams.{Streams, with_stream, without_stream}
 use Rattle.msi.specs.State.{Parts, State, parts_of}
 use Rattle.msi.specs.Meaning.{IsPackage}
+use Rattle.msi_summary.specs.declared.property.SummaryProperty.{SummaryProperty}
 use Rattle.msi.specs.Calls.{Call, Answer}
 use Rattle.msi.specs.Calls as calls
 use Rattle.msi.specs.Lent.{FitsSummaryCall}
@@ -104,7 +105,7 @@ module _ (P : State → Type 0) (keeps : Keeps P) where
   lending_keeps s call None next (Err kind) new l h then' = absurd l
   lending_keeps s call (Some kind) next answer new l h then' = subst P (sym l.1) h
 
-  info_keeps : (s : State) (questions : List calls.SummaryQuestion) (a : Answer) (new : State) → Lends s (calls.summary_info questions) a new → P s → P new
+  info_keeps : (s : State) (questions : List SummaryProperty) (a : Answer) (new : State) → Lends s (calls.summary_info questions) a new → P s → P new
   info_keeps s questions (calls.summary_says answers) new l h = subst P (sym l.2) h
   info_keeps s questions _ new l h = absurd l
 

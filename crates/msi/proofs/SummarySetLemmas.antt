@@ -12,12 +12,21 @@ use Rattle.msi_summary_properties.specs.declared.propset.OperatingSystem.TheVari
 use Rattle.msi_summary_properties.specs.Properties.{Properties, with_value, without_value, with_page, page_value, can_set, new_set}
 use Rattle.msi_summary_properties.specs.PropertyStream.{FitsValue}
 use Rattle.msi_summary_properties.specs.PropertyLaws.{IsKept}
+use Rattle.msi_summary.specs.declared.property.TextProperty.{TextProperty}
+use Rattle.msi_summary.specs.declared.property.TextProperty.TheVariants.{Title, Subject, Author, Comments, LastSavedBy, CreatingApplication}
+use Rattle.msi_summary.specs.declared.property.NumberProperty.{NumberProperty}
+use Rattle.msi_summary.specs.declared.property.NumberProperty.TheVariants.{PageCount, WordCount, CharacterCount, DocSecurity}
+use Rattle.msi_summary.specs.declared.property.TimeProperty.{TimeProperty}
+use Rattle.msi_summary.specs.declared.property.TimeProperty.TheVariants.{LastPrinted, CreationTime, LastSavedTime}
+use Rattle.msi_summary.specs.declared.property.SummaryProperty.{SummaryProperty}
+use Rattle.msi_summary.specs.declared.property.SummaryProperty.TheVariants as property
+use Rattle.msi_summary.specs.Property.{text_id, number_id, time_id, codepage_id, keywords_id, template_id, uuid_id}
 use Rattle.msi_summary.specs.Summary as summary
 use Rattle.msi_summary_properties.proofs.KeptSetLemmas.{IsKept-with_value, IsKept-without_value}
 use Rattle.msi_summary_properties.proofs.PropertiesLemmas.{page_in-page_value}
-use Rattle.msi.specs.Calls.{Clearing, SummaryCall, SummaryAnswer}
+use Rattle.msi.specs.Calls.{SummaryCall, SummaryAnswer}
 use Rattle.msi.specs.Calls as calls
-use Rattle.msi.specs.Lent.{RunsTo, Gives, FitsSummaryCall, summary_cleared, summary_after, summary_outcome, summary_wants_memory}
+use Rattle.msi.specs.Lent.{RunsTo, Gives, FitsSummaryCall, summary_after, summary_outcome, summary_wants_memory}
 
 pub record IsSummarySet (set : Properties) : Type 0 where
   pub kept : IsKept set
@@ -65,73 +74,74 @@ set_with_page p set h = set_with 1 (page_value p) set (ap is_some (page_in-page_
 new_set_is : IsSummarySet (new_set os.Win32 10 summary.summary_format)
 new_set_is = record { kept = record { header = (lit< tt, refl, refl); ids = tt; ascending = tt; range = tt; page = refl }; format = refl }
 
-text_small : (p : summary.TextProperty) → summary.text_id p < 2 ^ 32
-text_small summary.title = lit< tt
-text_small summary.subject = lit< tt
-text_small summary.author = lit< tt
-text_small summary.comments = lit< tt
-text_small summary.last_saved_by = lit< tt
-text_small summary.creating_application = lit< tt
+text_small : (p : TextProperty) → text_id p < 2 ^ 32
+text_small Title = lit< tt
+text_small Subject = lit< tt
+text_small Author = lit< tt
+text_small Comments = lit< tt
+text_small LastSavedBy = lit< tt
+text_small CreatingApplication = lit< tt
 
-text_can : (p : summary.TextProperty) (text : List ℕ) → can_set (summary.text_id p) (LpStr text) ≡ true
-text_can summary.title text = refl
-text_can summary.subject text = refl
-text_can summary.author text = refl
-text_can summary.comments text = refl
-text_can summary.last_saved_by text = refl
-text_can summary.creating_application text = refl
+text_can : (p : TextProperty) (text : List ℕ) → can_set (text_id p) (LpStr text) ≡ true
+text_can Title text = refl
+text_can Subject text = refl
+text_can Author text = refl
+text_can Comments text = refl
+text_can LastSavedBy text = refl
+text_can CreatingApplication text = refl
 
-set_with_text : (p : summary.TextProperty) (text : List ℕ) (set : Properties) → IsSummarySet set → IsSummarySet (summary.with_text (summary.text_id p) text set)
-set_with_text p text set h = set_with (summary.text_id p) (LpStr text) set (text_can p text) (text_small p) tt h
+set_with_text : (p : TextProperty) (text : List ℕ) (set : Properties) → IsSummarySet set → IsSummarySet (summary.with_text (text_id p) text set)
+set_with_text p text set h = set_with (text_id p) (LpStr text) set (text_can p text) (text_small p) tt h
 
 pub new_summary_is : (title : List ℕ) → IsSummarySet (summary.new_summary title)
-new_summary_is title = set_with_text summary.title title (with_page page.Utf8 (new_set os.Win32 10 summary.summary_format)) (set_with_page page.Utf8 (new_set os.Win32 10 summary.summary_format) new_set_is)
+new_summary_is title = set_with_text Title title (with_page page.Utf8 (new_set os.Win32 10 summary.summary_format)) (set_with_page page.Utf8 (new_set os.Win32 10 summary.summary_format) new_set_is)
 
 -- EACH CALL
 
-number_small : (p : summary.NumberProperty) → summary.number_id p < 2 ^ 32
-number_small summary.page_count = lit< tt
-number_small summary.word_count = lit< tt
-number_small summary.character_count = lit< tt
-number_small summary.doc_security = lit< tt
+number_small : (p : NumberProperty) → number_id p < 2 ^ 32
+number_small PageCount = lit< tt
+number_small WordCount = lit< tt
+number_small CharacterCount = lit< tt
+number_small DocSecurity = lit< tt
 
-number_can : (p : summary.NumberProperty) (value : PropertyValue) → can_set (summary.number_id p) value ≡ true
-number_can summary.page_count value = refl
-number_can summary.word_count value = refl
-number_can summary.character_count value = refl
-number_can summary.doc_security value = refl
+number_can : (p : NumberProperty) (value : PropertyValue) → can_set (number_id p) value ≡ true
+number_can PageCount value = refl
+number_can WordCount value = refl
+number_can CharacterCount value = refl
+number_can DocSecurity value = refl
 
-time_small : (p : summary.TimeProperty) → summary.time_id p < 2 ^ 32
-time_small summary.last_printed = lit< tt
-time_small summary.creation_time = lit< tt
-time_small summary.last_saved_time = lit< tt
+time_small : (p : TimeProperty) → time_id p < 2 ^ 32
+time_small LastPrinted = lit< tt
+time_small CreationTime = lit< tt
+time_small LastSavedTime = lit< tt
 
-time_can : (p : summary.TimeProperty) (value : PropertyValue) → can_set (summary.time_id p) value ≡ true
-time_can summary.last_printed value = refl
-time_can summary.creation_time value = refl
-time_can summary.last_saved_time value = refl
+time_can : (p : TimeProperty) (value : PropertyValue) → can_set (time_id p) value ≡ true
+time_can LastPrinted value = refl
+time_can CreationTime value = refl
+time_can LastSavedTime value = refl
 
 set_with_own : (id : ℕ) (text : List ℕ) (set : Properties) → can_set id (LpStr text) ≡ true → id < 2 ^ 32 → IsSummarySet set → IsSummarySet (summary.with_text id text set)
 set_with_own id text set can small h = set_with id (LpStr text) set can small tt h
 
-cleared_kept : (set : Properties) (q : Clearing) → IsSummarySet set → IsSummarySet (summary_cleared set q)
-cleared_kept set (calls.text p) h = set_without (summary.text_id p) set h
-cleared_kept set (calls.number p) h = set_without (summary.number_id p) set h
-cleared_kept set (calls.time p) h = set_without (summary.time_id p) set h
-cleared_kept set calls.arch h = set_with_own summary.template_id ([] ++ 59 ∷ summary.languages_text set) set refl (lit< tt) h
-cleared_kept set calls.languages h = set_with_own summary.template_id (summary.arch_text set ++ 59 ∷ language_list_text []) set refl (lit< tt) h
-cleared_kept set calls.keywords h = set_with_own summary.keywords_id _ set refl (lit< tt) h
-cleared_kept set calls.uuid h = set_without summary.uuid_id set h
+cleared_kept : (set : Properties) (p : SummaryProperty) → IsSummarySet set → IsSummarySet (summary.cleared p set)
+cleared_kept set property.Codepage h = set_without codepage_id set h
+cleared_kept set (property.Text p) h = set_without (text_id p) set h
+cleared_kept set (property.Number p) h = set_without (number_id p) set h
+cleared_kept set (property.Time p) h = set_without (time_id p) set h
+cleared_kept set property.Arch h = set_with_own template_id ([] ++ 59 ∷ summary.languages_text set) set refl (lit< tt) h
+cleared_kept set property.Languages h = set_with_own template_id (summary.arch_text set ++ 59 ∷ language_list_text []) set refl (lit< tt) h
+cleared_kept set property.Keywords h = set_with_own keywords_id _ set refl (lit< tt) h
+cleared_kept set property.Uuid h = set_without uuid_id set h
 
 call_kept : (set : Properties) (c : SummaryCall) → FitsSummaryCall c → IsSummarySet set → IsSummarySet (summary_after set c)
 call_kept set (calls.ask q) fits h = h
 call_kept set (calls.set_text p text) fits h = set_with_text p text set h
-call_kept set (calls.set_number p n) fits h = set_with (summary.number_id p) (I4 n) set (number_can p (I4 n)) (number_small p) fits h
-call_kept set (calls.set_time p ticks) fits h = set_with (summary.time_id p) (FileTime ticks) set (time_can p (FileTime ticks)) (time_small p) fits h
-call_kept set (calls.set_arch text) fits h = set_with_own summary.template_id (text ++ 59 ∷ summary.languages_text set) set refl (lit< tt) h
-call_kept set (calls.set_languages ids) fits h = set_with_own summary.template_id (summary.arch_text set ++ 59 ∷ language_list_text ids) set refl (lit< tt) h
-call_kept set (calls.set_keywords words) fits h = set_with_own summary.keywords_id _ set refl (lit< tt) h
-call_kept set (calls.set_uuid id) fits h = set_with_own summary.uuid_id (braced_uuid_text id) set refl (lit< tt) h
+call_kept set (calls.set_number p n) fits h = set_with (number_id p) (I4 n) set (number_can p (I4 n)) (number_small p) fits h
+call_kept set (calls.set_time p ticks) fits h = set_with (time_id p) (FileTime ticks) set (time_can p (FileTime ticks)) (time_small p) fits h
+call_kept set (calls.set_arch text) fits h = set_with_own template_id (text ++ 59 ∷ summary.languages_text set) set refl (lit< tt) h
+call_kept set (calls.set_languages ids) fits h = set_with_own template_id (summary.arch_text set ++ 59 ∷ language_list_text ids) set refl (lit< tt) h
+call_kept set (calls.set_keywords words) fits h = set_with_own keywords_id _ set refl (lit< tt) h
+call_kept set (calls.set_uuid id) fits h = set_with_own uuid_id (braced_uuid_text id) set refl (lit< tt) h
 call_kept set (calls.set_codepage p) fits h = set_with_page p set h
 call_kept set (calls.clear q) fits h = cleared_kept set q h
 

@@ -2,29 +2,19 @@
 use Rattle.std.specs.Prelude.{ℕ, Bool, List, Option, ℤ, Result}
 use Rattle.msi_base.specs.declared.codepage.CodePage.{CodePage}
 use Rattle.msi_base.specs.declared.errors.ErrorKind.{ErrorKind}
-use Rattle.msi_summary.specs.Summary.{TextProperty, NumberProperty, TimeProperty}
+use Rattle.msi_summary.specs.declared.property.TextProperty.{TextProperty}
+use Rattle.msi_summary.specs.declared.property.NumberProperty.{NumberProperty}
+use Rattle.msi_summary.specs.declared.property.TimeProperty.{TimeProperty}
+use Rattle.msi_summary.specs.declared.property.SummaryProperty.{SummaryProperty}
 use Rattle.msi_table_values.specs.declared.value.Value.{Value}
 use Rattle.msi_table.specs.Tables.{TableDef}
 use Rattle.msi_table_values.specs.Columns.{ColumnDef}
 use Rattle.msi_query.specs.Queries.{Query, InsertQuery, UpdateQuery, DeleteQuery}
 use Rattle.msi.specs.declared.kinds.PackageType.{PackageType}
 
--- on the summary: what is asked, and what is changed
-pub data SummaryQuestion : Type 0 where
-  text : TextProperty → SummaryQuestion
-  number : NumberProperty → SummaryQuestion
-  time : TimeProperty → SummaryQuestion
-  arch languages keywords uuid codepage : SummaryQuestion
-
--- what can be cleared: every property but the page
-pub data Clearing : Type 0 where
-  text : TextProperty → Clearing
-  number : NumberProperty → Clearing
-  time : TimeProperty → Clearing
-  arch languages keywords uuid : Clearing
-
+-- on the summary
 pub data SummaryCall : Type 0 where
-  ask : SummaryQuestion → SummaryCall
+  ask : SummaryProperty → SummaryCall
   set_text : TextProperty → List ℕ → SummaryCall
   set_number : NumberProperty → ℤ → SummaryCall
   set_time : TimeProperty → ℕ → SummaryCall
@@ -33,7 +23,7 @@ pub data SummaryCall : Type 0 where
   set_keywords : List (List ℕ) → SummaryCall
   set_uuid : List ℕ → SummaryCall
   set_codepage : CodePage → SummaryCall
-  clear : Clearing → SummaryCall
+  clear : SummaryProperty → SummaryCall
 
 pub data SummaryAnswer : Type 0 where
   done : SummaryAnswer
@@ -67,7 +57,7 @@ pub data StreamAnswer : Type 0 where
 pub data Call : Type 0 where
   package_type database_codepage tables streams : Call
   has_digital_signature remove_digital_signature recount device_failed flush : Call
-  summary_info : List SummaryQuestion → Call
+  summary_info : List SummaryProperty → Call
   summary_info_mut : List SummaryCall → Call
   set_database_codepage : CodePage → Call
   has_table get_table drop_table has_stream remove_stream : List ℕ → Call

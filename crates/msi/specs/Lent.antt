@@ -5,10 +5,12 @@ use Rattle.std.specs.Int.{w32}
 use Rattle.std.specs.Int.RustNames.{FitsSigned}
 use Rattle.msi_base.specs.declared.errors.ErrorKind.{ErrorKind}
 use Rattle.msi_base.specs.declared.errors.ErrorKind.TheVariants.{InvalidInput, OutOfMemory}
-use Rattle.msi_summary_properties.specs.Properties.{Properties, without_value, with_page, page_of}
+use Rattle.msi_summary_properties.specs.Properties.{Properties, with_page, page_of}
+use Rattle.msi_summary.specs.declared.property.SummaryProperty.{SummaryProperty}
+use Rattle.msi_summary.specs.declared.property.SummaryProperty.TheVariants as property
+use Rattle.msi_summary.specs.Property.{text_id, number_id, time_id}
 use Rattle.msi_summary.specs.Summary as summary
-use Rattle.msi.specs.Calls.{SummaryQuestion, Clearing, SummaryCall, SummaryAnswer, ReaderCall, WriterCall, StreamAnswer}
-use Rattle.msi.specs.Calls.{SeekTo}
+use Rattle.msi.specs.Calls.{SummaryCall, SummaryAnswer, ReaderCall, WriterCall, StreamAnswer, SeekTo}
 use Rattle.msi.specs.Calls as calls
 
 -- what a call gives: its outcome; or it is refused for want of memory, and changes nothing
@@ -26,55 +28,40 @@ RunsTo outcome wants old [] (a ∷ others) new = ⊥
 RunsTo outcome wants old (c ∷ cs) [] new = ⊥
 
 -- the summary
-abbrev pub said_of : Properties → SummaryQuestion → SummaryAnswer
-said_of set (calls.text p) = calls.text_is (summary.text_with_id (summary.text_id p) set)
-said_of set (calls.number p) = calls.number_is (summary.number_with_id (summary.number_id p) set)
-said_of set (calls.time p) = calls.time_is (summary.time_with_id (summary.time_id p) set)
-said_of set calls.arch = calls.text_is (summary.arch_of set)
-said_of set calls.languages = calls.numbers_are (summary.languages_of set)
-said_of set calls.keywords = calls.texts_are (summary.keywords_of set)
-said_of set calls.uuid = calls.text_is (summary.uuid_of set)
-said_of set calls.codepage = calls.page_is (page_of set)
-
-abbrev pub summary_cleared : Properties → Clearing → Properties
-summary_cleared set (calls.text p) = without_value (summary.text_id p) set
-summary_cleared set (calls.number p) = without_value (summary.number_id p) set
-summary_cleared set (calls.time p) = without_value (summary.time_id p) set
-summary_cleared set calls.arch = summary.with_arch [] set
-summary_cleared set calls.languages = summary.with_languages [] set
-summary_cleared set calls.keywords = summary.with_keywords [] set
-summary_cleared set calls.uuid = without_value summary.uuid_id set
+abbrev pub said_of : Properties → SummaryProperty → SummaryAnswer
+said_of set (property.Text p) = calls.text_is (summary.text_with_id (text_id p) set)
+said_of set (property.Number p) = calls.number_is (summary.number_with_id (number_id p) set)
+said_of set (property.Time p) = calls.time_is (summary.time_with_id (time_id p) set)
+said_of set property.Arch = calls.text_is (summary.arch_of set)
+said_of set property.Languages = calls.numbers_are (summary.languages_of set)
+said_of set property.Keywords = calls.texts_are (summary.keywords_of set)
+said_of set property.Uuid = calls.text_is (summary.uuid_of set)
+said_of set property.Codepage = calls.page_is (page_of set)
 
 abbrev pub summary_after : Properties → SummaryCall → Properties
 summary_after set (calls.ask q) = set
-summary_after set (calls.set_text p text) = summary.with_text (summary.text_id p) text set
-summary_after set (calls.set_number p n) = summary.with_number (summary.number_id p) n set
-summary_after set (calls.set_time p ticks) = summary.with_time (summary.time_id p) ticks set
+summary_after set (calls.set_text p text) = summary.with_text (text_id p) text set
+summary_after set (calls.set_number p n) = summary.with_number (number_id p) n set
+summary_after set (calls.set_time p ticks) = summary.with_time (time_id p) ticks set
 summary_after set (calls.set_arch text) = summary.with_arch text set
 summary_after set (calls.set_languages ids) = summary.with_languages ids set
 summary_after set (calls.set_keywords words) = summary.with_keywords words set
 summary_after set (calls.set_uuid id) = summary.with_uuid id set
 summary_after set (calls.set_codepage page) = with_page page set
-summary_after set (calls.clear q) = summary_cleared set q
+summary_after set (calls.clear p) = summary.cleared p set
 
 abbrev pub summary_outcome : Properties → SummaryCall → Result SummaryAnswer ErrorKind × Properties
 summary_outcome set (calls.ask q) = (Ok (said_of set q), set)
 summary_outcome set c = (Ok calls.done, summary_after set c)
 
-abbrev pub question_wants_memory : SummaryQuestion → Bool
-question_wants_memory calls.languages = true
-question_wants_memory calls.keywords = true
+abbrev pub question_wants_memory : SummaryProperty → Bool
+question_wants_memory property.Languages = true
+question_wants_memory property.Keywords = true
 question_wants_memory _ = false
-
-abbrev pub is_set_empty : Clearing → Bool
-is_set_empty calls.arch = true
-is_set_empty calls.languages = true
-is_set_empty calls.keywords = true
-is_set_empty _ = false
 
 abbrev pub summary_wants_memory : SummaryCall → Bool
 summary_wants_memory (calls.ask q) = question_wants_memory q
-summary_wants_memory (calls.clear q) = is_set_empty q
+summary_wants_memory (calls.clear p) = summary.is_set_empty p
 summary_wants_memory _ = true
 
 -- numbers that their types hold

@@ -39,7 +39,10 @@ pub use msi_container_format::streamname;
 pub use msi_pool::{StringPool, StringPoolBuilder, StringRef, pool_streams};
 pub use msi_query::{Delete, Expr, Insert, Select, Update};
 pub use msi_query_parse::{Expected, Parse, ParseError, Refused, Statement};
-pub use msi_summary::{OperatingSystem, PropertySet, PropertyText, PropertyValue, SummaryInfo};
+pub use msi_summary::{
+    NumberProperty, OperatingSystem, PropertySet, PropertyText, PropertyValue, SummaryInfo,
+    SummaryProperty, TextProperty, TimeProperty,
+};
 pub use msi_table::{
     Column, ColumnBuilder, ColumnType, Row, Rows, Table, Value, ValueRef, ValueView,
 };

@@ -4,9 +4,11 @@ use Rattle.std.specs.Prelude.{IfErr, IfOk, IsTrue, OnErr, OnOk}
 use Rattle.msi_base.specs.declared.errors.ErrorKind.{ErrorKind}
 use Rattle.msi_base.specs.declared.errors.ErrorKind.TheVariants.{OutOfMemory}
 use Rattle.msi_summary_properties.specs.Properties.{Properties}
-use Rattle.msi.specs.Calls.{Clearing, SummaryAnswer, SummaryCall, SummaryQuestion}
+use Rattle.msi_summary.specs.declared.property.SummaryProperty.{SummaryProperty}
+use Rattle.msi_summary.specs.Summary.{cleared, is_set_empty}
+use Rattle.msi.specs.Calls.{SummaryAnswer, SummaryCall}
 use Rattle.msi.specs.Calls as calls
-use Rattle.msi.specs.Lent.{Gives, is_set_empty, question_wants_memory, said_of, summary_after, summary_cleared, summary_outcome, summary_wants_memory}
+use Rattle.msi.specs.Lent.{Gives, question_wants_memory, said_of, summary_after, summary_outcome, summary_wants_memory}
 use Rattle.msi_replay.specs.declared.answer.SummaryAnswer.{SummaryAnswer as Said}
 use Rattle.msi_replay.specs.declared.call.Setting.{Setting}
 use Rattle.msi_replay.specs.declared.call.Setting.TheVariants as set
@@ -14,7 +16,7 @@ use Rattle.msi_replay.specs.Sent.{setting_sent}
 use Rattle.msi_replay.specs.Told.{summary_answer, told}
 
 -- a question
-pub ask_gives : (s : Properties) (q : SummaryQuestion) (answer : Result Said ErrorKind)
+pub ask_gives : (s : Properties) (q : SummaryProperty) (answer : Result Said ErrorKind)
     → IfOk answer (λ said. summary_answer said ≡ said_of s q)
     → IfErr answer (λ kind. IsTrue (question_wants_memory q) × (kind ≡ OutOfMemory))
     → Gives (summary_outcome s (calls.ask q)) (summary_wants_memory (calls.ask q)) s (told summary_answer answer) s
@@ -32,7 +34,7 @@ module _ (old new : Properties) (call : SummaryCall) (done : summary_outcome old
   change_gives (Err k) after kind same a is = inr (kind.0, is ∙ ap Err kind.1, same)
 
 -- as functions answer
-pub said_gives : (s : Properties) (q : SummaryQuestion) (r : Result (Result Said ErrorKind) ErrorKind)
+pub said_gives : (s : Properties) (q : SummaryProperty) (r : Result (Result Said ErrorKind) ErrorKind)
     → IfOk r (λ answer. IfOk answer (λ said. summary_answer said ≡ said_of s q))
     → IfOk r (λ answer. IfErr answer (λ kind. IsTrue (question_wants_memory q) × (kind ≡ OutOfMemory)))
     → IfOk r (λ answer. Gives (summary_outcome s (calls.ask q)) (summary_wants_memory (calls.ask q)) s (told summary_answer answer) s)
@@ -72,8 +74,8 @@ set_gives old new s answer after kind same said is =
     change_gives old new (setting_sent s) (setting_done old s) answer after
     (only_memory (IsTrue (summary_wants_memory (setting_sent s))) (setting_wants s) answer kind) same said is
 
-pub clear_gives : (old new : Properties) (q : Clearing) (answer : Result (Unit {0}) ErrorKind)
-    → OnOk answer (new ≡ summary_cleared old q) → IfErr answer (λ kind. IsTrue (is_set_empty q) × (kind ≡ OutOfMemory)) → OnErr answer (new ≡ old)
+pub clear_gives : (old new : Properties) (q : SummaryProperty) (answer : Result (Unit {0}) ErrorKind)
+    → OnOk answer (new ≡ cleared q old) → IfErr answer (λ kind. IsTrue (is_set_empty q) × (kind ≡ OutOfMemory)) → OnErr answer (new ≡ old)
     → (said : Result Said ErrorKind) → told summary_answer said ≡ told (λ (u : Unit {0}). calls.done) answer
     → Gives (summary_outcome old (calls.clear q)) (summary_wants_memory (calls.clear q)) old (told summary_answer said) new
 clear_gives old new q answer after kind same said is = change_gives old new (calls.clear q) refl answer after kind same said is

@@ -2,23 +2,11 @@
 use Rattle.std.specs.Prelude.{map, string_bytes}
 use Rattle.std.specs.declared.io.SeekFrom.{SeekFrom}
 use Rattle.std.specs.declared.io.SeekFrom.TheVariants.{Start, End, Current}
-use Rattle.msi_summary.specs.Summary as property
 use Rattle.msi.specs.Cursor as streams
 use Rattle.msi.specs.Calls as calls
 use Rattle.msi.specs.Lent.{Cursor}
-use Rattle.msi_replay.specs.declared.call.TextProperty.{TextProperty}
-use Rattle.msi_replay.specs.declared.call.TextProperty.TheVariants.{Title, Subject, Author, Comments, LastSavedBy}
-use Rattle.msi_replay.specs.declared.call.TextProperty.TheVariants.{CreatingApplication}
-use Rattle.msi_replay.specs.declared.call.NumberProperty.{NumberProperty}
-use Rattle.msi_replay.specs.declared.call.NumberProperty.TheVariants.{PageCount, WordCount, CharacterCount, DocSecurity}
-use Rattle.msi_replay.specs.declared.call.TimeProperty.{TimeProperty}
-use Rattle.msi_replay.specs.declared.call.TimeProperty.TheVariants.{LastPrinted, CreationTime, LastSavedTime}
-use Rattle.msi_replay.specs.declared.call.SummaryQuestion.{SummaryQuestion}
-use Rattle.msi_replay.specs.declared.call.SummaryQuestion.TheVariants as asked
 use Rattle.msi_replay.specs.declared.call.Setting.{Setting}
 use Rattle.msi_replay.specs.declared.call.Setting.TheVariants as set
-use Rattle.msi_replay.specs.declared.call.Clearing.{Clearing}
-use Rattle.msi_replay.specs.declared.call.Clearing.TheVariants as cleared
 use Rattle.msi_replay.specs.declared.call.SummaryCall.{SummaryCall}
 use Rattle.msi_replay.specs.declared.call.SummaryCall.TheVariants.{Ask, Set, Clear}
 use Rattle.msi_replay.specs.declared.call.ReaderCall.{ReaderCall}
@@ -32,65 +20,22 @@ use Rattle.msi_replay.specs.declared.call.Change.TheVariants as change
 use Rattle.msi_replay.specs.declared.call.Call.{Call}
 use Rattle.msi_replay.specs.declared.call.Call.TheVariants as sent
 
--- PROPERTIES OF THE SUMMARY
-
-abbrev pub text_named : TextProperty → property.TextProperty
-text_named Title = property.title
-text_named Subject = property.subject
-text_named Author = property.author
-text_named Comments = property.comments
-text_named LastSavedBy = property.last_saved_by
-text_named CreatingApplication = property.creating_application
-
-abbrev pub number_named : NumberProperty → property.NumberProperty
-number_named PageCount = property.page_count
-number_named WordCount = property.word_count
-number_named CharacterCount = property.character_count
-number_named DocSecurity = property.doc_security
-
-abbrev pub time_named : TimeProperty → property.TimeProperty
-time_named LastPrinted = property.last_printed
-time_named CreationTime = property.creation_time
-time_named LastSavedTime = property.last_saved_time
-
 -- CALLS ON THE SUMMARY
 
-abbrev pub question_sent : SummaryQuestion → calls.SummaryQuestion
-question_sent (asked.Text p) = calls.text (text_named p)
-question_sent (asked.Number p) = calls.number (number_named p)
-question_sent (asked.Time p) = calls.time (time_named p)
-question_sent asked.Arch = calls.arch
-question_sent asked.Languages = calls.languages
-question_sent asked.Keywords = calls.keywords
-question_sent asked.Uuid = calls.uuid
-question_sent asked.Codepage = calls.codepage
-
-abbrev pub ask_sent : SummaryQuestion → calls.SummaryCall
-ask_sent q = calls.ask (question_sent q)
-
 abbrev pub setting_sent : Setting → calls.SummaryCall
-setting_sent (set.Text p text) = calls.set_text (text_named p) text
-setting_sent (set.Number p n) = calls.set_number (number_named p) n
-setting_sent (set.Time p ticks) = calls.set_time (time_named p) ticks
+setting_sent (set.Text p text) = calls.set_text p text
+setting_sent (set.Number p n) = calls.set_number p n
+setting_sent (set.Time p ticks) = calls.set_time p ticks
 setting_sent (set.Arch text) = calls.set_arch text
 setting_sent (set.Languages ids) = calls.set_languages ids
 setting_sent (set.Keywords words) = calls.set_keywords (map string_bytes words)
 setting_sent (set.Uuid id) = calls.set_uuid id
 setting_sent (set.Codepage page) = calls.set_codepage page
 
-abbrev pub clearing_sent : Clearing → calls.Clearing
-clearing_sent (cleared.Text p) = calls.text (text_named p)
-clearing_sent (cleared.Number p) = calls.number (number_named p)
-clearing_sent (cleared.Time p) = calls.time (time_named p)
-clearing_sent cleared.Arch = calls.arch
-clearing_sent cleared.Languages = calls.languages
-clearing_sent cleared.Keywords = calls.keywords
-clearing_sent cleared.Uuid = calls.uuid
-
 abbrev pub summary_call_sent : SummaryCall → calls.SummaryCall
-summary_call_sent (Ask q) = ask_sent q
+summary_call_sent (Ask p) = calls.ask p
 summary_call_sent (Set s) = setting_sent s
-summary_call_sent (Clear q) = calls.clear (clearing_sent q)
+summary_call_sent (Clear p) = calls.clear p
 
 -- CALLS ON STREAMS
 
@@ -139,7 +84,7 @@ call_sent (sent.LookUp question) = look_up_sent question
 call_sent (sent.SelectRows query) = calls.select_rows query
 call_sent (sent.Change c) = change_sent c
 call_sent sent.Recount = calls.recount
-call_sent (sent.SummaryInfo questions) = calls.summary_info (map question_sent questions)
+call_sent (sent.SummaryInfo questions) = calls.summary_info questions
 call_sent (sent.SummaryInfoMut summary_calls) = calls.summary_info_mut (map summary_call_sent summary_calls)
 call_sent (sent.WriteStream name stream_calls) = calls.write_stream name (map writer_call_sent stream_calls)
 call_sent (sent.ReadStream name stream_calls) = calls.read_stream name (map reader_call_sent stream_calls)

@@ -4,71 +4,10 @@ use msi::{LanguageId, Timestamp};
 use msi_base::codepage::CodePage;
 use msi_base::text::{Items, Text};
 use msi_query::{Delete, Insert, Select, Update};
+use msi_summary::{NumberProperty, SummaryProperty, TextProperty, TimeProperty};
 use msi_table_values::column::Column;
 use std::io::SeekFrom;
 use uuid::Uuid;
-
-/// A text of the summary, by its name.
-#[derive(Clone, Copy, Drop)]
-pub enum TextProperty {
-    /// What the file is.
-    Title,
-    /// The name of what is installed.
-    Subject,
-    /// Who made the package.
-    Author,
-    /// What the package is for.
-    Comments,
-    /// Who saved the package last.
-    LastSavedBy,
-    /// The program that made the package.
-    CreatingApplication,
-}
-
-/// A number of the summary, by its name.
-#[derive(Clone, Copy, Drop)]
-pub enum NumberProperty {
-    /// The least version of Windows Installer, times 100.
-    PageCount,
-    /// What the package's sources are like.
-    WordCount,
-    /// What a transform checks.
-    CharacterCount,
-    /// How the package may be opened.
-    DocSecurity,
-}
-
-/// A time of the summary, by its name.
-#[derive(Clone, Copy, Drop)]
-pub enum TimeProperty {
-    /// When the package was printed last.
-    LastPrinted,
-    /// When the package was made.
-    CreationTime,
-    /// When the package was saved last.
-    LastSavedTime,
-}
-
-/// What a summary is asked for.
-#[derive(Clone, Copy, Drop)]
-pub enum SummaryQuestion {
-    /// A text.
-    Text(TextProperty),
-    /// A number.
-    Number(NumberProperty),
-    /// A time.
-    Time(TimeProperty),
-    /// The architecture.
-    Arch,
-    /// The languages.
-    Languages,
-    /// The keywords.
-    Keywords,
-    /// The UUID.
-    Uuid,
-    /// The page in which texts are written.
-    Codepage,
-}
 
 /// What is set in a summary, and to what.
 #[derive(Drop)]
@@ -91,34 +30,15 @@ pub enum Setting {
     Codepage(CodePage),
 }
 
-/// What is cleared in a summary.
-#[derive(Clone, Copy, Drop)]
-pub enum Clearing {
-    /// A text.
-    Text(TextProperty),
-    /// A number.
-    Number(NumberProperty),
-    /// A time.
-    Time(TimeProperty),
-    /// The architecture.
-    Arch,
-    /// The languages.
-    Languages,
-    /// The keywords.
-    Keywords,
-    /// The UUID.
-    Uuid,
-}
-
 /// A call on a mutably borrowed summary.
 #[derive(Drop)]
 pub enum SummaryCall {
     /// Asks for a property.
-    Ask(SummaryQuestion),
+    Ask(SummaryProperty),
     /// Sets a property.
     Set(Setting),
     /// Clears a property.
-    Clear(Clearing),
+    Clear(SummaryProperty),
 }
 
 /// A call on the reader of a stream.
@@ -195,7 +115,7 @@ pub enum Call {
     /// Counts the cells of the database anew.
     Recount,
     /// Asks the summary.
-    SummaryInfo(Items<SummaryQuestion>),
+    SummaryInfo(Items<SummaryProperty>),
     /// Makes calls on the summary.
     SummaryInfoMut(Items<SummaryCall>),
     /// Writes a stream of this name.

@@ -14,8 +14,6 @@ mod streaming;
 mod summary;
 
 pub use answer::{Answer, StreamAnswer, SummaryAnswer};
-pub use call::{
-    Call, Change, Clearing, LookUp, NumberProperty, ReaderCall, Setting, SummaryCall,
-    SummaryQuestion, TextProperty, TimeProperty, WriterCall,
-};
+pub use call::{Call, Change, LookUp, ReaderCall, Setting, SummaryCall, WriterCall};
+pub use msi_summary::{NumberProperty, SummaryProperty, TextProperty, TimeProperty};
 pub use replaying::{Replayed, replay, replay_over};

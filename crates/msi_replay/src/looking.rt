@@ -6,12 +6,12 @@ ghost use Rattle.msi_base.specs.Results.{OnlyMemory};
 ghost use Rattle.msi_table_values.specs.Row.{RowDef};
 ghost use Rattle.msi_query.specs.Rows.{rows_values};
 ghost use Rattle.msi.specs.Calls as calls;
-ghost use Rattle.msi_replay.specs.Sent.{look_up_sent, question_sent};
+ghost use Rattle.msi_replay.specs.Sent.{look_up_sent};
 ghost use Rattle.msi_replay.specs.Taken.{Takes};
 ghost use Rattle.msi_replay.specs.Told.{answer_told, told};
 
 use crate::answer::Answer;
-use crate::call::{LookUp, SummaryQuestion};
+use crate::call::LookUp;
 use crate::streaming::all_names;
 use crate::summary::ask_all;
 use msi::Package;
@@ -19,6 +19,7 @@ use msi_base::errors::{Error, ErrorKind};
 use msi_base::text::Items;
 use msi_container_device::Memory;
 use msi_query::Select;
+use msi_summary::SummaryProperty;
 use msi_table::{Row, Rows, Table};
 use msi_table_values::column::Column;
 use std::alloc::Global;
@@ -119,9 +120,9 @@ pub(crate) fn select(
 pub(crate) fn ask_summary(
     alloc: Global,
     target: &Package<Memory>,
-    questions: Items<SummaryQuestion>,
+    questions: Items<SummaryProperty>,
 ) -> Result<Result<Answer, ErrorKind>, Error>
-    ensures ok { IfOk result (λ answer. Takes target.now (calls.summary_info (map question_sent questions))
+    ensures ok { IfOk result (λ answer. Takes target.now (calls.summary_info questions)
         (told answer_told answer) target.now) }
     ensures kind { OnlyMemory result }
 {

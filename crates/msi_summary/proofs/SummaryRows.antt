@@ -1,7 +1,11 @@
 -- Worked examples of summaries, by computation.
 use Rattle.std.specs.Prelude.{◌≡◌, [], ◌∷◌, refl, codes, map}
 use Rattle.msi_summary_properties.specs.Properties.{Properties}
-use Rattle.msi_summary.specs.Summary.{new_summary, with_arch, with_languages, with_text, template_of, languages_of, keywords_of, with_keywords, keywords_in, template_id, without_braces}
+use Rattle.msi_summary.specs.Property.{all_properties, property_id, template_id}
+use Rattle.msi_summary.specs.Summary.{new_summary, with_arch, with_languages, with_text, template_of, languages_of, keywords_of, with_keywords, keywords_in, without_braces}
+
+ids : map property_id all_properties ≡ 1 ∷ 2 ∷ 3 ∷ 4 ∷ 5 ∷ 6 ∷ 7 ∷ 7 ∷ 8 ∷ 9 ∷ 11 ∷ 12 ∷ 13 ∷ 14 ∷ 15 ∷ 16 ∷ 18 ∷ 19 ∷ []
+ids = refl
 
 abbrev bare : Properties
 bare = record (new_summary (codes "Installation Database")) { values = [] }

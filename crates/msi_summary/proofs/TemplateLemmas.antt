@@ -14,7 +14,8 @@ use Rattle.msi_categories.specs.Numerals.{u16_in}
 use Rattle.msi_categories.specs.Spellings.{language_list_text}
 use Rattle.msi_summary_properties.specs.declared.propset.PropertyValue.TheVariants.{LpStr}
 use Rattle.msi_summary_properties.specs.Properties.{Properties}
-use Rattle.msi_summary.specs.Summary.{as_text, is_comma, is_semicolon, nonempty, template_id, template_of, arch_text, languages_text, with_template}
+use Rattle.msi_summary.specs.Property.{template_id}
+use Rattle.msi_summary.specs.Summary.{as_text, is_comma, is_semicolon, nonempty, template_of, arch_text, languages_text, with_template}
 use Rattle.msi_summary.specs.SummaryLaws.{ArchKeepsLanguages, LanguagesKeepArch}
 use Rattle.msi_summary.proofs.NumeralLemmas.{u16_in-ok}
 use Rattle.msi_summary_properties.proofs.PropertiesLemmas.{value_with_id-insert_entry}

@@ -1,4 +1,5 @@
 -- The words of this crate.
+pub mod Property
 pub mod Summary
 pub mod SummaryLaws
 -- The words of the crates below, which public clauses cite.

@@ -1,5 +1,5 @@
--- The summary's properties (Windows Installer SDK, "Summary Information Stream Property Set").
-use Rattle.std.specs.Prelude.{◌≡◌, ℕ, ◌-◌, ℤ, Bool, ◌==◌, ◌&&◌, if◌then◌else◌}
+-- The summary: a property set of one format, and what its properties say.
+use Rattle.std.specs.Prelude.{◌≡◌, ℕ, ◌-◌, ℤ, Bool, true, false, ◌==◌, ◌&&◌, if◌then◌else◌}
 use Rattle.std.specs.Prelude.{Option, Some, None, option_and_then, unwrap_or}
 use Rattle.std.specs.Prelude.{List, [], ◌∷◌, ◌++◌, map, length, drop, take, codes}
 use Rattle.std.specs.List.{slice_split, before_first, after_first, join_by, filter_map, onto_first}
@@ -12,8 +12,14 @@ use Rattle.msi_categories.specs.Spellings.{language_list_text, braced_uuid_text}
 use Rattle.msi_summary_properties.specs.declared.propset.PropertyValue.{PropertyValue}
 use Rattle.msi_summary_properties.specs.declared.propset.PropertyValue.TheVariants.{I4, LpStr, FileTime}
 use Rattle.msi_summary_properties.specs.declared.propset.OperatingSystem.TheVariants as os
-use Rattle.msi_summary_properties.specs.Properties.{Properties, value_with_id, with_value, with_page, new_set}
+use Rattle.msi_summary_properties.specs.Properties.{Properties, value_with_id, with_value, without_value}
+use Rattle.msi_summary_properties.specs.Properties.{with_page, new_set}
 use Rattle.msi_summary_properties.specs.PropertyStream.{Spells}
+use Rattle.msi_summary.specs.declared.property.TextProperty.TheVariants.{Title}
+use Rattle.msi_summary.specs.declared.property.SummaryProperty.{SummaryProperty}
+use Rattle.msi_summary.specs.declared.property.SummaryProperty.TheVariants.{Codepage, Text, Number, Time, Keywords}
+use Rattle.msi_summary.specs.declared.property.SummaryProperty.TheVariants.{Arch, Languages, Uuid}
+use Rattle.msi_summary.specs.Property.{text_id, number_id, time_id, codepage_id, keywords_id, template_id, uuid_id}
 
 -- FMTID_SummaryInformation, F29F85E0-4FF9-1068-AB91-08002B27B3D9, as its bytes stand in a stream
 abbrev pub summary_format : List ℕ
@@ -23,44 +29,6 @@ summary_format = 0xE0 ∷ 0x85 ∷ 0x9F ∷ 0xF2 ∷ 0xF9 ∷ 0x4F ∷ 0x68 ∷ 
 -- the bytes spell a property set that is a summary
 abbrev pub SpellsSummary : List ℕ → Properties → Type 0
 SpellsSummary bytes set = Spells bytes set × (set.format_identifier ≡ summary_format)
-
--- the properties' ids: of texts, of numbers, of times, and of the three with a form of their own
-pub data TextProperty : Type 0 where
-  title subject author comments last_saved_by creating_application : TextProperty
-
-pub data NumberProperty : Type 0 where
-  page_count word_count character_count doc_security : NumberProperty
-
-pub data TimeProperty : Type 0 where
-  last_printed creation_time last_saved_time : TimeProperty
-
-abbrev pub text_id : TextProperty → ℕ
-text_id title = 2
-text_id subject = 3
-text_id author = 4
-text_id comments = 6
-text_id last_saved_by = 8
-text_id creating_application = 18
-
-abbrev pub number_id : NumberProperty → ℕ
-number_id page_count = 14
-number_id word_count = 15
-number_id character_count = 16
-number_id doc_security = 19
-
-abbrev pub time_id : TimeProperty → ℕ
-time_id last_printed = 11
-time_id creation_time = 12
-time_id last_saved_time = 13
-
-abbrev pub keywords_id : ℕ
-keywords_id = 5
-
-abbrev pub template_id : ℕ
-template_id = 7
-
-abbrev pub uuid_id : ℕ
-uuid_id = 9
 
 -- a value, where it has the type
 abbrev pub as_text : PropertyValue → Option (List ℕ)
@@ -168,7 +136,25 @@ uuid_of set = option_and_then (λ text. parsed (without_braces text)) (text_with
 abbrev pub with_uuid : List ℕ → Properties → Properties
 with_uuid id set = with_text uuid_id (braced_uuid_text id) set
 
+-- a property cleared: the template and the keywords stay, with an empty text, and other properties are removed
+abbrev pub cleared : SummaryProperty → Properties → Properties
+cleared Codepage set = without_value codepage_id set
+cleared (Text p) set = without_value (text_id p) set
+cleared (Number p) set = without_value (number_id p) set
+cleared (Time p) set = without_value (time_id p) set
+cleared Keywords set = with_keywords [] set
+cleared Arch set = with_arch [] set
+cleared Languages set = with_languages [] set
+cleared Uuid set = without_value uuid_id set
+
+-- whether it is cleared by another text
+abbrev pub is_set_empty : SummaryProperty → Bool
+is_set_empty Keywords = true
+is_set_empty Arch = true
+is_set_empty Languages = true
+is_set_empty _ = false
+
 -- a new summary, with its title
 abbrev pub new_summary : List ℕ → Properties
 new_summary title_text =
-    with_text (text_id title) title_text (with_page page.Utf8 (new_set os.Win32 10 summary_format))
+    with_text (text_id Title) title_text (with_page page.Utf8 (new_set os.Win32 10 summary_format))

@@ -1,5 +1,6 @@
 //! What holds of the format and of the definitions themselves: each is the contract of a function without a body.
 
+ghost use Rattle.msi_summary.specs.Property.{PropertyNamesComeBack};
 ghost use Rattle.msi_summary.specs.SummaryLaws.{ArchKeepsLanguages, LanguagesKeepArch};
 
 pub use msi_summary_properties::laws::{
@@ -14,4 +15,9 @@ pub fn arch_keeps_languages()
 /// Languages are read as they were set, and setting them keeps the architecture.
 pub fn languages_keep_arch()
     ensures { LanguagesKeepArch }
+{}
+
+/// The name of a property is read as that property.
+pub fn property_names_come_back()
+    ensures { PropertyNamesComeBack }
 {}

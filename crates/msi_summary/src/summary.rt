@@ -4,10 +4,11 @@
 ghost use Rattle.std.specs.Prelude.{◌≡◌, ◌≢◌, ◌↔◌, IfOk, IfErr, IsTrue, OnOk, OnErr};
 ghost use Rattle.std.specs.Option.{option_copied};
 ghost use Rattle.msi_base.specs.Results.{OnlyMemory};
-ghost use Rattle.msi_base.specs.declared.errors.ErrorKind.TheVariants.{InvalidData};
+ghost use Rattle.msi_base.specs.declared.errors.ErrorKind.TheVariants.{InvalidData, OutOfMemory};
 ghost use Rattle.msi_summary_properties.specs.Properties.{page_of, with_page, with_value, without_value};
 ghost use Rattle.msi_summary_properties.specs.PropertyStream.{AreWritable, HaveUtf8Texts};
-ghost use Rattle.msi_summary.specs.Summary.{new_summary, summary_format, number_with_id, text_with_id, time_with_id};
+ghost use Rattle.msi_summary.specs.Summary.{cleared, is_set_empty, new_summary, summary_format};
+ghost use Rattle.msi_summary.specs.Summary.{number_with_id, text_with_id, time_with_id};
 ghost use Rattle.msi_summary.specs.Summary.{with_number, with_text, with_time};
 
 pub(crate) mod identity;
@@ -17,6 +18,7 @@ mod template;
 mod texts;
 mod times;
 
+use crate::property::SummaryProperty;
 use crate::reasons;
 use msi_base::codepage::CodePage;
 use msi_base::errors::{Error, ErrorKind};
@@ -113,6 +115,31 @@ impl SummaryInfo {
         ensures utf8 { HaveUtf8Texts self.now.values }
     {
         self.properties.is_writable()
+    }
+
+    /// Clears a property: sets the keywords, the architecture or the languages to none, and removes any other, where it
+    /// is there. Without the code page texts are in UTF-8. If it fails, the summary is as before.
+    ///
+    /// # Errors
+    /// Fails with `OutOfMemory` if the text without keywords, architecture or languages can't be made or stored.
+    pub fn clear_property(&mut self, property: SummaryProperty) -> Result<(), Error>
+        ensures ok { OnOk result (self.new ≡ cleared property self.old) }
+        ensures kind { IfErr result (λ kind. IsTrue (is_set_empty property) × (kind ≡ OutOfMemory)) }
+        ensures err { OnErr result (self.new ≡ self.old) }
+    {
+        match property {
+            SummaryProperty::Keywords => self.clear_keywords(),
+            SummaryProperty::Arch => self.clear_arch(),
+            SummaryProperty::Languages => self.clear_languages(),
+            SummaryProperty::Codepage
+            | SummaryProperty::Text(_)
+            | SummaryProperty::Number(_)
+            | SummaryProperty::Time(_)
+            | SummaryProperty::Uuid => {
+                self.clear(property.id());
+                Ok(())
+            }
+        }
     }
 
     fn allocator(&self) -> Global {

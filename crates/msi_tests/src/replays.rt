@@ -3,7 +3,7 @@
 use crate::shown::is_shown;
 use msi::{Error, ErrorKind, IntoText, Items, PackageType, Select};
 use msi_replay::{
-    Answer, Call, Change, LookUp, ReaderCall, Replayed, SummaryCall, SummaryQuestion, WriterCall,
+    Answer, Call, Change, LookUp, ReaderCall, Replayed, SummaryCall, SummaryProperty, WriterCall,
     replay, replay_over,
 };
 use std::alloc::Global;
@@ -18,9 +18,9 @@ fn stream_calls(alloc: Global, calls: &mut Vec<Call>) -> Result<(), Error> {
 }
 
 fn summary_calls(alloc: Global, calls: &mut Vec<Call>) -> Result<(), Error> {
-    let asks = Items::from_vec(vec![in alloc; SummaryQuestion::Codepage]?);
+    let asks = Items::from_vec(vec![in alloc; SummaryProperty::Codepage]?);
     calls.push(Call::SummaryInfo(asks))?;
-    let asks = Items::from_vec(vec![in alloc; SummaryCall::Ask(SummaryQuestion::Arch)]?);
+    let asks = Items::from_vec(vec![in alloc; SummaryCall::Ask(SummaryProperty::Arch)]?);
     calls.push(Call::SummaryInfoMut(asks))?;
     Ok(())
 }

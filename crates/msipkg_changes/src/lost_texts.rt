@@ -1,8 +1,10 @@
 //! Texts of a package that its code pages can't hold: none is written, since it would read back as another.
 
 use msipkg_format::Shown;
-use msipkg_packages::msi::{CodePage, Error, Package, Rows, SummaryInfo, Table, ValueView};
-use msipkg_packages::output::{Cause, Failure, Opened, PROPERTIES};
+use msipkg_packages::msi::{
+    CodePage, Error, Package, Rows, SummaryInfo, SummaryProperty, Table, ValueView,
+};
+use msipkg_packages::output::{Cause, Failure, Opened, StoredProperty};
 use msipkg_packages::{cell_text, property_text, rows_of};
 use std::alloc::{AllocError, Global};
 
@@ -73,11 +75,13 @@ fn lost_character(page: CodePage, text: &str) -> Option<char> {
 
 fn lost_in_summary(alloc: Global, summary: &SummaryInfo) -> Result<Option<Failure>, Failure> {
     let page = summary.codepage();
-    for (id, name) in &PROPERTIES {
-        if let Some(text) = property_text(alloc, summary, *id)?
+    for property in SummaryProperty::all() {
+        if let Some(property) = StoredProperty::of(property)
+            && let Some(text) = property_text(alloc, summary, property)?
             && let Some(c) = lost_character(page, text.as_str())
         {
-            return Ok(Some(lacking(alloc, page, c)?.at(alloc, "summary property", name)));
+            let failure = lacking(alloc, page, c)?;
+            return Ok(Some(failure.at(alloc, "summary property", property.name())));
         }
     }
     Ok(None)

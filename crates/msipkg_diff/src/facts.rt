@@ -3,8 +3,8 @@
 use crate::diff::Compared;
 use crate::difference::{Change, Content, Difference, Member};
 use crate::report::Report;
-use msipkg_packages::msi::{Error, SummaryInfo};
-use msipkg_packages::output::PROPERTIES;
+use msipkg_packages::msi::{Error, SummaryInfo, SummaryProperty};
+use msipkg_packages::output::StoredProperty;
 use msipkg_packages::{kind_name, property_text};
 
 /// Compares the kinds, the code pages that the files name, and whether there is a signature.
@@ -44,24 +44,25 @@ pub(crate) fn compare_summaries(
     new: &SummaryInfo,
     report: &mut Report<'_>,
 ) -> Result<(), Error> {
-    for (id, name) in &PROPERTIES {
-        compare_property(*id, name, old, new, report)?;
+    for property in SummaryProperty::all() {
+        if let Some(property) = StoredProperty::of(property) {
+            compare_property(property, old, new, report)?;
+        }
     }
     Ok(())
 }
 
 fn compare_property(
-    id: i32,
-    name: &'static str,
+    property: StoredProperty,
     old: &SummaryInfo,
     new: &SummaryInfo,
     report: &mut Report<'_>,
 ) -> Result<(), Error> {
-    let old = property_text(report.alloc, old, id)?;
-    let new = property_text(report.alloc, new, id)?;
+    let old = property_text(report.alloc, old, property)?;
+    let new = property_text(report.alloc, new, property)?;
     let old_text = old.as_ref().map(|text| text.as_str());
     let new_text = new.as_ref().map(|text| text.as_str());
-    compare_texts("summary", name, old_text, new_text, report);
+    compare_texts("summary", property.name(), old_text, new_text, report);
     Ok(())
 }
 

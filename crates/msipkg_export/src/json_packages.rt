@@ -2,9 +2,9 @@
 
 use base64::engine::general_purpose::STANDARD;
 use msipkg_format::{JsonObject, Style, write_quoted, write_text};
-use msipkg_packages::msi::{Error, Package, Rows, SummaryInfo, Table};
+use msipkg_packages::msi::{Error, Package, Rows, SummaryInfo, SummaryProperty, Table};
 use msipkg_packages::output::{
-    Failure, JsonRow, NullCells, Opened, Output, PROPERTIES, put_columns,
+    Failure, JsonRow, NullCells, Opened, Output, StoredProperty, put_columns,
 };
 use msipkg_packages::{chosen_tables, kind_name, null_cells_of, property_text, rows_of};
 use std::alloc::{AllocError, Global};
@@ -83,9 +83,11 @@ fn write_summary(alloc: Global, style: Style, summary: &SummaryInfo, output: &mu
 
 fn summary_json(alloc: Global, summary: &SummaryInfo) -> Result<JsonObject, Error> {
     let mut object = JsonObject::new(alloc);
-    for (id, name) in &PROPERTIES {
-        if let Some(text) = property_text(alloc, summary, *id)? {
-            object.put_text(name, Some(text.as_str()));
+    for property in SummaryProperty::all() {
+        if let Some(property) = StoredProperty::of(property)
+            && let Some(text) = property_text(alloc, summary, property)?
+        {
+            object.put_text(property.name(), Some(text.as_str()));
         }
     }
     Ok(object)

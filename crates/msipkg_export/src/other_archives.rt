@@ -4,8 +4,10 @@ use crate::archive_parts::text_value;
 use crate::archive_texts::{StoredText, text_of_rows};
 use crate::table_archives::StreamFile;
 use msipkg_format::SafeNames;
-use msipkg_packages::msi::{CodePage, Column, Error, Items, Package, SummaryInfo, Value};
-use msipkg_packages::output::{Failure, Opened, PROPERTIES};
+use msipkg_packages::msi::{
+    CodePage, Column, Error, Items, Package, SummaryInfo, SummaryProperty, Value,
+};
+use msipkg_packages::output::{Failure, Opened, StoredProperty};
 use msipkg_packages::property_text;
 use std::alloc::{AllocError, Global};
 use std::collections::BTreeSet;
@@ -40,9 +42,11 @@ fn summary_columns(alloc: Global) -> Result<Vec<Column>, Error> {
 
 fn summary_rows(alloc: Global, summary: &SummaryInfo) -> Result<Vec<Items<Value>>, Error> {
     let mut rows = Vec::new(alloc);
-    for (id, _) in &PROPERTIES {
-        if let Some(text) = property_text(alloc, summary, *id)? {
-            rows.push(property_row(alloc, *id, text.as_str())?)?;
+    for property in SummaryProperty::all() {
+        if let Some(property) = StoredProperty::of(property)
+            && let Some(text) = property_text(alloc, summary, property)?
+        {
+            rows.push(property_row(alloc, property.id(), text.as_str())?)?;
         }
     }
     Ok(rows)

@@ -29,7 +29,7 @@ pub use json_rows::JsonRow;
 pub use msipkg_system::{Carrier, Identity, Opened, Origin, Output, System, SystemFile, path_in};
 pub use nulls::NullCells;
 pub use pages::Pages;
-pub use properties::PROPERTIES;
+pub use properties::StoredProperty;
 pub use rows::{RowFormat, RowPrinting, write_rows};
 pub use safe_names::{Ending, SafeName, SafeNames, safe_name};
 pub use style::Style;

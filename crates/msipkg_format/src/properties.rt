@@ -1,23 +1,56 @@
-//! The properties of a summary, by their names.
+//! The properties of a summary as text archives and JSON have them.
 
-/// The properties in the order of their numbers, each with its name. The template is the architecture and the
-/// languages.
-pub static PROPERTIES: [(i32, &str); 17] = [
-    (1, "codepage"),
-    (2, "title"),
-    (3, "subject"),
-    (4, "author"),
-    (5, "keywords"),
-    (6, "comments"),
-    (7, "template"),
-    (8, "last_saved_by"),
-    (9, "uuid"),
-    (11, "last_printed"),
-    (12, "creation_time"),
-    (13, "last_saved_time"),
-    (14, "page_count"),
-    (15, "word_count"),
-    (16, "character_count"),
-    (18, "creating_application"),
-    (19, "doc_security"),
-];
+use msi_summary::SummaryProperty;
+
+/// A property as files have it: one for each id. The architecture and the languages are one there, the template.
+#[derive(Clone, Copy)]
+pub enum StoredProperty {
+    /// The architecture and the languages.
+    Template,
+    /// Any other property.
+    Single(SummaryProperty),
+}
+
+impl StoredProperty {
+    /// Returns what files have of a property, if that isn't a part of one before it, as the languages are.
+    pub fn of(property: SummaryProperty) -> Option<StoredProperty> {
+        match property {
+            SummaryProperty::Arch => Some(StoredProperty::Template),
+            SummaryProperty::Languages => None,
+            SummaryProperty::Codepage
+            | SummaryProperty::Text(_)
+            | SummaryProperty::Number(_)
+            | SummaryProperty::Time(_)
+            | SummaryProperty::Keywords
+            | SummaryProperty::Uuid => Some(StoredProperty::Single(property)),
+        }
+    }
+
+    /// Returns the property of an id, if there is one.
+    pub fn from_id(id: i32) -> Option<StoredProperty> {
+        for property in SummaryProperty::all() {
+            if let Some(stored) = StoredProperty::of(property)
+                && stored.id() == id
+            {
+                return Some(stored);
+            }
+        }
+        None
+    }
+
+    /// Returns the id, which the installer's table `_SummaryInformation` has.
+    pub fn id(self) -> i32 {
+        match self {
+            StoredProperty::Template => SummaryProperty::Arch.id() as i32,
+            StoredProperty::Single(property) => property.id() as i32,
+        }
+    }
+
+    /// Returns the name, which JSON has.
+    pub fn name(self) -> &'static str {
+        match self {
+            StoredProperty::Template => "template",
+            StoredProperty::Single(property) => property.name(),
+        }
+    }
+}

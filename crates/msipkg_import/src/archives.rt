@@ -6,7 +6,7 @@ use crate::places::at_part;
 use msi_base::CodePage;
 use msi_idt::{Archive, ArchiveColumn, ArchiveError, read};
 use msi_table::Value;
-use msipkg_format::{Failure, PROPERTIES, System};
+use msipkg_format::{Failure, StoredProperty, System};
 use std::alloc::{AllocError, Global};
 use std::str;
 
@@ -85,8 +85,8 @@ fn take_summary(alloc: Global, archive: &Archive, given: &mut Given) -> Result<(
         let Some((id, text)) = property_in(row.as_slice()) else {
             return Err(Failure::rule("its rows have to be numbers and texts"));
         };
-        if let Some(name) = name_of(id) {
-            given.add_property(alloc, name, text)?;
+        if let Some(property) = StoredProperty::from_id(id) {
+            given.add_property(alloc, property, text)?;
         }
     }
     Ok(())
@@ -99,15 +99,6 @@ fn property_in(row: &[Value]) -> Option<(i32, &str)> {
         [Value::Int(id), Value::Null] => Some((*id, "")),
         _ => None,
     }
-}
-
-fn name_of(id: i32) -> Option<&'static str> {
-    for (known, name) in &PROPERTIES {
-        if *known == id {
-            return Some(*name);
-        }
-    }
-    None
 }
 
 /// Adds a table and the streams of its rows. The table of the streams that no row has isn't added itself.

@@ -3,7 +3,7 @@
 use crate::places::{at_part, part_of};
 use msi_base::CodePage;
 use msi_table::{ColumnType, Value};
-use msipkg_format::Failure;
+use msipkg_format::{Failure, StoredProperty};
 use std::alloc::{AllocError, Global};
 
 /// A column.
@@ -145,8 +145,8 @@ impl Drop for GivenStream {
 
 /// A property of a summary.
 pub struct GivenProperty {
-    /// The name, as `PROPERTIES` has it.
-    pub name: &'static str,
+    /// Which it is.
+    pub property: StoredProperty,
     /// The text that stands for its value.
     pub text: String,
 }
@@ -154,7 +154,10 @@ pub struct GivenProperty {
 /// Written out, so that a function that owns one calls one drop, and its proof doesn't go through those of the parts.
 impl Drop for GivenProperty {
     fn drop(self) {
-        let GivenProperty { name: _, text: _ } = self;
+        let GivenProperty {
+            property: _,
+            text: _,
+        } = self;
     }
 }
 
@@ -199,11 +202,11 @@ impl Given {
     pub(crate) fn add_property(
         &mut self,
         alloc: Global,
-        name: &'static str,
+        property: StoredProperty,
         text: &str,
     ) -> Result<(), AllocError> {
         let text = String::from_str(alloc, text)?;
-        Ok(self.summary.push(GivenProperty { name, text })?)
+        Ok(self.summary.push(GivenProperty { property, text })?)
     }
 }
 

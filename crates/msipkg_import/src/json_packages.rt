@@ -6,7 +6,8 @@ use crate::places::at_part;
 use base64::DecodeAllocError;
 use base64::engine::general_purpose::STANDARD;
 use msi_base::CodePage;
-use msipkg_format::{Failure, PROPERTIES};
+use msi_summary::SummaryProperty;
+use msipkg_format::{Failure, StoredProperty};
 use serde_json::Value;
 use std::alloc::{AllocError, Global};
 
@@ -58,17 +59,30 @@ fn read_summary(
     given: &mut Given,
 ) -> Result<(), Failure> {
     given.has_summary = true;
-    for (_, name) in &PROPERTIES {
-        let Some(property) = summary.get(*name) else {
-            continue;
-        };
-        let Some(text) = property.as_str() else {
-            let failure = Failure::rule("its value has to be a text");
-            return Err(at_part(alloc, failure, path, "summary property", name));
-        };
-        given.add_property(alloc, name, text)?;
+    for property in SummaryProperty::all() {
+        if let Some(property) = StoredProperty::of(property)
+            && let Some(value) = summary.get(property.name())
+        {
+            read_property(alloc, path, property, value, given)?;
+        }
     }
     Ok(())
+}
+
+fn read_property(
+    alloc: Global,
+    path: &str,
+    property: StoredProperty,
+    value: &Value,
+    given: &mut Given,
+) -> Result<(), Failure> {
+    match value.as_str() {
+        Some(text) => Ok(given.add_property(alloc, property, text)?),
+        None => {
+            let failure = Failure::rule("its value has to be a text");
+            Err(at_part(alloc, failure, path, "summary property", property.name()))
+        }
+    }
 }
 
 fn read_streams(

@@ -5,6 +5,7 @@
 pub mod claim;
 pub mod file_bytes;
 pub mod folder;
+mod installer_times;
 pub mod kinds;
 pub mod making;
 mod named_pages;
@@ -35,7 +36,7 @@ pub use msipkg_format as output;
 pub use null_streams::{StreamColumn, has_null_streams, null_cells_in, null_cells_of};
 pub use opening::{FileState, kind_name, new_package, open_package, open_to_change};
 pub use partial::{Looked, open_to_look};
-pub use properties::{clear_property, page_of, set_properties, set_property};
+pub use properties::{page_of, set_properties, set_property};
 pub use recoding::{
     PackageFile, Purpose, Recoded, file_page, has_page_zero, page_in, recoded_by_page,
     recoded_instead,
@@ -43,7 +44,7 @@ pub use recoding::{
 pub use replacing::replace_file;
 pub use stored::{StoredStreams, stored_streams, stream_bytes};
 pub use streams::fill_stream;
-pub use summary_texts::{property_text, uuid_text};
+pub use summary_texts::{property_text, set_property_text, uuid_text};
 pub use tables::{cell_text, check_reserved, chosen_tables, is_list, rows_of, table_named};
 pub use unlisted::TableNames;
 pub use validation::{Added, Before, VALIDATION, add_validation, copied_rows};

@@ -1,15 +1,12 @@
 //! The pages that a package names for its texts.
 
 use msi::compound::{Name, StreamMap};
-use msi::streamname;
+use msi::{SummaryProperty, streamname};
 use msi_base::Error;
 use msi_recode::TextPage;
 use msipkg_format::Pages;
 use std::alloc::Global;
 use std::str;
-
-/// The property of the summary that names its page.
-const PAGE: u32 = 1;
 
 /// Where the summary says where its section begins.
 const SECTION: usize = 44;
@@ -95,7 +92,7 @@ fn summary_page(bytes: &[u8]) -> Option<i32> {
 fn place_of_page(section: &[u8]) -> Option<u32> {
     let count = usize::try_from(u32_at(section, 4)?).ok()?;
     for pair in section.get(LIST..)?.chunks(8).take(count) {
-        if u32_at(pair, 0)? == PAGE {
+        if u32_at(pair, 0)? == SummaryProperty::Codepage.id() {
             return u32_at(pair, 4);
         }
     }

@@ -1,60 +1,21 @@
-//! `summary FILE --set NAME=VALUE.. --clear NAME..`: properties of a package's summary.
+//! Properties of a package's summary, set and cleared as `msipkg` takes them.
 
 use crate::output::{Failure, Opened};
-use msi::{CodePage, Error, HasUuid, LanguageId, Package, SummaryInfo, Timestamp};
+use msi::{
+    CodePage, HasUuid, LanguageId, NumberProperty, Package, SummaryInfo, SummaryProperty,
+    TimeProperty, Timestamp,
+};
 use std::alloc::Global;
 use uuid::Uuid;
 
 /// How many nanoseconds a second has.
 const NANOSECONDS: i128 = 1_000_000_000;
 
-/// A property that can be set.
-#[derive(Clone, Copy)]
-enum Property {
-    Codepage,
-    Title,
-    Subject,
-    Author,
-    Keywords,
-    Comments,
-    Arch,
-    Languages,
-    Uuid,
-    LastSavedBy,
-    CreatingApplication,
-    LastPrinted,
-    CreationTime,
-    LastSavedTime,
-    PageCount,
-    WordCount,
-    CharacterCount,
-    DocSecurity,
-}
-
-/// The properties by their names.
-static PROPERTIES: [(&str, Property); 18] = [
-    ("codepage", Property::Codepage),
-    ("title", Property::Title),
-    ("subject", Property::Subject),
-    ("author", Property::Author),
-    ("keywords", Property::Keywords),
-    ("comments", Property::Comments),
-    ("arch", Property::Arch),
-    ("languages", Property::Languages),
-    ("uuid", Property::Uuid),
-    ("last_saved_by", Property::LastSavedBy),
-    ("creating_application", Property::CreatingApplication),
-    ("last_printed", Property::LastPrinted),
-    ("creation_time", Property::CreationTime),
-    ("last_saved_time", Property::LastSavedTime),
-    ("page_count", Property::PageCount),
-    ("word_count", Property::WordCount),
-    ("character_count", Property::CharacterCount),
-    ("doc_security", Property::DocSecurity),
-];
-
-/// Sets properties, each written as `NAME=VALUE`, and then clears others. Fails at the first word that names no
-/// property or whose value the property doesn't take. Those in front of it are set.
+/// Sets properties, each written as `NAME=VALUE`, and then clears others.
+///
+/// # Errors
+/// Fails at the first word that names no property or whose value the property doesn't take, and with `OutOfMemory`.
+/// Those in front of it are set.
 pub fn set_properties(
     alloc: Global,
     package: &mut Package<Opened>,
@@ -72,105 +33,84 @@ fn set_pair(alloc: Global, summary: &mut SummaryInfo, pair: &str) -> Result<(), 
     let Some((name, value)) = pair.split_once('=') else {
         return Err(Failure::rule("it isn't of the form NAME=VALUE").at(alloc, "word", pair));
     };
-    set_property(alloc, summary, name, value).map_err(|failure| failure.at(alloc, "property", name))
+    set_named(alloc, summary, name, value).map_err(|failure| failure.at(alloc, "property", name))
 }
 
-pub fn set_property(
+fn set_named(
     alloc: Global,
     summary: &mut SummaryInfo,
     name: &str,
     value: &str,
 ) -> Result<(), Failure> {
-    match property_named(name) {
-        Some(property) => set(alloc, summary, property, value),
-        None => Err(no_property()),
-    }
+    set_property(alloc, summary, property_named(name)?, value)
 }
 
 fn clear_all(alloc: Global, summary: &mut SummaryInfo, names: &[&str]) -> Result<(), Failure> {
     for name in names {
-        clear_property(summary, name).map_err(|failure| failure.at(alloc, "property", name))?;
+        clear_named(summary, name).map_err(|failure| failure.at(alloc, "property", name))?;
     }
     Ok(())
 }
 
-pub fn clear_property(summary: &mut SummaryInfo, name: &str) -> Result<(), Failure> {
-    match property_named(name) {
-        Some(property) => clear(summary, property),
-        None => Err(no_property()),
+/// Clears a property, but never the code page, since there always is one.
+fn clear_named(summary: &mut SummaryInfo, name: &str) -> Result<(), Failure> {
+    let property = property_named(name)?;
+    if matches!(property, SummaryProperty::Codepage) {
+        return Err(no_property());
     }
+    Ok(summary.clear_property(property)?)
 }
 
-fn property_named(name: &str) -> Option<Property> {
-    for (known, property) in &PROPERTIES {
-        if *known == name {
-            return Some(*property);
-        }
+fn property_named(name: &str) -> Result<SummaryProperty, Failure> {
+    match SummaryProperty::from_name(name) {
+        Some(property) => Ok(property),
+        None => Err(no_property()),
     }
-    None
 }
 
 fn no_property() -> Failure {
     Failure::rule("there is no property of this name that can be set")
 }
 
-fn set(
+/// Sets a property to what a value says: keywords separated by `;`, languages by commas, a time as in
+/// `2024-02-29T12:00:00Z`.
+///
+/// # Errors
+/// Fails if the property doesn't take the value, and with `OutOfMemory`.
+pub fn set_property(
     alloc: Global,
     summary: &mut SummaryInfo,
-    property: Property,
+    property: SummaryProperty,
     value: &str,
 ) -> Result<(), Failure> {
     match property {
-        Property::Codepage => set_page(summary, value),
-        Property::Uuid => set_uuid(summary, value),
-        Property::Keywords => set_keywords(alloc, summary, value),
-        Property::Languages => set_languages(alloc, summary, value),
-        Property::LastPrinted | Property::CreationTime | Property::LastSavedTime => {
-            set_time(summary, property, value)
-        }
-        Property::PageCount
-        | Property::WordCount
-        | Property::CharacterCount
-        | Property::DocSecurity => set_number(summary, property, value),
-        _ => Ok(set_text(summary, property, value)?),
+        SummaryProperty::Codepage => Ok(summary.set_codepage(page_of(value)?)?),
+        SummaryProperty::Text(property) => Ok(summary.set_text_property(property, value)?),
+        SummaryProperty::Number(property) => set_number(summary, property, value),
+        SummaryProperty::Time(property) => set_time(summary, property, value),
+        SummaryProperty::Keywords => set_keywords(alloc, summary, value),
+        SummaryProperty::Arch => Ok(summary.set_arch(value)?),
+        SummaryProperty::Languages => set_languages(alloc, summary, value),
+        SummaryProperty::Uuid => set_uuid(summary, value),
     }
 }
 
-fn set_text(summary: &mut SummaryInfo, property: Property, value: &str) -> Result<(), Error> {
-    match property {
-        Property::Title => summary.set_title(value),
-        Property::Subject => summary.set_subject(value),
-        Property::Author => summary.set_author(value),
-        Property::Comments => summary.set_comments(value),
-        Property::Arch => summary.set_arch(value),
-        Property::LastSavedBy => summary.set_last_saved_by(value),
-        _ => summary.set_creating_application(value),
+fn set_number(
+    summary: &mut SummaryInfo,
+    property: NumberProperty,
+    value: &str,
+) -> Result<(), Failure> {
+    match value.parse::<i32>() {
+        Ok(number) => Ok(summary.set_number_property(property, number)?),
+        Err(_) => Err(Failure::rule("its value has to be a number of 32 bits")),
     }
 }
 
-fn set_number(summary: &mut SummaryInfo, property: Property, value: &str) -> Result<(), Failure> {
-    let Ok(number) = value.parse::<i32>() else {
-        return Err(Failure::rule("its value has to be a number of 32 bits"));
-    };
-    let set: Result<(), Error> = match property {
-        Property::PageCount => summary.set_page_count(number),
-        Property::WordCount => summary.set_word_count(number),
-        Property::CharacterCount => summary.set_character_count(number),
-        _ => summary.set_doc_security(number),
-    };
-    Ok(set?)
-}
-
-fn set_time(summary: &mut SummaryInfo, property: Property, value: &str) -> Result<(), Failure> {
-    let Some(time) = time_of(value) else {
-        return Err(Failure::rule("its value has to be a time such as 2024-02-29T12:00:00Z"));
-    };
-    let set: Result<(), Error> = match property {
-        Property::LastPrinted => summary.set_last_printed(time),
-        Property::CreationTime => summary.set_creation_time(time),
-        _ => summary.set_last_save_time(time),
-    };
-    Ok(set?)
+fn set_time(summary: &mut SummaryInfo, property: TimeProperty, value: &str) -> Result<(), Failure> {
+    match time_of(value) {
+        Some(time) => Ok(summary.set_time_property(property, time)?),
+        None => Err(Failure::rule("its value has to be a time such as 2024-02-29T12:00:00Z")),
+    }
 }
 
 /// Reads a time as `summary` prints it: in ISO 8601, such as `2024-02-29T12:00:00Z`, or as a number of ticks.
@@ -185,8 +125,19 @@ fn time_of(text: &str) -> Option<Timestamp> {
     Some(Timestamp::from_unix(seconds, rest))
 }
 
-fn set_page(summary: &mut SummaryInfo, value: &str) -> Result<(), Failure> {
-    Ok(summary.set_codepage(page_of(value)?)?)
+/// Returns the code page of a number.
+///
+/// # Errors
+/// Fails if there is no such page.
+pub fn page_of(number: &str) -> Result<CodePage, Failure> {
+    let known = match number.parse::<i32>() {
+        Ok(number) => CodePage::from_id(number),
+        Err(_) => None,
+    };
+    match known {
+        Some(page) => Ok(page),
+        None => Err(Failure::rule("there is no code page of this number")),
+    }
 }
 
 fn set_uuid(summary: &mut SummaryInfo, value: &str) -> Result<(), Failure> {
@@ -227,46 +178,4 @@ fn languages_of(alloc: Global, value: &str) -> Result<Vec<LanguageId>, Failure> 
         languages.push(LanguageId::from_id(number))?;
     }
     Ok(languages)
-}
-
-/// Clears a property, but never the code page, since there always is one.
-fn clear(summary: &mut SummaryInfo, property: Property) -> Result<(), Failure> {
-    match property {
-        Property::Codepage => return Err(no_property()),
-        Property::Keywords => summary.clear_keywords()?,
-        Property::Arch => summary.clear_arch()?,
-        Property::Languages => summary.clear_languages()?,
-        _ => clear_plain(summary, property),
-    }
-    Ok(())
-}
-
-fn clear_plain(summary: &mut SummaryInfo, property: Property) {
-    match property {
-        Property::Title => summary.clear_title(),
-        Property::Subject => summary.clear_subject(),
-        Property::Author => summary.clear_author(),
-        Property::Comments => summary.clear_comments(),
-        Property::LastSavedBy => summary.clear_last_saved_by(),
-        Property::CreatingApplication => summary.clear_creating_application(),
-        Property::Uuid => summary.clear_uuid(),
-        Property::LastPrinted => summary.clear_last_printed(),
-        Property::CreationTime => summary.clear_creation_time(),
-        Property::LastSavedTime => summary.clear_last_save_time(),
-        Property::PageCount => summary.clear_page_count(),
-        Property::WordCount => summary.clear_word_count(),
-        Property::CharacterCount => summary.clear_character_count(),
-        _ => summary.clear_doc_security(),
-    }
-}
-
-pub fn page_of(number: &str) -> Result<CodePage, Failure> {
-    let known = match number.parse::<i32>() {
-        Ok(number) => CodePage::from_id(number),
-        Err(_) => None,
-    };
-    match known {
-        Some(page) => Ok(page),
-        None => Err(Failure::rule("there is no code page of this number")),
-    }
 }

@@ -71,9 +71,9 @@ impl Facts {
         }
     }
 
-    pub(crate) fn uuid(&mut self, summary: &SummaryInfo) {
+    pub(crate) fn uuid(&mut self, name: &str, summary: &SummaryInfo) {
         match uuid_text(self.alloc, summary) {
-            Ok(Some(text)) => self.text("uuid", Some(text.as_str())),
+            Ok(Some(text)) => self.text(name, Some(text.as_str())),
             Ok(None) => {}
             Err(_) => self.refuse_memory(),
         }
@@ -115,13 +115,14 @@ impl Facts {
         }
     }
 
-    pub(crate) fn languages(&mut self, languages: &[LanguageId]) {
+    /// Adds languages, and their tags behind them.
+    pub(crate) fn languages(&mut self, name: &str, languages: &[LanguageId]) {
         if languages.is_empty() {
             return;
         }
         match &mut self.text {
-            FactsText::Json(object) => put_languages(languages, object),
-            FactsText::Lines(lines) => push_languages(languages, lines),
+            FactsText::Json(object) => put_languages(name, languages, object),
+            FactsText::Lines(lines) => push_languages(name, languages, lines),
         }
     }
 
@@ -171,8 +172,8 @@ fn push_texts(style: Style, name: &str, texts: &[String], lines: &mut Output) {
     lines.push_str("\n");
 }
 
-fn put_languages(languages: &[LanguageId], object: &mut JsonObject) {
-    object.open_list("languages");
+fn put_languages(name: &str, languages: &[LanguageId], object: &mut JsonObject) {
+    object.open_list(name);
     for language in languages {
         object.put_number_item(i64::from(language.id()));
     }
@@ -188,8 +189,8 @@ fn put_tags(languages: &[LanguageId], object: &mut JsonObject) {
     object.close_list();
 }
 
-fn push_languages(languages: &[LanguageId], lines: &mut Output) {
-    lines.push_str("languages");
+fn push_languages(name: &str, languages: &[LanguageId], lines: &mut Output) {
+    lines.push_str(name);
     let mut before = ": ";
     for language in languages {
         write!(lines, "{before}{}", language.id());

@@ -1,6 +1,6 @@
-//! Calls on the summary, and the value of a UUID. A property is named as its getter.
+//! Calls on the summary, and the value of a UUID. A property has the name that the programs use.
 
-use msi::{Error, FromUuid, HasUuid, SummaryInfo, Value};
+use msi::{Error, FromUuid, HasUuid, SummaryInfo, SummaryProperty, TimeProperty, Value};
 use std::alloc::AllocError;
 use transcripts_words::answers::Answer;
 use transcripts_words::failure::Failure;
@@ -14,19 +14,29 @@ pub(crate) fn print(
     summary: &SummaryInfo,
     words: &mut Words,
 ) -> Result<(), Failure> {
-    match words.word() {
-        "title" => print_text(answer, summary.title()),
-        "subject" => print_text(answer, summary.subject()),
-        "author" => print_text(answer, summary.author()),
-        "comments" => print_text(answer, summary.comments()),
-        "last_saved_by" => print_text(answer, summary.last_saved_by()),
-        "creating_application" => print_text(answer, summary.creating_application()),
-        "arch" => print_text(answer, summary.arch()),
-        "codepage" => write!(answer, "{}", summary.codepage().id()),
-        "uuid" => answer.push_option(summary.uuid()),
-        "languages" => print_languages(answer, summary)?,
-        "keywords" => print_keywords(answer, summary)?,
-        property => print_number(answer, summary, property, words),
+    match SummaryProperty::from_name(words.word()) {
+        Some(property) => print_property(answer, summary, property)?,
+        None => words.refuse(NO_PROPERTY),
+    }
+    Ok(())
+}
+
+fn print_property(
+    answer: &mut Answer,
+    summary: &SummaryInfo,
+    property: SummaryProperty,
+) -> Result<(), Error> {
+    match property {
+        SummaryProperty::Codepage => write!(answer, "{}", summary.codepage().id()),
+        SummaryProperty::Text(text) => print_text(answer, summary.text_property(text)),
+        SummaryProperty::Number(number) => answer.push_option(summary.number_property(number)),
+        SummaryProperty::Time(time) => {
+            answer.push_option(summary.time_property(time).map(|time| time.ticks()));
+        }
+        SummaryProperty::Keywords => print_keywords(answer, summary)?,
+        SummaryProperty::Arch => print_text(answer, summary.arch()),
+        SummaryProperty::Languages => print_languages(answer, summary)?,
+        SummaryProperty::Uuid => answer.push_option(summary.uuid()),
     }
     Ok(())
 }
@@ -35,19 +45,6 @@ fn print_text(answer: &mut Answer, text: Option<&str>) {
     match text {
         Some(text) => write!(answer, "{text:?}"),
         None => answer.push_str("none"),
-    }
-}
-
-fn print_number(answer: &mut Answer, summary: &SummaryInfo, property: &str, words: &mut Words) {
-    match property {
-        "page_count" => answer.push_option(summary.page_count()),
-        "word_count" => answer.push_option(summary.word_count()),
-        "character_count" => answer.push_option(summary.character_count()),
-        "doc_security" => answer.push_option(summary.doc_security()),
-        "last_printed" => answer.push_option(summary.last_printed().map(|time| time.ticks())),
-        "creation_time" => answer.push_option(summary.creation_time().map(|time| time.ticks())),
-        "last_saved_time" => answer.push_option(summary.last_saved_time().map(|time| time.ticks())),
-        _ => words.refuse(NO_PROPERTY),
     }
 }
 
@@ -81,38 +78,59 @@ fn print_languages(answer: &mut Answer, summary: &SummaryInfo) -> Result<(), Err
 }
 
 pub(crate) fn set(summary: &mut SummaryInfo, words: &mut Words) -> Result<(), Error> {
-    match words.word() {
-        "title" => summary.set_title(words.name()),
-        "subject" => summary.set_subject(words.name()),
-        "author" => summary.set_author(words.name()),
-        "comments" => summary.set_comments(words.name()),
-        "last_saved_by" => summary.set_last_saved_by(words.name()),
-        "creating_application" => summary.set_creating_application(words.name()),
-        "arch" => summary.set_arch(words.name()),
-        "codepage" => summary.set_codepage(codepage(words)),
-        "uuid" => summary.set_uuid(uuid(words)),
-        "languages" => summary.set_languages(languages(words)?.as_slice()),
-        "keywords" => summary.set_keywords(names(words)?.as_slice()),
-        property => set_number(summary, property, words),
+    let name = words.word();
+    if let Some(property) = SummaryProperty::from_name(name) {
+        return set_property(summary, property, words);
     }
-}
-
-fn set_number(summary: &mut SummaryInfo, property: &str, words: &mut Words) -> Result<(), Error> {
-    match property {
-        "page_count" => summary.set_page_count(words.number()),
-        "word_count" => summary.set_word_count(words.number()),
-        "character_count" => summary.set_character_count(words.number()),
-        "doc_security" => summary.set_doc_security(words.number()),
-        "last_printed" => summary.set_last_printed(ticks(words)),
-        "creation_time" => summary.set_creation_time(ticks(words)),
-        "last_saved_time" => summary.set_last_save_time(ticks(words)),
-        "last_printed_to_now" => summary.set_last_printed_to_now(ticks(words)),
-        "creation_time_to_now" => summary.set_creation_time_to_now(ticks(words)),
-        "last_saved_time_to_now" => summary.set_last_save_time_to_now(ticks(words)),
-        _ => {
+    match time_to_now(name) {
+        Some(property) => set_to_now(summary, property, words),
+        None => {
             words.refuse(NO_PROPERTY);
             Ok(())
         }
+    }
+}
+
+fn set_property(
+    summary: &mut SummaryInfo,
+    property: SummaryProperty,
+    words: &mut Words,
+) -> Result<(), Error> {
+    match property {
+        SummaryProperty::Codepage => summary.set_codepage(codepage(words)),
+        SummaryProperty::Text(text) => summary.set_text_property(text, words.name()),
+        SummaryProperty::Number(number) => summary.set_number_property(number, words.number()),
+        SummaryProperty::Time(time) => summary.set_time_property(time, ticks(words)),
+        SummaryProperty::Keywords => summary.set_keywords(names(words)?.as_slice()),
+        SummaryProperty::Arch => summary.set_arch(words.name()),
+        SummaryProperty::Languages => summary.set_languages(languages(words)?.as_slice()),
+        SummaryProperty::Uuid => summary.set_uuid(uuid(words)),
+    }
+}
+
+/// Returns the time of a word such as `creation_time_to_now`.
+fn time_to_now(word: &str) -> Option<TimeProperty> {
+    match SummaryProperty::from_name(word.strip_suffix("_to_now")?)? {
+        SummaryProperty::Time(time) => Some(time),
+        SummaryProperty::Codepage
+        | SummaryProperty::Text(_)
+        | SummaryProperty::Number(_)
+        | SummaryProperty::Keywords
+        | SummaryProperty::Arch
+        | SummaryProperty::Languages
+        | SummaryProperty::Uuid => None,
+    }
+}
+
+fn set_to_now(
+    summary: &mut SummaryInfo,
+    property: TimeProperty,
+    words: &mut Words,
+) -> Result<(), Error> {
+    match property {
+        TimeProperty::LastPrinted => summary.set_last_printed_to_now(ticks(words)),
+        TimeProperty::CreationTime => summary.set_creation_time_to_now(ticks(words)),
+        TimeProperty::LastSavedTime => summary.set_last_save_time_to_now(ticks(words)),
     }
 }
 
@@ -135,25 +153,11 @@ fn names(words: &mut Words) -> Result<Vec<String>, AllocError> {
 }
 
 pub(crate) fn clear(summary: &mut SummaryInfo, words: &mut Words) -> Result<(), Error> {
-    match words.word() {
-        "title" => summary.clear_title(),
-        "subject" => summary.clear_subject(),
-        "author" => summary.clear_author(),
-        "comments" => summary.clear_comments(),
-        "last_saved_by" => summary.clear_last_saved_by(),
-        "creating_application" => summary.clear_creating_application(),
-        "uuid" => summary.clear_uuid(),
-        "page_count" => summary.clear_page_count(),
-        "word_count" => summary.clear_word_count(),
-        "character_count" => summary.clear_character_count(),
-        "doc_security" => summary.clear_doc_security(),
-        "last_printed" => summary.clear_last_printed(),
-        "creation_time" => summary.clear_creation_time(),
-        "last_saved_time" => summary.clear_last_save_time(),
-        "arch" => return summary.clear_arch(),
-        "languages" => return summary.clear_languages(),
-        "keywords" => return summary.clear_keywords(),
-        _ => words.refuse(NO_PROPERTY),
+    match SummaryProperty::from_name(words.word()) {
+        Some(SummaryProperty::Codepage) | None => {
+            words.refuse(NO_PROPERTY);
+            Ok(())
+        }
+        Some(property) => summary.clear_property(property),
     }
-    Ok(())
 }

@@ -5,12 +5,12 @@ ghost use Rattle.std.specs.Prelude.{◌≡◌, OnOk, OnErr};
 ghost use Rattle.std.specs.Option.{option_copied};
 ghost use Rattle.msi_base.specs.Results.{OnlyMemory};
 ghost use Rattle.msi_summary_properties.specs.Properties.{without_value};
-ghost use Rattle.msi_summary.specs.Summary.{text_with_id, uuid_id, with_text, without_braces};
+ghost use Rattle.msi_summary.specs.Property.{uuid_id};
+ghost use Rattle.msi_summary.specs.Summary.{text_with_id, with_text, without_braces};
 
+use crate::property::UUID;
 use crate::summary::SummaryInfo;
 use msi_base::errors::Error;
-
-const UUID: u32 = 9;
 
 /// Returns a text without the braces at its ends.
 pub fn without_braces(text: &str) -> &str

@@ -7,11 +7,10 @@ ghost use Rattle.std.specs.Str.{trim_end};
 ghost use Rattle.msi_base.specs.Results.{OnlyMemory};
 ghost use Rattle.msi_summary.specs.Summary.{keyword_pieces, keywords_in, keywords_of, with_keywords};
 
+use crate::property::KEYWORDS;
 use crate::summary::SummaryInfo;
 use msi_base::errors::Error;
 use std::alloc::Global;
-
-const KEYWORDS: u32 = 5;
 
 /// Cuts a text at each `; ` and trims white space at the right ends of the pieces.
 fn trimmed_pieces(alloc: Global, text: &str) -> Result<Vec<String>, Error>

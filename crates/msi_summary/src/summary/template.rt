@@ -9,14 +9,13 @@ ghost use Rattle.msi_base.specs.Results.{OnlyMemory};
 ghost use Rattle.msi_summary.specs.Summary.{arch_of, is_comma, is_semicolon, languages_of, nonempty, template_of};
 ghost use Rattle.msi_summary.specs.Summary.{with_arch, with_languages, with_template};
 
+use crate::property::TEMPLATE;
 use crate::summary::SummaryInfo;
 use msi_base::errors::Error;
 use msi_base::text::IntoText;
 use msi_categories::language::LanguageId;
 use msi_categories::parts::language_list;
 use std::alloc::Global;
-
-const TEMPLATE: u32 = 7;
 
 /// Returns the part before the first `;` of a template, or all of it.
 fn arch_part(template: &str) -> &str

@@ -1,7 +1,7 @@
 use Rattle.std.proofs.Common.{Ok, Bool, ap, map, refl}
 use Rattle.msi.specs.Calls.{Answer}
 use Rattle.msi.specs.Calls as calls
-use Rattle.msi_replay.specs.Sent.{change_sent, look_up_sent, question_sent, reader_call_sent, summary_call_sent, writer_call_sent}
+use Rattle.msi_replay.specs.Sent.{change_sent, look_up_sent, reader_call_sent, summary_call_sent, writer_call_sent}
 use Rattle.msi_replay.specs.Told.{answer_told}
 use Rattle.msi_replay.proofs.RunLemmas.{IsQuiet, call_fits, quiet_step, quiet_tells}
 use Rattle.msi_replay.proofs.SentLemmas.{change_fits, change_quiet, look_up_fits, look_up_quiet}
@@ -49,11 +49,11 @@ returns-in-Recount c =
 
 pub returns-in-SummaryInfo : goal.returns-in-SummaryInfo
 returns-in-SummaryInfo c =
-    let quiet : IsQuiet (calls.summary_info (map question_sent c.in-SummaryInfo.questions)) = record { unflushed = refl; alone = refl } in
+    let quiet : IsQuiet (calls.summary_info c.in-SummaryInfo.questions) = record { unflushed = refl; alone = refl } in
     rw c.in-SummaryInfo.is (record {
-      step = quiet_step answer_told c.args.target.now c.args.target.now (calls.summary_info (map question_sent c.in-SummaryInfo.questions)) quiet c.requires c.ask_summary.result c.ask_summary.ensures.ok;
-      fits = call_fits (calls.summary_info (map question_sent c.in-SummaryInfo.questions)) tt c.ask_summary.result;
-      tells = quiet_tells answer_told c.args.target.now c.args.target.now (calls.summary_info (map question_sent c.in-SummaryInfo.questions)) quiet c.requires c.ask_summary.result c.ask_summary.ensures.ok;
+      step = quiet_step answer_told c.args.target.now c.args.target.now (calls.summary_info c.in-SummaryInfo.questions) quiet c.requires c.ask_summary.result c.ask_summary.ensures.ok;
+      fits = call_fits (calls.summary_info c.in-SummaryInfo.questions) tt c.ask_summary.result;
+      tells = quiet_tells answer_told c.args.target.now c.args.target.now (calls.summary_info c.in-SummaryInfo.questions) quiet c.requires c.ask_summary.result c.ask_summary.ensures.ok;
       kind = c.ask_summary.ensures.kind;
     })
 

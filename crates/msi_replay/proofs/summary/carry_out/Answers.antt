@@ -1,4 +1,3 @@
-use Rattle.msi_replay.specs.Sent.{clearing_sent}
 use Rattle.msi_replay.proofs.SummaryLemmas.{clear_gives, set_gives}
 use Rattle.msi_replay.proofs.summary.carry_out.Goals as goal
 
@@ -9,5 +8,5 @@ returns-in-Set-clause-ok c =
 
 pub returns-in-Clear-clause-ok : goal.returns-in-Clear-clause-ok
 returns-in-Clear-clause-ok c =
-    rw c.in-Clear.is (clear_gives c.args.summary.now c.clear.new.summary (clearing_sent c.in-Clear.clearing) c.clear.result
-    c.clear.ensures.ok c.clear.ensures.kind c.clear.ensures.err c.done-in-Clear.result c.done-in-Clear.ensures)
+    rw c.in-Clear.is (clear_gives c.args.summary.now c.clear_property.new.summary c.in-Clear.property c.clear_property.result
+    c.clear_property.ensures.ok c.clear_property.ensures.kind c.clear_property.ensures.err c.done-in-Clear.result c.done-in-Clear.ensures)
