@@ -1,5 +1,5 @@
 -- The laws of changes, of a database that is sound and well formed.
---     `takes` and `gives` are what `taken_places_hold_their_text` and `given_back_takes_one` of msi_text_pool ensure
+--     `takes` and `gives` are what `taken_places_hold_their_text` and `given_back_takes_one` of msi_pool ensure
 use Rattle.std.proofs.Common.{◌≡◌, ℕ, List, Bool, true, false, not, T, ◌&&◌, ◌++◌, filter, Some, Ok, IsPermutation, refl, sym, ◌∙◌, subst}
 use Rattle.std.specs.FinMap.{is_sorted}
 use Rattle.std.specs.List.{list_all}

@@ -265,7 +265,8 @@ fn write_each(printer: &Printer<'_>, mut rows: Rows<'_>, output: &mut Output) {
     }
 }
 
-/// Writes the next row, with its values on lines, behind an empty line unless it is the first of all, or separated by tabs.
+/// Writes the next row, with its values on lines, behind an empty line unless it is the first of all, or separated by
+/// tabs.
 fn write_row(printer: &Printer<'_>, number: usize, rows: &Rows<'_>, output: &mut Output) {
     let has_lines = matches!(printer.printing.format, RowFormat::Lines);
     let between = if has_lines { "\n" } else { "\t" };

@@ -6,7 +6,8 @@ ghost use Rattle.msi_base.specs.Results.{OnlyMemory};
 ghost use Rattle.msi_summary_properties.specs.Properties.{without_value};
 ghost use Rattle.msi_summary.specs.Property.{time_id};
 ghost use Rattle.msi_summary.specs.Summary.{time_with_id, with_time};
-ghost use Rattle.msi_summary.specs.declared.property.TimeProperty.TheVariants.{LastPrinted, CreationTime, LastSavedTime};
+ghost use Rattle.msi_summary.specs.declared.property.TimeProperty.TheVariants.{LastPrinted, CreationTime};
+ghost use Rattle.msi_summary.specs.declared.property.TimeProperty.TheVariants.{LastSavedTime};
 
 use crate::property::TimeProperty;
 use crate::summary::SummaryInfo;
