@@ -18,6 +18,9 @@ ghost use Rattle.msi_database_schema.specs.System.{is_schema_table};
 use crate::orders::{count_about, find_by_number, find_by_texts};
 use crate::reasons;
 use crate::rows::{SchemaRow, is_null_at, number_at, shared_text_at, shared_values_at, text_at};
+use crate::system::{
+    CATEGORY, COLUMN_NAME, COLUMN_TYPE, KEY_COLUMN, KEY_TABLE, MAX_VALUE, MIN_VALUE, NULLABLE, SET,
+};
 use msi_base::errors::{Error, ErrorKind};
 use msi_base::shared_text::SharedText;
 use msi_base::text::Items;
@@ -31,7 +34,7 @@ fn with_nullable(builder: ColumnBuilder, row: &SchemaRow) -> ColumnBuilder
     ensures { result ≡ (if bytes_eq (text_in 2 row.now) (codes "Y") then record builder { is_nullable = true }
         else builder) }
 {
-    if text_at(row, 2) == "Y" {
+    if text_at(row, NULLABLE) == "Y" {
         builder.nullable()
     } else {
         builder
@@ -42,10 +45,10 @@ fn with_range(builder: ColumnBuilder, row: &SchemaRow) -> ColumnBuilder
     ensures { result ≡ option_map_or (λ range. record builder { value_range = Some range })
         (both_set number_of number_of (value_at 3 row.now) (value_at 4 row.now)) builder }
 {
-    if is_null_at(row, 3) || is_null_at(row, 4) {
+    if is_null_at(row, MIN_VALUE) || is_null_at(row, MAX_VALUE) {
         builder
     } else {
-        builder.range(number_at(row, 3), number_at(row, 4))
+        builder.range(number_at(row, MIN_VALUE), number_at(row, MAX_VALUE))
     }
 }
 
@@ -58,17 +61,20 @@ fn with_foreign_key(
         (both_set text_of number_of (value_at 5 row.now) (value_at 6 row.now)) builder) }
     ensures kind { OnlyMemory result }
 {
-    if is_null_at(row, 5) || is_null_at(row, 6) {
+    if is_null_at(row, KEY_TABLE) || is_null_at(row, KEY_COLUMN) {
         return Ok(builder);
     }
-    builder.foreign_key(shared_text_at(alloc, row, 5)?, number_at(row, 6))
+    builder.foreign_key(
+        shared_text_at(alloc, row, KEY_TABLE)?,
+        number_at(row, KEY_COLUMN),
+    )
 }
 
 fn with_category(builder: ColumnBuilder, row: &SchemaRow) -> ColumnBuilder
     ensures { result ≡ option_map_or (λ category. record builder { category = Some category })
         (category_named (text_in 7 row.now)) builder }
 {
-    match text_at(row, 7).parse::<Category>() {
+    match text_at(row, CATEGORY).parse::<Category>() {
         Ok(category) => builder.category(category),
         Err(_) => builder,
     }
@@ -78,7 +84,7 @@ fn with_values(builder: ColumnBuilder, row: &SchemaRow) -> Result<ColumnBuilder,
     ensures ok { IfOk result (λ listing. listing ≡ record builder { enum_values = values_in (value_at 8 row.now) }) }
     ensures kind { OnlyMemory result }
 {
-    Ok(with_shared_values(builder, shared_values_at(row, 8)?))
+    Ok(with_shared_values(builder, shared_values_at(row, SET)?))
 }
 
 fn described_column(
@@ -100,7 +106,7 @@ fn bits_in(row: &SchemaRow) -> u16
     requires { is_of_16_bits (number_of (value_at 3 row.now)) ≡ true }
     ensures { result ≡ bits_of_row row.now }
 {
-    (number_at(row, 3) as i16).cast_unsigned()
+    (number_at(row, COLUMN_TYPE) as i16).cast_unsigned()
 }
 
 /// The rows of `_Validation` have to be in the order of their tables and columns.
@@ -141,7 +147,7 @@ fn column_of_row(
     ensures { let s = describing [] validation.now in Gives
         (λ column. column) result (column_described s table.now row.now) }
 {
-    let name = shared_text_at(alloc, row, 2)?;
+    let name = shared_text_at(alloc, row, COLUMN_NAME)?;
     let builder = begun_column_of(alloc, validation, table, name)?;
     column_of_bits(builder, bits_in(row))
 }

@@ -18,7 +18,7 @@ ghost use Rattle.msi_database_schema.specs.System.{is_schema_table as is_of_sche
 use crate::names::is_pool_name;
 use crate::orders::{find_by_texts, has_repeat, sort_by_texts};
 use crate::rows::{SchemaRow, holds_null, is_null_at, is_text_at, number_at, text_at};
-use crate::system::is_schema_table;
+use crate::system::{COLUMN_NAME, COLUMN_NUMBER, COLUMN_TYPE, NULLABLE, is_schema_table};
 use msi_base::errors::Error;
 
 fn is_of_16_bits(number: i32) -> bool
@@ -32,7 +32,7 @@ fn is_long(row: &SchemaRow) -> bool
     ensures { result ≡ not (fits_16_bits (number_of (value_at 1 row.now))
         && fits_16_bits (number_of (value_at 3 row.now))) }
 {
-    !(is_of_16_bits(number_at(row, 1)) && is_of_16_bits(number_at(row, 3)))
+    !(is_of_16_bits(number_at(row, COLUMN_NUMBER)) && is_of_16_bits(number_at(row, COLUMN_TYPE)))
 }
 
 fn has_long_number(rows: &[SchemaRow]) -> bool
@@ -113,7 +113,8 @@ fn describes_column(columns: &[SchemaRow], row: &SchemaRow) -> bool
     requires { IsSorted (by_texts 2) columns.now }
     ensures { result ≡ is_described (listing [] columns.now) row.now }
 {
-    is_counted(row) && find_by_texts(columns, 2, text_at(row, 0), text_at(row, 1)).is_some()
+    is_counted(row)
+        && find_by_texts(columns, COLUMN_NAME, text_at(row, 0), text_at(row, 1)).is_some()
 }
 
 /// Returns whether a row of `_Validation` lacks a value that it needs; the rows of `_Columns` have to be in the order
@@ -124,7 +125,7 @@ fn lacks_value(columns: &[SchemaRow], row: &SchemaRow) -> bool
 {
     is_null_at(row, 0)
         || is_null_at(row, 1)
-        || (describes_column(columns, row) && is_null_at(row, 2))
+        || (describes_column(columns, row) && is_null_at(row, NULLABLE))
 }
 
 fn has_lack(columns: &[SchemaRow], validation: &[SchemaRow]) -> bool
@@ -189,7 +190,7 @@ pub(crate) fn is_faulty(
     let mut tables = tables;
     let mut columns = columns;
     sort_by_texts(&mut tables, 0)?;
-    sort_by_texts(&mut columns, 2)?;
+    sort_by_texts(&mut columns, COLUMN_NAME)?;
     if has_fault_in_row(tables.as_slice(), columns.as_slice(), validation.as_slice()) {
         return Ok(true);
     }

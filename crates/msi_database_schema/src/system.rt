@@ -27,6 +27,28 @@ pub const COLUMNS: &str = "_Columns";
 /// The table that describes columns further.
 pub const VALIDATION: &str = "_Validation";
 
+/// The places of the columns of `_Columns`, behind that of the table's name.
+pub(crate) const COLUMN_NUMBER: usize = 1;
+
+pub(crate) const COLUMN_NAME: usize = 2;
+
+pub(crate) const COLUMN_TYPE: usize = 3;
+
+/// The places of the columns of `_Validation`, behind those of the table's and the column's name.
+pub(crate) const NULLABLE: usize = 2;
+
+pub(crate) const MIN_VALUE: usize = 3;
+
+pub(crate) const MAX_VALUE: usize = 4;
+
+pub(crate) const KEY_TABLE: usize = 5;
+
+pub(crate) const KEY_COLUMN: usize = 6;
+
+pub(crate) const CATEGORY: usize = 7;
+
+pub(crate) const SET: usize = 8;
+
 /// The greatest number of a column of 32-bit numbers.
 const GREATEST: i32 = 2147483647;
 
