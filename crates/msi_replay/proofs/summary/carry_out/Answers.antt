@@ -8,5 +8,5 @@ returns-in-Set-clause-ok c =
 
 pub returns-in-Clear-clause-ok : goal.returns-in-Clear-clause-ok
 returns-in-Clear-clause-ok c =
-    rw c.in-Clear.is (clear_gives c.args.summary.now c.clear_property.new.summary c.in-Clear.property c.clear_property.result
+    rw c.in-Clear.is (clear_gives c.args.summary.now c.clear_property.new.self c.in-Clear.property c.clear_property.result
     c.clear_property.ensures.ok c.clear_property.ensures.kind c.clear_property.ensures.err c.done-in-Clear.result c.done-in-Clear.ensures)
