@@ -4,7 +4,7 @@ use crate::asked::Asked;
 use crate::command::Task;
 use crate::commands::{report, with_input};
 use msipkg_changes::mend_counts;
-use msipkg_checks::check_file;
+use msipkg_checks::{Checked, check_file};
 use msipkg_export::{export, export_line};
 use msipkg_format::{Failure, Output, System, failure_json};
 use msipkg_packages::Purpose;
@@ -68,7 +68,7 @@ fn look_or_report(
 ) -> u8 {
     write_head(asked, task, file, output);
     match look(rt, asked, task, file, names, output, errors) {
-        Ok(is_well) => u8::from(!is_well),
+        Ok(status) => status,
         Err(failure) => {
             if !output.has_failed() {
                 report_one(rt.alloc(), asked, task, file, &failure, output, errors);
@@ -86,7 +86,7 @@ fn write_head(asked: &Asked<'_, '_>, task: Task<'_, '_>, file: &str, output: &mu
     }
 }
 
-/// Looks at a package, and returns whether nothing was found to be wrong.
+/// Looks at a package, and returns the exit status for what was found.
 fn look(
     rt: &System,
     asked: &Asked<'_, '_>,
@@ -95,23 +95,32 @@ fn look(
     names: &mut LastNames,
     output: &mut Output,
     errors: &mut Output,
-) -> Result<bool, Failure> {
+) -> Result<u8, Failure> {
     let file = asked.package(path, Purpose::Look);
-    match task {
-        Task::Show(look) => show(rt, asked.style, &file, look, output, errors),
-        Task::Query(query) => print_query(rt, &file, query, names, output, errors),
+    let is_well = match task {
+        Task::Show(look) => show(rt, asked.style, &file, look, output, errors)?,
+        Task::Query(query) => print_query(rt, &file, query, names, output, errors)?,
         Task::Check { options, mending } => {
             if let Some(manner) = mending {
                 // Checking the package afterwards notes where its texts are still recoded.
                 let purpose = asked.purpose_of_change(Purpose::RecodeSilently);
                 mend_counts(rt, &asked.package(path, purpose), manner, errors)?;
             }
-            check_file(rt, options, &file, output, errors)
+            return Ok(checked_status(check_file(rt, options, &file, output, errors)?));
         }
-        Task::Export { tables, target } => export(rt, &file, tables, &target, output, errors),
+        Task::Export { tables, target } => export(rt, &file, tables, &target, output, errors)?,
         Task::ExportLine { is_lossy } => {
-            export_line(rt, asked.style, &file, is_lossy, output, errors)
+            export_line(rt, asked.style, &file, is_lossy, output, errors)?
         }
+    };
+    Ok(u8::from(!is_well))
+}
+
+fn checked_status(checked: Checked) -> u8 {
+    match checked {
+        Checked::Sound => 0,
+        Checked::Faulty => 1,
+        Checked::Incomplete => 2,
     }
 }
 

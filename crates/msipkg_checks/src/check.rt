@@ -24,8 +24,19 @@ pub struct CheckOptions {
     pub is_strict: bool,
 }
 
-/// Prints each finding in the package of a file on a line as it is found, or all of them as JSON on one line. Returns
-/// whether there is no error among them. A summary that can't be read is one, and `notes` gets a line that says why.
+/// What a check found.
+#[derive(Clone, Copy, Debug)]
+pub enum Checked {
+    /// No error.
+    Sound,
+    /// Errors, which are printed.
+    Faulty,
+    /// What came before it failed; the JSON says why.
+    Incomplete,
+}
+
+/// Prints each finding in the package of a file on a line as it is found, or all of them as JSON on one line. A summary
+/// that can't be read is an error, and `notes` gets a line that says why.
 ///
 /// # Errors
 /// Fails as `open_to_look` does, and if memory is refused for the check. Where that comes in the midst of JSON, the
@@ -36,7 +47,7 @@ pub fn check_file(
     file: &PackageFile<'_>,
     output: &mut Output,
     notes: &mut Output,
-) -> Result<bool, Failure> {
+) -> Result<Checked, Failure> {
     let stored = TableNames::stored(rt, file.path)?;
     let mut looked = open_to_look(rt, file, notes)?;
     print_check(rt.alloc(), options, file.path, &stored, &mut looked, output)
@@ -49,7 +60,7 @@ fn print_check(
     stored: &TableNames,
     looked: &mut Looked,
     output: &mut Output,
-) -> Result<bool, Failure> {
+) -> Result<Checked, Failure> {
     let mut report = Report::new(alloc, options, file, output);
     report.begin();
     if !looked.has_summary {
@@ -58,8 +69,9 @@ fn print_check(
     let found = find_errors(alloc, stored, &mut looked.package, &mut report);
     report.end(found.as_ref().err());
     match found {
-        Ok(()) => Ok(report.is_well()),
-        Err(_) if options.is_json => Ok(false),
+        Ok(()) if report.is_well() => Ok(Checked::Sound),
+        Ok(()) => Ok(Checked::Faulty),
+        Err(_) if options.is_json => Ok(Checked::Incomplete),
         Err(failure) => Err(failure),
     }
 }

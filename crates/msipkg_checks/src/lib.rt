@@ -14,4 +14,4 @@ mod unlisted;
 mod validation;
 mod values;
 
-pub use check::{CheckOptions, check_file};
+pub use check::{CheckOptions, Checked, check_file};
