@@ -22,4 +22,3 @@ pub mod Summary
 pub mod Table
 pub mod Query
 pub mod Database
-pub mod Streams

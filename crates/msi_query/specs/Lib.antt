@@ -13,8 +13,8 @@ pub use Rattle.msi_table_values.specs.declared.value.Value
 pub use Rattle.msi_table_cells.specs.CellValues
 pub use Rattle.msi_query_expressions.specs.declared.joins.JoinKind
 pub use Rattle.msi_query_expressions.specs.Joins
-pub use Rattle.msi_query_expressions.specs.UnaryOp
-pub use Rattle.msi_query_expressions.specs.BinaryOp
+pub use Rattle.msi_query_expressions.specs.declared.operators.UnaryOp
+pub use Rattle.msi_query_expressions.specs.declared.operators.BinaryOp
 pub use Rattle.msi_query_expressions.specs.OperatorValues
 pub use Rattle.msi_query_expressions.specs.OperatorTexts
 pub use Rattle.msi_query_expressions.specs.Expressions

@@ -16,5 +16,3 @@ pub mod Printing
 pub mod Vocabulary
 pub mod Utf8Expressions
 pub mod Assignments
-pub use Rattle.msi_query_expressions.specs.declared.operators.UnaryOp
-pub use Rattle.msi_query_expressions.specs.declared.operators.BinaryOp
