@@ -21,8 +21,8 @@ pub mod streams;
 pub mod summary_texts;
 pub mod tables;
 pub mod unlisted;
+pub mod unread_summary;
 pub mod validation;
-pub mod without_summary;
 
 pub use claim::Claim;
 pub use file_bytes::{
@@ -47,5 +47,5 @@ pub use streams::fill_stream;
 pub use summary_texts::{property_text, set_property_text, uuid_text};
 pub use tables::{cell_text, check_reserved, chosen_tables, is_list, rows_of, table_named};
 pub use unlisted::TableNames;
+pub use unread_summary::{note_summary, without_summary};
 pub use validation::{Added, Before, VALIDATION, add_validation, copied_rows};
-pub use without_summary::{note_summary, without_summary};
