@@ -37,6 +37,9 @@ pub(crate) enum Command<'a, 'b> {
 /// What is done with each package that a command looks at.
 #[derive(Clone, Copy)]
 pub(crate) enum Task<'a, 'b> {
+    Info {
+        is_json: bool,
+    },
     Show(Look<'a, 'b>),
     Query(Query<'a>),
     Check {
@@ -58,7 +61,7 @@ impl<'a, 'b> Command<'a, 'b> {
     pub(crate) fn of(asked: &Asked<'a, 'b>) -> Command<'a, 'b> {
         let is_json = asked.has("json");
         match asked.verb {
-            Verb::Info => look(asked, Task::Show(Look::Info { is_json })),
+            Verb::Info => look(asked, Task::Info { is_json }),
             Verb::Tables => look(asked, Task::Show(Look::Tables { is_json })),
             Verb::Schema => look(asked, Task::Show(schema_of(asked))),
             Verb::Query => query_of(asked),
@@ -95,7 +98,11 @@ impl<'a, 'b> Task<'a, 'b> {
     pub(crate) fn failure_status(self) -> u8 {
         match self {
             Task::Check { .. } => 2,
-            Task::Show(_) | Task::Query(_) | Task::Export { .. } | Task::ExportLine { .. } => 1,
+            Task::Info { .. }
+            | Task::Show(_)
+            | Task::Query(_)
+            | Task::Export { .. }
+            | Task::ExportLine { .. } => 1,
         }
     }
 }

@@ -8,7 +8,7 @@ use msipkg_checks::{Checked, check_file};
 use msipkg_export::{export, export_line};
 use msipkg_format::{Failure, Output, System, failure_json};
 use msipkg_packages::Purpose;
-use msipkg_show::{LastNames, Look, check_query, print_query, show};
+use msipkg_show::{LastNames, Look, check_query, print_query, show, show_info};
 use std::alloc::Global;
 
 /// Looks at each file, and returns the greatest of their exit statuses. As JSON each file has one line, with its error
@@ -23,7 +23,11 @@ pub(crate) fn look_at_each(
 ) -> Result<u8, Failure> {
     match task {
         Task::Query(query) => check_query(rt.alloc(), query.text)?,
-        Task::Show(_) | Task::Check { .. } | Task::Export { .. } | Task::ExportLine { .. } => {}
+        Task::Info { .. }
+        | Task::Show(_)
+        | Task::Check { .. }
+        | Task::Export { .. }
+        | Task::ExportLine { .. } => {}
     }
     let status = look_at_files(rt, asked, files, task, output, errors)?;
     match task {
@@ -32,7 +36,11 @@ pub(crate) fn look_at_each(
             let others = asked.texts("TABLE");
             Ok(status.max(look_at_files(rt, asked, others, task, output, errors)?))
         }
-        Task::Show(_) | Task::Query(_) | Task::Check { .. } | Task::Export { .. } => Ok(status),
+        Task::Info { .. }
+        | Task::Show(_)
+        | Task::Query(_)
+        | Task::Check { .. }
+        | Task::Export { .. } => Ok(status),
     }
 }
 
@@ -81,7 +89,7 @@ fn look_or_report(
 /// Writes the path of a file above what `info` prints of it, if there are several files.
 fn write_head(asked: &Asked<'_, '_>, task: Task<'_, '_>, file: &str, output: &mut Output) {
     let is_alone = asked.texts("FILE").len() < 2;
-    if !is_alone && matches!(task, Task::Show(Look::Info { is_json: false })) {
+    if !is_alone && matches!(task, Task::Info { is_json: false }) {
         writeln!(output, "file: {}", asked.style.show(file));
     }
 }
@@ -98,6 +106,7 @@ fn look(
 ) -> Result<u8, Failure> {
     let file = asked.package(path, Purpose::Look);
     let is_well = match task {
+        Task::Info { is_json } => show_info(rt, asked.style, &file, is_json, output, errors)?,
         Task::Show(look) => show(rt, asked.style, &file, look, output, errors)?,
         Task::Query(query) => print_query(rt, &file, query, names, output, errors)?,
         Task::Check { options, mending } => {
@@ -134,7 +143,7 @@ fn report_one(
     errors: &mut Output,
 ) {
     let is_json = match task {
-        Task::Show(Look::Info { is_json }) => is_json,
+        Task::Info { is_json } => is_json,
         Task::Check { options, .. } => options.is_json,
         Task::ExportLine { .. } => true,
         Task::Show(

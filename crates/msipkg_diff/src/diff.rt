@@ -7,7 +7,9 @@ use crate::tables::compare_tables;
 use msipkg_format::Style;
 use msipkg_packages::msi::{CodePage, Package};
 use msipkg_packages::output::{Failure, Opened, Output, System};
-use msipkg_packages::{PackageFile, StoredStreams, file_page, open_package, stored_streams};
+use msipkg_packages::{
+    PackageFile, StoredStreams, check_kind, file_page, open_package, stored_streams,
+};
 use std::alloc::Global;
 
 /// A package that is compared.
@@ -54,9 +56,9 @@ pub fn compare_files(
     output: &mut Output,
     notes: &mut Output,
 ) -> Result<bool, Failure> {
-    let package = open_package(rt, old, notes)?;
+    let (package, page) = open_with_page(rt, old, notes)?;
     let stored = stored_streams(rt, old.path, &package)?;
-    let page = stored_page(rt, old.path, &package)?;
+    let page = stored_page(page, &package);
     let old = Compared::new(old.path, &package, stored.as_ref(), page);
     compare_with(rt, style, &old, new, is_json, output, notes)
 }
@@ -70,31 +72,44 @@ fn compare_with(
     output: &mut Output,
     notes: &mut Output,
 ) -> Result<bool, Failure> {
-    let package = open_new_file(rt, new, notes)?;
+    let (package, page) = open_new_file(rt, new, notes)?;
     let stored = stored_streams(rt, new.path, &package)?;
-    let page = stored_page(rt, new.path, &package)?;
+    let page = stored_page(page, &package);
     let new = Compared::new(new.path, &package, stored.as_ref(), page);
     print_differences(rt.alloc(), style, old, &new, is_json, output)
 }
 
 /// Returns the page that a file names for the database of its package, where another may be read as UTF-8.
-fn stored_page(rt: &System, file: &str, package: &Package<Opened>) -> Result<i32, Failure> {
-    let page = package.database_codepage().id();
-    match package.database_codepage() {
-        CodePage::Utf8 => Ok(file_page(rt, file)?.unwrap_or(page)),
-        _ => Ok(page),
+fn stored_page(named: Option<i32>, package: &Package<Opened>) -> i32 {
+    let page = package.database_codepage();
+    if matches!(page, CodePage::Utf8) {
+        named.unwrap_or(page.id())
+    } else {
+        page.id()
     }
 }
 
+/// Returns the package of the new file, and the page that the file names.
 fn open_new_file(
     rt: &System,
     file: &PackageFile<'_>,
     notes: &mut Output,
-) -> Result<Package<Opened>, Failure> {
-    match open_package(rt, file, notes) {
-        Ok(package) => Ok(package),
+) -> Result<(Package<Opened>, Option<i32>), Failure> {
+    match open_with_page(rt, file, notes) {
+        Ok(opened) => Ok(opened),
         Err(failure) => Err(failure.at(rt.alloc(), "file", file.path)),
     }
+}
+
+fn open_with_page(
+    rt: &System,
+    file: &PackageFile<'_>,
+    notes: &mut Output,
+) -> Result<(Package<Opened>, Option<i32>), Failure> {
+    check_kind(rt, file.path)?;
+    // Read before the package is opened, so that the file's bytes are in memory once.
+    let page = file_page(rt, file.path)?;
+    Ok((open_package(rt, file, notes)?, page))
 }
 
 fn print_differences(

@@ -7,33 +7,33 @@ use crate::tables::count_rows;
 use msipkg_format::Style;
 use msipkg_packages::msi::{CodePage, Error, Package};
 use msipkg_packages::output::{Failure, Opened, Output, System};
-use msipkg_packages::{Looked, StoredStreams, file_page, kind_name, stored_streams, stream_bytes};
+use msipkg_packages::{
+    Looked, PackageFile, StoredStreams, check_kind, file_page, kind_name, open_to_look,
+    stored_streams, stream_bytes,
+};
 use std::alloc::Global;
 
-/// Prints what a file's package is, as lines or as JSON on one line, and returns whether all tables can be read. Fails
-/// if a stream can't be found in the file.
-pub(crate) fn print_info(
+/// Prints what a file's package is, as lines or as JSON on one line, and returns whether all of it can be read.
+///
+/// # Errors
+/// Fails as `open_to_look` does, and if a stream can't be found in the file.
+pub fn show_info(
     rt: &System,
     style: Style,
-    file: &str,
-    looked: &mut Looked,
+    file: &PackageFile<'_>,
     is_json: bool,
     output: &mut Output,
+    notes: &mut Output,
 ) -> Result<bool, Failure> {
-    let stored = stored_streams(rt, file, &looked.package)?;
-    let page = stored_page(rt, file, &looked.package)?;
-    let mut facts = Facts::new(rt.alloc(), style, file, is_json);
+    check_kind(rt, file.path)?;
+    // The file is read for its page first, so that its bytes are in memory once.
+    let page = file_page(rt, file.path)?;
+    let mut looked = open_to_look(rt, file, notes)?;
+    let stored = stored_streams(rt, file.path, &looked.package)?;
+    let mut facts = Facts::new(rt.alloc(), style, file.path, is_json);
     add_head(&looked.package, page, &mut facts);
-    write_facts(rt.alloc(), looked, stored.as_ref(), facts, output)
-}
-
-/// Returns the number of the page that a file names for its package's database, where another may be read as UTF-8.
-fn stored_page(rt: &System, file: &str, package: &Package<Opened>) -> Result<Option<i32>, Failure> {
-    if matches!(package.database_codepage(), CodePage::Utf8) {
-        file_page(rt, file)
-    } else {
-        Ok(None)
-    }
+    let is_read = write_facts(rt.alloc(), &mut looked, stored.as_ref(), facts, output)?;
+    Ok(is_read && looked.has_summary)
 }
 
 fn write_facts(
@@ -69,11 +69,16 @@ fn add_parts(
     Ok(is_read)
 }
 
+fn is_utf8(package: &Package<Opened>) -> bool {
+    matches!(package.database_codepage(), CodePage::Utf8)
+}
+
+/// The page that the file names is noted where texts of another page are read as UTF-8.
 fn add_head(package: &Package<Opened>, stored_page: Option<i32>, facts: &mut Facts) {
     let page = package.database_codepage().id();
     facts.text("kind", Some(kind_name(package.package_type())));
     match stored_page {
-        Some(stored) if stored != page => {
+        Some(stored) if stored != page && is_utf8(package) => {
             facts.noted_number("database_codepage", i64::from(stored), "read as UTF-8");
         }
         Some(_) | None => facts.number("database_codepage", Some(i64::from(page))),

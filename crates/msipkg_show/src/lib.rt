@@ -5,7 +5,7 @@ mod aligned;
 mod columns;
 mod extract;
 mod facts;
-mod info;
+pub mod info;
 mod listing;
 pub mod look;
 mod nulls;
@@ -17,6 +17,7 @@ mod streams;
 mod summary;
 mod tables;
 
+pub use info::show_info;
 pub use look::{Look, show};
 pub use query::{Format, LastNames, Query, check_query, print_query};
 pub use schema::Form;

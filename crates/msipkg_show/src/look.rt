@@ -1,7 +1,6 @@
 //! The commands that look at a package: each is lent the one that is opened here.
 
 use crate::extract::{extract_streams, print_stream};
-use crate::info::print_info;
 use crate::schema::{Form, print_schema};
 use crate::streams::print_streams;
 use crate::summary::print_summary;
@@ -13,10 +12,6 @@ use msipkg_packages::{Folder, Looked, PackageFile, open_package, open_to_look};
 /// What is looked at in a package.
 #[derive(Clone, Copy)]
 pub enum Look<'a, 'b> {
-    /// What it is.
-    Info {
-        is_json: bool,
-    },
     /// Its tables.
     Tables {
         is_json: bool,
@@ -73,11 +68,8 @@ fn open_for(
             package: open_package(rt, file, notes)?,
             has_summary: true,
         }),
-        Look::Info { .. }
-        | Look::Tables { .. }
-        | Look::Schema { .. }
-        | Look::Streams { .. }
-        | Look::Extract { .. } => open_to_look(rt, file, notes),
+        Look::Tables { .. } | Look::Schema { .. } | Look::Streams { .. } | Look::Extract { .. } =>
+            open_to_look(rt, file, notes),
     }
 }
 
@@ -92,7 +84,6 @@ fn print_or_write(
     notes: &mut Output,
 ) -> Result<bool, Failure> {
     match look {
-        Look::Info { is_json } => print_info(rt, style, file, looked, is_json, output),
         Look::Streams { is_json } => {
             print_streams(rt, style, file, &looked.package, is_json, output, notes)
         }
