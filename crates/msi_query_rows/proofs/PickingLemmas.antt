@@ -13,7 +13,7 @@ use Rattle.msi_table_values.specs.declared.value.Value.{Value}
 use Rattle.msi_table_cells.specs.declared.cell.ValueRef.{ValueRef}
 use Rattle.msi_table_cells.specs.CellValues.{row_values}
 use Rattle.msi_table_values.specs.Columns.{ColumnDef}
-use Rattle.msi_table.specs.Rows.{AreAsWide, AreRowNumbers, RowsDef, TableRows, rows_numbered, rows_picked}
+use Rattle.msi_table.specs.Rows.{AreAsWide, AreRowNumbers, RowsDef, TableRows, rows_from, rows_numbered, rows_picked}
 use Rattle.msi_query_expressions.specs.Expressions.{Expression}
 use Rattle.msi_query_expressions.specs.Conditions.{meets}
 use Rattle.msi_query.specs.Queries.{Clauses}
@@ -116,7 +116,7 @@ picked_wide places c t columns at numbers wide is =
 
 -- and its values are selected
 pub picked_selects : (places : List Place) (c : Clauses) (t : TableRows) (columns : List ColumnDef) (at : Option (List (Option ℕ))) (numbers : Option (List ℕ)) (answer : Result RowsDef ErrorKind)
-    → IsPicked places c t columns at numbers → IfOk answer (λ rows. rows ≡ record { columns = columns; places = places; rows = rows_picked numbers at t.rows })
+    → IsPicked places c t columns at numbers → IfOk answer (λ rows. rows ≡ rows_from columns places (rows_picked numbers at t.rows))
     → (name : List ℕ) → IfOk answer (Selects (narrowed c (relation_values places (cells_of name t))))
 picked_selects places c t columns at numbers (Ok rows) is e name =
     rw (e, is.columns_are, is.places_are, is.known name) (refl, refl)

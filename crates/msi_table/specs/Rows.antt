@@ -51,11 +51,16 @@ abbrev pub AreRowNumbers : ℕ → Option (List ℕ) → Type 0
 AreRowNumbers count None = Unit {0}
 AreRowNumbers count (Some numbers) = AllByRecursion (λ n. n < count) numbers
 
--- rows that are still to be given, with the pool's places
+-- all rows, and those that are left, with the pool's places
 pub record RowsDef : Type 0 where
   pub columns : List ColumnDef
   pub places : List Place
+  pub all : List (List ValueRef)
   pub rows : List (List ValueRef)
+
+-- rows of which none was given yet
+abbrev pub rows_from : List ColumnDef → List Place → List (List ValueRef) → RowsDef
+rows_from columns places rows = record { columns = columns; places = places; all = rows; rows = rows }
 
 -- the value in a column of the row that is given next, where one is left
 abbrev pub value_next : ℕ → RowsDef → Option Value

@@ -9,7 +9,7 @@ ghost use Rattle.msi_table_cells.specs.CellValues.{row_values};
 ghost use Rattle.msi_table_values.specs.Columns.{types_of};
 ghost use Rattle.msi_table.specs.Cells.{table_bytes};
 ghost use Rattle.msi_table.specs.Tables.{CanStore, long_table_of, rows_spelled, stored_bytes, table_of};
-ghost use Rattle.msi_table.specs.Rows.{AreAsWide, AreRowNumbers, rows_picked, table_rows};
+ghost use Rattle.msi_table.specs.Rows.{AreAsWide, AreRowNumbers, rows_from, rows_picked, table_rows};
 ghost use Rattle.msi_table_cells.specs.StoredOrder.{in_stored_order};
 
 pub use crate::census::Census;
@@ -142,7 +142,7 @@ pub fn rows<'a>(
 ) -> Result<Rows<'a>, Error>
     requires { AreAsWide columns cells.items }
     ensures ok { IfOk result (λ rows.
-        rows ≡ record { columns = columns; places = pool.now.places; rows = cells.items }) }
+        rows ≡ rows_from columns pool.now.places cells.items) }
     ensures kind { OnlyMemory result }
 {
     Rows::of_cells(alloc, pool, columns, cells)
@@ -162,11 +162,8 @@ pub fn rows_of_picked<'a>(
 ) -> Result<Rows<'a>, Error>
     requires numbers { AreRowNumbers (length picked.stored.rows) picked.numbers }
     requires wide { AreAsWide columns (rows_picked picked.numbers picked.places picked.stored.rows) }
-    ensures ok { IfOk result (λ rows. rows ≡ record {
-      columns = columns;
-      places = pool.now.places;
-      rows = rows_picked picked.entry.numbers picked.entry.places picked.entry.stored.rows;
-    }) }
+    ensures ok { IfOk result (λ rows. rows ≡ rows_from columns pool.now.places
+        (rows_picked picked.entry.numbers picked.entry.places picked.entry.stored.rows)) }
     ensures kind { OnlyMemory result }
 {
     Rows::of_picked(alloc, pool, columns, picked)

@@ -4,7 +4,7 @@ ghost use Rattle.std.specs.Prelude.{◌≡◌, ◌<◌, IfOk, drop, length, opti
 ghost use Rattle.std.specs.Iterator.{at_most};
 ghost use Rattle.msi_base.specs.Results.{OnlyMemory};
 ghost use Rattle.msi_table.specs.Rows.{AreAsWide, AreRowNumbers, GivesRow, IsRowAt, cell_in_row, rows_picked};
-ghost use Rattle.msi_table.specs.Rows.{value_next};
+ghost use Rattle.msi_table.specs.Rows.{rows_from, value_next};
 ghost use Rattle.msi_table.specs.Sources.{HasRowNumbers, rows_of_source};
 ghost use Rattle.msi_table_cells.specs.CellValues.{row_values};
 ghost use Rattle.msi_table_values.specs.Views.{seen_value};
@@ -138,6 +138,7 @@ impl<'a> Model for Rows<'a> {
     ghost view = { λ r. record {
       columns = r.columns.value;
       places = r.pool.now.places;
+      all = rows_of_source r.source;
       rows = drop r.given (rows_of_source r.source);
     } };
 
@@ -153,7 +154,7 @@ impl<'a> Rows<'a> {
     ) -> Result<Rows<'a>, Error>
         requires { AreAsWide columns rows.items }
         ensures ok { IfOk result (λ given.
-            given ≡ record { columns = columns; places = pool.now.places; rows = rows.items }) }
+            given ≡ rows_from columns pool.now.places rows.items) }
         ensures kind { OnlyMemory result }
     {
         Rows::from_source(alloc, pool, columns, Source::Made(rows))
@@ -167,11 +168,8 @@ impl<'a> Rows<'a> {
     ) -> Result<Rows<'a>, Error>
         requires numbers { AreRowNumbers (length picked.stored.rows) picked.numbers }
         requires wide { AreAsWide columns (rows_picked picked.numbers picked.places picked.stored.rows) }
-        ensures ok { IfOk result (λ given. given ≡ record {
-          columns = columns;
-          places = pool.now.places;
-          rows = rows_picked picked.entry.numbers picked.entry.places picked.entry.stored.rows;
-        }) }
+        ensures ok { IfOk result (λ given. given ≡ rows_from columns pool.now.places
+            (rows_picked picked.entry.numbers picked.entry.places picked.entry.stored.rows)) }
         ensures kind { OnlyMemory result }
     {
         let PickedRows {
@@ -197,7 +195,7 @@ impl<'a> Rows<'a> {
         requires numbers { HasRowNumbers source }
         requires wide { AreAsWide columns (rows_of_source source) }
         ensures ok { IfOk result (λ given.
-            given ≡ record { columns = columns; places = pool.now.places; rows = rows_of_source source.entry }) }
+            given ≡ rows_from columns pool.now.places (rows_of_source source.entry)) }
         ensures kind { OnlyMemory result }
     {
         let columns = Rc::new(alloc, columns)?;
@@ -226,7 +224,7 @@ impl<'a> Rows<'a> {
 
     /// Returns the value of the next row in a column, counted from 0, without taking the row. Its text is borrowed
     /// from where it lies, so this takes no memory. There is none if no row is left, or no column has the number.
-    pub fn peek(&self, column: usize) -> Option<ValueView<'_>>
+    pub fn get(&self, column: usize) -> Option<ValueView<'_>>
         ensures { option_map seen_value result ≡ value_next column self.now }
     {
         if self.given < self.source.len()
@@ -237,13 +235,20 @@ impl<'a> Rows<'a> {
         None
     }
 
-    /// Passes over the next row, if one is left. It takes no memory.
-    pub fn pass(&mut self)
+    /// Goes on to the row after the next one, if one is left. It takes no memory.
+    pub fn advance(&mut self)
         ensures { self.new ≡ record self.old { rows = drop 1 self.old.rows } }
     {
         if self.given < self.source.len() {
             self.given += 1;
         }
+    }
+
+    /// Goes back to the first row, so that all rows are left. It takes no memory.
+    pub fn rewind(&mut self)
+        ensures { self.new ≡ record self.old { rows = self.old.all } }
+    {
+        self.given = 0;
     }
 }
 

@@ -144,10 +144,10 @@ fn look_at_names(rt: &HostRuntime, package: &Package<Memory>) -> Result<(), Erro
     let mut longest = 0;
     let mut rows = package.select_rows(Select::table(rt.alloc(), "Feature")?)?;
     for _ in 0..rows.len() {
-        if let Some(ValueView::Str(name)) = rows.peek(0) {
+        if let Some(ValueView::Str(name)) = rows.get(0) {
             longest = name.len().max(longest);
         }
-        rows.pass();
+        rows.advance();
     }
     println!(rt; "longest name: {longest} bytes")?;
     Ok(())

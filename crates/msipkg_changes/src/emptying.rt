@@ -87,12 +87,12 @@ fn count_of(
 fn count_empty(mut rows: Rows<'_>) -> usize {
     let mut count = 0usize;
     for _ in 0..rows.len() {
-        if let Some(ValueView::Str(text)) = rows.peek(0)
+        if let Some(ValueView::Str(text)) = rows.get(0)
             && text.is_empty()
         {
             count = count.saturating_add(1);
         }
-        rows.pass();
+        rows.advance();
     }
     count
 }

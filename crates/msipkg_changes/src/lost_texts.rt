@@ -45,7 +45,7 @@ fn lost_in_table(
             let cell = cell_text(alloc, table.name(), &rows, place)?;
             return Ok(Some(lacking(alloc, page, c)?.at(alloc, "table", cell.as_str())));
         }
-        rows.pass();
+        rows.advance();
     }
     Ok(None)
 }
@@ -54,7 +54,7 @@ fn lost_in_table(
 /// character.
 fn lost_in_row(page: CodePage, rows: &Rows<'_>) -> Option<(usize, char)> {
     for place in 0..rows.columns().len() {
-        if let Some(ValueView::Str(text)) = rows.peek(place)
+        if let Some(ValueView::Str(text)) = rows.get(place)
             && let Some(c) = lost_character(page, text)
         {
             return Some((place, c));

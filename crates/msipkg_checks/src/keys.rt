@@ -86,8 +86,8 @@ impl KeyColumns {
             return Ok(());
         };
         for _ in 0..rows.len() {
-            self.add_value(column, rows.peek(place).unwrap_or(ValueView::Null))?;
-            rows.pass();
+            self.add_value(column, rows.get(place).unwrap_or(ValueView::Null))?;
+            rows.advance();
         }
         Ok(())
     }

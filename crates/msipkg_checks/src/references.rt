@@ -124,7 +124,7 @@ fn check_rows(
     for number in 0..rows.len() {
         let number = number.saturating_add(1);
         check_row(alloc, table, number, &rows, references, keys, report)?;
-        rows.pass();
+        rows.advance();
     }
     Ok(())
 }
@@ -139,7 +139,7 @@ fn check_row(
     report: &mut Report<'_>,
 ) -> Result<(), AllocError> {
     for reference in references {
-        let value = rows.peek(reference.place).unwrap_or(ValueView::Null);
+        let value = rows.get(reference.place).unwrap_or(ValueView::Null);
         if !is_met(alloc, value, reference, keys)? {
             let row = row_name(alloc, rows, number)?;
             add_missing(table, row.as_str(), reference.place, value, report);

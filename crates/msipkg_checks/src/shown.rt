@@ -51,7 +51,7 @@ pub(crate) fn row_name(
 ) -> Result<String, AllocError> {
     let mut name = RowName::new(alloc);
     for (place, column) in rows.columns().iter().enumerate() {
-        name.push(column, rows.peek(place).unwrap_or(ValueView::Null))?;
+        name.push(column, rows.get(place).unwrap_or(ValueView::Null))?;
     }
     name.or_number(number)
 }

@@ -94,7 +94,7 @@ impl Named<'_> {
     ) -> Result<(), AllocError> {
         for number in 0..rows.len() {
             self.add_row(table, number.saturating_add(1), &rows, report)?;
-            rows.pass();
+            rows.advance();
         }
         Ok(())
     }
@@ -156,7 +156,7 @@ impl Named<'_> {
     ) -> Result<(), AllocError> {
         for number in 0..rows.len() {
             self.add_cabinet(number.saturating_add(1), &rows, report)?;
-            rows.pass();
+            rows.advance();
         }
         Ok(())
     }
@@ -168,7 +168,7 @@ impl Named<'_> {
         rows: &Rows<'_>,
         report: &mut Report<'_>,
     ) -> Result<(), AllocError> {
-        let Some(ValueView::Str(text)) = rows.peek(0) else {
+        let Some(ValueView::Str(text)) = rows.get(0) else {
             return Ok(());
         };
         let Some(name) = text.strip_prefix('#') else {

@@ -46,7 +46,7 @@ fn check_rows(
 ) -> Result<(), Failure> {
     for number in 0..rows.len() {
         check_row(alloc, table, number.saturating_add(1), &rows, report)?;
-        rows.pass();
+        rows.advance();
     }
     Ok(())
 }
@@ -59,7 +59,7 @@ fn check_row(
     report: &mut Report<'_>,
 ) -> Result<(), Error> {
     for (place, column) in rows.columns().iter().enumerate() {
-        let Some(value) = rows.peek(place) else {
+        let Some(value) = rows.get(place) else {
             continue;
         };
         let is_taken = is_taken(alloc, column, value)?;

@@ -63,7 +63,7 @@ pub(crate) fn numbered_rows(
     let mut all = Vec::with_capacity(alloc, rows.len())?;
     for number in 0..rows.len() {
         all.push(numbered_row(alloc, texts, &rows, number, nulls, others)?)?;
-        rows.pass();
+        rows.advance();
     }
     Ok(all)
 }

@@ -155,8 +155,8 @@ fn are_same(mut rows: Rows<'_>, mut others: Rows<'_>, nulls: &PairNulls) -> bool
         if !are_same_next(&rows, &others, number, nulls) {
             return false;
         }
-        rows.pass();
-        others.pass();
+        rows.advance();
+        others.advance();
     }
     true
 }

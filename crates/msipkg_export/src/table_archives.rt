@@ -90,7 +90,7 @@ impl<'a> TableArchive<'a> {
         for _ in 0..rows.len() {
             self.text.write_lines(style, output)?;
             self.add_row(&rows)?;
-            rows.pass();
+            rows.advance();
         }
         Ok(self.text.write_lines(style, output)?)
     }
@@ -118,7 +118,7 @@ impl<'a> TableArchive<'a> {
     }
 
     fn value_of(&mut self, rows: &Rows<'_>, place: usize) -> Result<Value, Failure> {
-        match rows.peek(place).unwrap_or(ValueView::Null) {
+        match rows.get(place).unwrap_or(ValueView::Null) {
             ValueView::Null => Ok(Value::Null),
             ValueView::Int(number) => Ok(Value::Int(number)),
             ValueView::Str(text) => Ok(text_value(self.alloc, text)?),
@@ -170,7 +170,7 @@ fn page_of_rows(page: CodePage, mut rows: Rows<'_>) -> ArchivePage {
             return pages;
         }
         add_texts(&rows, &mut pages);
-        rows.pass();
+        rows.advance();
     }
     pages
 }
@@ -178,7 +178,7 @@ fn page_of_rows(page: CodePage, mut rows: Rows<'_>) -> ArchivePage {
 fn add_texts(rows: &Rows<'_>, pages: &mut ArchivePage) {
     for (place, column) in rows.columns().iter().enumerate() {
         if has_texts(column)
-            && let Some(ValueView::Str(text)) = rows.peek(place)
+            && let Some(ValueView::Str(text)) = rows.get(place)
         {
             pages.add(text);
         }

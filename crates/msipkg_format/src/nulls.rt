@@ -83,6 +83,6 @@ impl NullCells {
         if self.has(row, place) {
             return ValueView::Null;
         }
-        rows.peek(place).unwrap_or(ValueView::Null)
+        rows.get(place).unwrap_or(ValueView::Null)
     }
 }

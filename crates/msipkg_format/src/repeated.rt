@@ -92,7 +92,7 @@ pub(crate) fn write_named(
         output.push_str(before);
         before = ",\n";
         object_of(alloc, members, &rows, number, nulls).print(style, output);
-        rows.pass();
+        rows.advance();
     }
 }
 

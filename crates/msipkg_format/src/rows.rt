@@ -261,7 +261,7 @@ fn write_objects(
 fn write_each(printer: &Printer<'_>, mut rows: Rows<'_>, output: &mut Output) {
     for number in 0..rows.len() {
         write_row(printer, number, &rows, output);
-        rows.pass();
+        rows.advance();
     }
 }
 

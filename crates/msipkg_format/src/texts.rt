@@ -53,7 +53,7 @@ pub fn stream_name(
 ) -> Result<Option<String>, AllocError> {
     let mut name = String::from_str(alloc, table)?;
     for (place, column) in rows.columns().iter().enumerate() {
-        if column.is_primary_key() && !push_part(rows.peek(place), &mut name)? {
+        if column.is_primary_key() && !push_part(rows.get(place), &mut name)? {
             return Ok(None);
         }
     }
@@ -73,7 +73,7 @@ pub fn stream_name_by(
 ) -> Result<Option<String>, AllocError> {
     let mut name = String::from_str(alloc, table)?;
     for place in keys {
-        if !push_part(rows.peek(*place), &mut name)? {
+        if !push_part(rows.get(*place), &mut name)? {
             return Ok(None);
         }
     }

@@ -87,7 +87,7 @@ pub fn null_cells_in(
     let mut nulls = NullCells::new(alloc);
     for number in 0..rows.len() {
         add_nulls(alloc, package, columns, &rows, number, &mut nulls)?;
-        rows.pass();
+        rows.advance();
     }
     Ok(nulls)
 }

@@ -101,7 +101,7 @@ pub fn cell_text(
                 text.push('/')?;
             }
             is_first = false;
-            push_key(rows.peek(place).unwrap_or(ValueView::Null), &mut text)?;
+            push_key(rows.get(place).unwrap_or(ValueView::Null), &mut text)?;
         }
     }
     text.push_str(", column ")?;

@@ -16,7 +16,7 @@ pub(crate) fn widths_of(
     widen_by_names(style, rows.columns(), &mut widths);
     for number in 0..rows.len() {
         widen_by_row(style, &rows, number, nulls, &mut widths);
-        rows.pass();
+        rows.advance();
     }
     Ok(widths)
 }
@@ -57,7 +57,7 @@ pub(crate) fn write_aligned(
     widths.write_dashes(output);
     for number in 0..rows.len() {
         write_row(style, widths, &rows, number, nulls, output);
-        rows.pass();
+        rows.advance();
     }
 }
 

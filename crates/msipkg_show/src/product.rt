@@ -48,7 +48,7 @@ fn add_property(
     facts: &mut Facts,
 ) {
     if let Ok(rows) = selected(alloc, package, query)
-        && let Some(ValueView::Str(text)) = rows.peek(0)
+        && let Some(ValueView::Str(text)) = rows.get(0)
     {
         facts.text(name, Some(text));
     }

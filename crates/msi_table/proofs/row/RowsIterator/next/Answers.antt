@@ -9,5 +9,5 @@ pub returns-in-Ok-clause-steps : goal.returns-in-Ok-clause-steps
 returns-in-Ok-clause-steps c =
     let s = c.self.inside in
     let at = c.in-Ok.ensures.ok in
-    let view : List (List ValueRef) → RowsDef = λ rows. record { columns = s.columns.value; places = s.pool.now.places; rows = rows } in
+    let view : List (List ValueRef) → RowsDef = λ rows. record { columns = s.columns.value; places = s.pool.now.places; all = rows_of_source s.source; rows = rows } in
     (at.0, sym c.self.view_is ∙ ap view (drop_given (rows_of_source s.source) s.given at.0 at.1), rw (← c.self.view_is) at.2)
