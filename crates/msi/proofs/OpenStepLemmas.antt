@@ -6,7 +6,7 @@ use Rattle.std.specs.List.{AllByRecursion}
 use Rattle.std.specs.FinMap.{entries, get, get-entries}
 use Rattle.msi_base.specs.declared.errors.ErrorKind.{ErrorKind}
 use Rattle.msi_base.specs.declared.errors.ErrorKind.TheVariants.{InvalidData, NotFound, OutOfMemory}
-use Rattle.msi_pool_places.specs.Pool.{IndexedPool, Pool, PoolStream, Entry, IsPool, IsPoolStream, SpellsPool, SpellsTexts, newly_indexed, pool_with, unindexed}
+use Rattle.msi_pool_places.specs.Pool.{Pool, PoolStream, Entry, IsPool, IsPoolStream, SpellsPool, SpellsTexts, pool_with}
 use Rattle.msi_pool_places.specs.Pool as pools
 use Rattle.msi_base.specs.Results.{FailsAs, Gives, IsUnlessMemory}
 use Rattle.msi_base.proofs.OptionLemmas.{is_some_by, none_not, some_of}
@@ -182,12 +182,12 @@ module _ (c : Contents) where
   no_pool_texts raw none held = absurd (raw_texts pool_bytes text_bytes raw none held)
 
   -- a pool has the texts that are read
-  pub pool_only : (texts : List ℕ) (stream : PoolStream) (r : Result IndexedPool ErrorKind) (raw : Pool) → IsAllThatIsSaid stream → text_bytes ≡ Some texts
-      → ((places : List pools.Place) → SpellsTexts stream.page texts stream.entries places → IsUnlessMemory r (newly_indexed (pool_with stream places)))
-      → RawPoolIs (entries c.streams) raw → IsUnlessMemory r (newly_indexed raw)
+  pub pool_only : (texts : List ℕ) (stream : PoolStream) (r : Result Pool ErrorKind) (raw : Pool) → IsAllThatIsSaid stream → text_bytes ≡ Some texts
+      → ((places : List pools.Place) → SpellsTexts stream.page texts stream.entries places → IsUnlessMemory r (pool_with stream places))
+      → RawPoolIs (entries c.streams) raw → IsUnlessMemory r raw
   pool_only texts stream r raw all e only held =
       let parts = raw_parts pool_bytes text_bytes raw texts e held in
-      subst (λ (s : PoolStream). SpellsTexts s.page texts s.entries raw.places → IsUnlessMemory r (newly_indexed (pool_with s raw.places))) (all (record { page = raw.page; long = raw.long; entries = parts.0 }) parts.1) (only raw.places) parts.2
+      subst (λ (s : PoolStream). SpellsTexts s.page texts s.entries raw.places → IsUnlessMemory r (pool_with s raw.places)) (all (record { page = raw.page; long = raw.long; entries = parts.0 }) parts.1) (only raw.places) parts.2
 
   passes_first : (stream : PoolStream) → IsSomeAnd pool_bytes (λ bytes. IsPoolStream bytes stream) → AllByRecursion (Passes c) (step.has_pool ∷ step.reads_pool ∷ [])
   passes_first stream form = (some_of (λ bytes. IsPoolStream bytes stream) pool_bytes form, ((stream.page, stream.long, stream.entries, form), tt))
@@ -208,17 +208,17 @@ module _ (c : Contents) where
       (stops_at c kind step.reads_texts kinds (λ is (raw, held).
       not_memory kind is (pool_only texts stream (Err kind) raw all e only held))))
 
-  pub texts_stop : (r : Result IndexedPool ErrorKind) (texts : List ℕ) (stream : PoolStream) → IsSomeAnd pool_bytes (λ bytes. IsPoolStream bytes stream) → IsAllThatIsSaid stream → text_bytes ≡ Some texts
-      → ((places : List pools.Place) → SpellsTexts stream.page texts stream.entries places → IsUnlessMemory r (newly_indexed (pool_with stream places))) → IfErr r (λ kind. (kind ≡ InvalidData) ⊎ (kind ≡ OutOfMemory))
+  pub texts_stop : (r : Result Pool ErrorKind) (texts : List ℕ) (stream : PoolStream) → IsSomeAnd pool_bytes (λ bytes. IsPoolStream bytes stream) → IsAllThatIsSaid stream → text_bytes ≡ Some texts
+      → ((places : List pools.Place) → SpellsTexts stream.page texts stream.entries places → IsUnlessMemory r (pool_with stream places)) → IfErr r (λ kind. (kind ≡ InvalidData) ⊎ (kind ≡ OutOfMemory))
       → IfErr r (StopsAmong c (step.has_pool ∷ step.reads_pool ∷ step.has_texts ∷ step.reads_texts ∷ []))
   texts_stop (Ok pool) texts stream form all e only kinds = tt
   texts_stop (Err kind) texts stream form all e only kinds = textless_stops kind texts stream form all e only kinds
 
   -- the pool that is read is that of both streams
-  pub pool_found : (r : Result IndexedPool ErrorKind) (texts : List ℕ) (stream : PoolStream) → IsSomeAnd pool_bytes (λ bytes. IsPoolStream bytes stream) → text_bytes ≡ Some texts
-      → IfOk r (λ pool. (pool ≡ newly_indexed (pool_with stream pool.places)) × SpellsTexts stream.page texts stream.entries pool.places)
-      → IfOk r (λ pool. RawPoolIs (entries c.streams) (unindexed pool))
-  pool_found (Ok pool) texts stream form e h = both_found pool_bytes text_bytes texts stream (unindexed pool) form e (ap unindexed h.0, h.1)
+  pub pool_found : (r : Result Pool ErrorKind) (texts : List ℕ) (stream : PoolStream) → IsSomeAnd pool_bytes (λ bytes. IsPoolStream bytes stream) → text_bytes ≡ Some texts
+      → IfOk r (λ pool. (pool ≡ pool_with stream pool.places) × SpellsTexts stream.page texts stream.entries pool.places)
+      → IfOk r (λ pool. RawPoolIs (entries c.streams) pool)
+  pool_found (Ok pool) texts stream form e h = both_found pool_bytes text_bytes texts stream pool form e (h.0, h.1)
   pool_found (Err kind) texts stream form e h = tt
 
   passes_pool : (raw : Pool) → RawPoolIs (entries c.streams) raw → AllByRecursion (Passes c) (step.has_pool ∷ step.reads_pool ∷ step.has_texts ∷ step.reads_texts ∷ [])

@@ -3,7 +3,7 @@
 ghost use Rattle.std.specs.Prelude.{◌≡◌, ◌⊎◌, ◌∷◌, [], Err, IfErr, IfOk, None, Ok, Some, false};
 ghost use Rattle.std.specs.FinMap.{entries};
 ghost use Rattle.msi_base.specs.declared.errors.ErrorKind.TheVariants.{InvalidData, Io, NotFound, OutOfMemory};
-ghost use Rattle.msi_pool_places.specs.Pool.{Pool, PoolStream, newly_indexed, unindexed};
+ghost use Rattle.msi_pool_places.specs.Pool.{Pool, PoolStream};
 ghost use Rattle.msi_base.specs.Results.{IsUnlessMemory};
 ghost use Rattle.msi_container_device.specs.Faults.{is_io};
 ghost use Rattle.msi_container_device.specs.Held.{bytes_told};
@@ -94,9 +94,9 @@ fn pool_stream_in(alloc: Global, contents: &Contents) -> Result<StringPoolBuilde
 /// Checks in this order: `NotFound` without the first stream, `InvalidData` for its form, `NotFound` without the stream
 /// of texts, `InvalidData` for its texts.
 fn pool_in(alloc: Global, contents: &Contents) -> Result<StringPool, Error>
-    ensures found { IfOk result (λ pool. RawPoolIs (entries contents.now.streams) (unindexed pool)) }
+    ensures found { IfOk result (λ pool. RawPoolIs (entries contents.now.streams) pool) }
     ensures only { (raw : Pool) → RawPoolIs (entries contents.now.streams) raw
-        → IsUnlessMemory result (newly_indexed raw) }
+        → IsUnlessMemory result raw }
     ensures kind { IfErr result
         (StopsAmong contents.now (has_pool ∷ reads_pool ∷ has_texts ∷ reads_texts ∷ [])) }
 {

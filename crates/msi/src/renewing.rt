@@ -5,7 +5,6 @@ ghost use Rattle.std.specs.FinMap.{entries};
 ghost use Rattle.std.specs.Vec.Iter.{into_iter_items};
 ghost use Rattle.msi_base.specs.Results.{OnlyMemory};
 ghost use Rattle.msi_base.specs.declared.errors.ErrorKind.TheVariants.{InvalidInput};
-ghost use Rattle.msi_pool_places.specs.Pool.{unindexed};
 ghost use Rattle.msi_pool.specs.PoolWriting.{is_refused as is_pool_refused};
 ghost use Rattle.msi_summary_properties.specs.PropertyWriting.{is_refused as is_summary_refused};
 ghost use Rattle.msi_container_write.specs.Borrowed.{contents_of};
@@ -52,10 +51,10 @@ fn renewed_summary(
 /// carry a text.
 fn add_pool(pool: &StringPool, renewed: &mut Vec<(Name, Bytes)>) -> Result<(), Error>
     ensures ok { OnOk result ((streams : Streams)
-        → pool_put (unindexed pool.now) (with_renewed renewed.old.items streams)
+        → pool_put pool.now (with_renewed renewed.old.items streams)
         ≡ Some (with_renewed renewed.new.items streams)) }
     ensures names { OnOk result (keys_in renewed.new.items ≡ keys_in renewed.old.items ++ pool_keys) }
-    ensures kind { IfErr result (IsUnwritten (is_pool_refused (unindexed pool.now))) }
+    ensures kind { IfErr result (IsUnwritten (is_pool_refused pool.now)) }
 {
     let texts = Bytes::from_vec(data_stream_of(pool)?);
     let entries = Bytes::from_vec(pool_stream_of(pool)?);
@@ -78,12 +77,12 @@ pub fn renewed_streams(
     is_pool_changed: bool,
 ) -> Result<Vec<(Name, Bytes)>, Error>
     ensures ok { IfOk result (λ renewed. (streams : Streams)
-        → renewed_over is_summary_lent summary.now is_pool_changed (unindexed pool.now) streams
+        → renewed_over is_summary_lent summary.now is_pool_changed pool.now streams
         ≡ Some (with_renewed renewed.items streams)) }
     ensures names { IfOk result (λ renewed. keys_in renewed.items ≡ renewed_keys is_summary_lent is_pool_changed) }
-    ensures kind { let written = renewed_over is_summary_lent summary.now is_pool_changed (unindexed pool.now) in
+    ensures kind { let written = renewed_over is_summary_lent summary.now is_pool_changed pool.now in
         IfErr result (λ kind. (streams : Streams) → IsRefusal (or_refused InvalidInput (written streams)) kind) }
-    ensures early { let refusals = text_refusals is_summary_lent summary.now is_pool_changed (unindexed pool.now) in
+    ensures early { let refusals = text_refusals is_summary_lent summary.now is_pool_changed pool.now in
         AnswersFirst refusals result }
 {
     // Before the summary's bytes take memory, which may be refused.

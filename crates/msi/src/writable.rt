@@ -27,7 +27,7 @@ impl<F: Source> Package<F> {
 
 fn all_read_back(pool: &StringPool, summary: &SummaryInfo) -> bool
     ensures exact { IsTrue result
-        ↔ (pools.AreWritable (pools.unindexed pool.now) × properties.AreWritable summary.now) }
+        ↔ (pools.AreWritable pool.now × properties.AreWritable summary.now) }
     ensures texts { pools.HaveUtf8Texts pool.now.places × properties.HaveUtf8Texts summary.now.values }
     ensures utf8 { (pool.now.page ≡ Utf8) × (page_of summary.now ≡ Utf8) → IsTrue result }
 {

@@ -3,7 +3,6 @@
 ghost use Rattle.std.specs.Prelude.{◌≡◌, ◌∷◌, [], false, IfErr, IfOk, MatchOption, None, OnErr, OnOk, Some, length};
 ghost use Rattle.std.specs.Prelude.{option_copied, true};
 ghost use Rattle.msi_base.specs.Results.{OnlyMemory};
-ghost use Rattle.msi_pool_places.specs.Pool.{unindexed};
 ghost use Rattle.msi_base.specs.Refusals.{IsRefusal, first_refusal, unless_refused};
 ghost use Rattle.msi_database_changes.specs.Changes.{absent_refusals, barred_refusals};
 ghost use Rattle.msi_database_changes.specs.Database.{is_sound as is_sound_one, table_at};
@@ -115,7 +114,7 @@ impl Database {
         requires long { pool.pool.long ≡ table.now.long }
         requires storable { FitsTable (settled pool.pool).long (types_of table.now.columns) rows.items }
         ensures ok { IfOk result (λ new. IsAnew self.now table.now rows.items pool
-            new.wide new.stored (unindexed new.pool) new.is_pool_used) }
+            new.wide new.stored new.pool new.is_pool_used) }
         ensures kind { OnlyMemory result }
     {
         if pool.is_widened() {
@@ -141,9 +140,9 @@ impl Database {
     fn store_rows(&mut self, stored: Stored, pool: StringPool) -> Result<(), Error>
         requires sound { is_sound_one self.old.database ≡ true }
         requires kept { let streams = stored_in (stored ∷ []) self.old.streams in
-            AreKept (unindexed pool) (tables_listed self.old.database) streams true }
+            AreKept pool (tables_listed self.old.database) streams true }
         ensures ok { let streams = stored_in (stored ∷ []) self.old.streams in
-            OnOk result (self.new ≡ kept_of (unindexed pool) (tables_listed self.old.database) streams) }
+            OnOk result (self.new ≡ kept_of pool (tables_listed self.old.database) streams) }
         ensures same { OnErr result (self.new ≡ self.old) }
         ensures kind { OnlyMemory result }
     {
@@ -160,10 +159,10 @@ impl Database {
         requires sound { is_sound_one (base_with new.wide self.old).database ≡ true }
         requires kept { let base = base_with new.wide self.old in
             let streams = stored_in (new.stored ∷ []) base.streams in
-            AreKept (unindexed new.pool) (tables_listed base.database) streams true }
+            AreKept new.pool (tables_listed base.database) streams true }
         ensures ok { let base = base_with new.wide self.old in
             let streams = stored_in (new.stored ∷ []) base.streams in
-            OnOk result (self.new ≡ kept_of (unindexed new.pool) (tables_listed base.database) streams) }
+            OnOk result (self.new ≡ kept_of new.pool (tables_listed base.database) streams) }
         ensures used { IfOk result (λ used. used ≡ new.is_pool_used) }
         ensures same { OnErr result (self.new ≡ self.old) }
         ensures kind { OnlyMemory result }
@@ -193,9 +192,9 @@ impl Database {
     ) -> Result<(), Error>
         requires names { HaveOwnNames stored.items }
         requires sound { is_sound_one self.old.database ≡ true }
-        requires kept { AreKept (unindexed pool) tables (stored_in stored.items self.old.streams) true }
+        requires kept { AreKept pool tables (stored_in stored.items self.old.streams) true }
         ensures ok { OnOk result (self.new
-            ≡ kept_of (unindexed pool) tables (stored_in stored.items self.old.streams)) }
+            ≡ kept_of pool tables (stored_in stored.items self.old.streams)) }
         ensures same { OnErr result (self.new ≡ self.old) }
         ensures kind { OnlyMemory result }
     {
@@ -211,9 +210,9 @@ impl Database {
         requires names { HaveOwnNames new.stored.items }
         requires sound { is_sound_one (base_with new.wide self.old).database ≡ true }
         requires kept { let streams = stored_in new.stored.items (base_with new.wide self.old).streams in
-            AreKept (unindexed new.pool) new.tables streams true }
+            AreKept new.pool new.tables streams true }
         ensures ok { let streams = stored_in new.stored.items (base_with new.wide self.old).streams in
-            OnOk result (self.new ≡ kept_of (unindexed new.pool) new.tables streams) }
+            OnOk result (self.new ≡ kept_of new.pool new.tables streams) }
         ensures same { OnErr result (self.new ≡ self.old) }
         ensures kind { OnlyMemory result }
     {

@@ -1,7 +1,6 @@
 //! Creating a table: it is described in the system tables, and put in among the others.
 
 ghost use Rattle.std.specs.Prelude.{◌≡◌, ◌≤◌, IfErr, IfOk, IsTrue, Ok, OnErr, OnOk, length, true};
-ghost use Rattle.msi_pool_places.specs.Pool.{unindexed};
 ghost use Rattle.msi_base.specs.Results.{OnlyMemory};
 ghost use Rattle.msi_table_values.specs.Columns.{most_columns};
 ghost use Rattle.msi_base.specs.Refusals.{AnswersFirst, IsRefusal, unless_refused};
@@ -52,7 +51,7 @@ fn creation(
     ensures wide { result.new.wide ≡ wide }
     ensures stored { result.new.stored.items ≡ stored.items }
     ensures tables { result.new.tables ≡ tables }
-    ensures pool { unindexed result.new.pool ≡ settled pool.pool }
+    ensures pool { result.new.pool ≡ settled pool.pool }
     ensures uses { result.is_pool_used ≡ pool.is_used }
 {
     let is_pool_used = pool.is_used();
@@ -201,7 +200,7 @@ impl Database {
         requires few { length columns ≤ most_columns }
         requires held { CanHoldAll (base_with (wide_for pool self.now) self.now).database rows }
         ensures ok { IfOk result (λ made. IsCreated self.now name.now columns rows pool made.new.wide
-            made.new.stored.items made.new.tables (unindexed made.new.pool) made.is_pool_used) }
+            made.new.stored.items made.new.tables made.new.pool made.is_pool_used) }
         ensures kind { OnlyMemory result }
     {
         if pool.is_widened() {
@@ -218,7 +217,7 @@ impl Database {
     fn table_created(&self, name: &str, columns: Items<Column>) -> Result<Created, Error>
         ensures ok { let change = creates.create_table self.now.database name.now columns in
             IfOk result (λ made. Makes self.now change (base_with made.new.wide self.now)
-            (unindexed made.new.pool) made.new.tables made.new.stored.items) }
+            made.new.pool made.new.tables made.new.stored.items) }
         ensures used { let change = creates.create_table self.now.database name.now columns in
             IfOk result (λ made. TellsUse change made.is_pool_used) }
         ensures names { IfOk result (λ made. HaveOwnNames made.new.stored.items) }

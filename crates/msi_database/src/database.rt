@@ -2,7 +2,6 @@
 
 ghost use Rattle.std.specs.Prelude.{◌≡◌, Err, IfErr, IfOk, Ok, OnErr, OnOk, option_copied};
 ghost use Rattle.std.specs.FinMap.{entries};
-ghost use Rattle.msi_pool_places.specs.Pool.{unindexed};
 ghost use Rattle.msi_base.specs.Refusals.{AnswersWith, IsRefusal, unless_refused};
 ghost use Rattle.msi_query.specs.Rows.{cells_of, columns_read, whole_table};
 ghost use Rattle.msi_query.specs.Selection.{early_refusal, relation_of};
@@ -54,19 +53,18 @@ impl Model for Database {
     ghost use Rattle.std.specs.FinMap.{entries};
     ghost use Rattle.msi_database_storage.specs.Kept.{Kept, kept_of};
     ghost use Rattle.msi_database.specs.Keeping.{AreKept};
-    ghost use Rattle.msi_pool_places.specs.Pool.{unindexed};
 
     ghost Value = { Kept };
 
-    ghost view = { λ d. kept_of (unindexed d.pool) d.tables (entries d.streams) };
+    ghost view = { λ d. kept_of d.pool d.tables (entries d.streams) };
 
-    ghost invariant = { λ d. AreKept (unindexed d.pool) d.tables (entries d.streams) d.is_sound };
+    ghost invariant = { λ d. AreKept d.pool d.tables (entries d.streams) d.is_sound };
 }
 
 impl Database {
     /// Returns the pool of texts.
     pub fn pool(&self) -> &StringPool
-        ensures { unindexed result.now ≡ self.now.database.pool }
+        ensures { result.now ≡ self.now.database.pool }
     {
         &self.pool
     }

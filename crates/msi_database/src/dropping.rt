@@ -2,7 +2,6 @@
 
 ghost use Rattle.std.specs.Prelude.{◌≡◌, ◌++◌, IfErr, IfOk, None, OnErr, OnOk, Some, false, true};
 ghost use Rattle.msi_base.specs.Results.{OnlyMemory};
-ghost use Rattle.msi_pool_places.specs.Pool.{unindexed};
 ghost use Rattle.msi_base.specs.Refusals.{AnswersFirst, IsRefusal, first_refusal, unless_refused};
 ghost use Rattle.msi_database_schema.specs.Keys.{is_table_name as is_of_table};
 ghost use Rattle.msi_database_schema.specs.System.{is_system_table as is_of_system};
@@ -123,7 +122,7 @@ impl Database {
         requires named { is_of_table name.now ≡ true }
         requires known { IsKnown self.now.database name.now table.now }
         ensures ok { let change = drops.drop_table self.now.database name.now in IfOk result (λ dropped.
-            Makes self.now change (base_with dropped.made.wide self.now) (unindexed dropped.made.pool)
+            Makes self.now change (base_with dropped.made.wide self.now) dropped.made.pool
             dropped.made.tables dropped.made.stored.items) }
         ensures used { IfOk result (λ dropped.
             TellsUse (drops.drop_table self.now.database name.now) dropped.is_pool_used) }
@@ -154,7 +153,7 @@ impl Database {
 
     fn table_dropped(&self, name: &str) -> Result<Dropped, Error>
         ensures ok { let change = drops.drop_table self.now.database name.now in IfOk result (λ dropped.
-            Makes self.now change (base_with dropped.made.wide self.now) (unindexed dropped.made.pool)
+            Makes self.now change (base_with dropped.made.wide self.now) dropped.made.pool
             dropped.made.tables dropped.made.stored.items) }
         ensures used { IfOk result (λ dropped.
             TellsUse (drops.drop_table self.now.database name.now) dropped.is_pool_used) }

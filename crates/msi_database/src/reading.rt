@@ -3,7 +3,6 @@
 ghost use Rattle.std.specs.Prelude.{◌≡◌, IfErr, IfOk};
 ghost use Rattle.std.specs.FinMap.{entries};
 ghost use Rattle.msi_base.specs.declared.errors.ErrorKind.TheVariants.{InvalidData};
-ghost use Rattle.msi_pool_places.specs.Pool.{unindexed};
 ghost use Rattle.msi_base.specs.Refusals.{IsRefusal, or_refused};
 ghost use Rattle.msi_database_storage.specs.Agreement.{schema_in};
 ghost use Rattle.msi_database_storage.specs.Kept.{Kept};
@@ -28,9 +27,9 @@ impl Database {
     /// Fails with `InvalidData` if the stream of a system table can't be read, and if its rows describe no tables, or
     /// with `OutOfMemory`.
     pub fn read(alloc: Global, pool: StringPool, streams: StreamMap) -> Result<Database, Error>
-        ensures ok { IfOk result (IsDatabaseOf (unindexed pool) (entries streams)) }
-        ensures only { IfOk result (λ d. (k : Kept) → IsDatabaseOf (unindexed pool) (entries streams) k → k ≡ d) }
-        ensures kind { let schema = schema_in (entries streams) (unindexed pool) in
+        ensures ok { IfOk result (IsDatabaseOf pool (entries streams)) }
+        ensures only { IfOk result (λ d. (k : Kept) → IsDatabaseOf pool (entries streams) k → k ≡ d) }
+        ensures kind { let schema = schema_in (entries streams) pool in
             IfErr result (IsRefusal (or_refused InvalidData schema)) }
     {
         look_at(&streams);

@@ -2,7 +2,6 @@
 
 ghost use Rattle.std.specs.Prelude.{◌≡◌, IfErr, IfOk, None, OnErr, OnOk, Some, false, true};
 ghost use Rattle.msi_base.specs.Results.{OnlyMemory};
-ghost use Rattle.msi_pool_places.specs.Pool.{unindexed};
 ghost use Rattle.msi_base.specs.Refusals.{AnswersFirst, IsRefusal, first_refusal};
 ghost use Rattle.msi_query.specs.Selection.{condition_names, has_columns};
 ghost use Rattle.msi_database_schema.specs.System.{is_system_table as is_of_system};
@@ -54,7 +53,7 @@ impl Database {
         requires known { IsKnown self.now.database insert.table table.now }
         ensures ok { let change = inserts.insert_rows self.now.database (insert_of insert) in
             IfOk result (λ new.
-            MakesRows self.now change (base_with new.wide self.now) (unindexed new.pool) new.stored) }
+            MakesRows self.now change (base_with new.wide self.now) new.pool new.stored) }
         ensures used { IfOk result (λ new.
             TellsUse (inserts.insert_rows self.now.database (insert_of insert)) new.is_pool_used) }
         ensures kind { IfErr result (IsRefusal (inserts.insert_rows self.now.database (insert_of insert))) }
@@ -73,7 +72,7 @@ impl Database {
     fn rows_inserted(&self, insert: InsertParts) -> Result<RowsAnew, Error>
         ensures ok { let change = inserts.insert_rows self.now.database (insert_of insert) in
             IfOk result (λ new.
-            MakesRows self.now change (base_with new.wide self.now) (unindexed new.pool) new.stored) }
+            MakesRows self.now change (base_with new.wide self.now) new.pool new.stored) }
         ensures used { IfOk result (λ new.
             TellsUse (inserts.insert_rows self.now.database (insert_of insert)) new.is_pool_used) }
         ensures kind { IfErr result (IsRefusal (inserts.insert_rows self.now.database (insert_of insert))) }
@@ -108,7 +107,7 @@ impl Database {
         requires fits { first_refusal (set_refusals table.now.columns (update_of update.now)) ≡ None }
         ensures ok { let change = updates.update_rows self.now.database (update_of update.now) in
             IfOk result (λ new.
-            MakesRows self.now change (base_with new.wide self.now) (unindexed new.pool) new.stored) }
+            MakesRows self.now change (base_with new.wide self.now) new.pool new.stored) }
         ensures used { IfOk result (λ new.
             TellsUse (updates.update_rows self.now.database (update_of update.now)) new.is_pool_used) }
         ensures kind { IfErr result (IsRefusal (updates.update_rows self.now.database (update_of update.now))) }
@@ -124,7 +123,7 @@ impl Database {
     fn rows_updated(&self, update: &UpdateParts) -> Result<RowsAnew, Error>
         ensures ok { let change = updates.update_rows self.now.database (update_of update.now) in
             IfOk result (λ new.
-            MakesRows self.now change (base_with new.wide self.now) (unindexed new.pool) new.stored) }
+            MakesRows self.now change (base_with new.wide self.now) new.pool new.stored) }
         ensures used { IfOk result (λ new.
             TellsUse (updates.update_rows self.now.database (update_of update.now)) new.is_pool_used) }
         ensures kind { IfErr result (IsRefusal (updates.update_rows self.now.database (update_of update.now))) }
@@ -159,7 +158,7 @@ impl Database {
         requires fits { has_columns table.now.columns (condition_names delete.now.condition) ≡ true }
         ensures ok { let change = deletes.delete_rows self.now.database (delete_of delete.now) in
             IfOk result (λ new.
-            MakesRows self.now change (base_with new.wide self.now) (unindexed new.pool) new.stored) }
+            MakesRows self.now change (base_with new.wide self.now) new.pool new.stored) }
         ensures used { IfOk result (λ new.
             TellsUse (deletes.delete_rows self.now.database (delete_of delete.now)) new.is_pool_used) }
         ensures kind { OnlyMemory result }
@@ -174,7 +173,7 @@ impl Database {
     fn rows_deleted(&self, delete: &DeleteParts) -> Result<RowsAnew, Error>
         ensures ok { let change = deletes.delete_rows self.now.database (delete_of delete.now) in
             IfOk result (λ new.
-            MakesRows self.now change (base_with new.wide self.now) (unindexed new.pool) new.stored) }
+            MakesRows self.now change (base_with new.wide self.now) new.pool new.stored) }
         ensures used { IfOk result (λ new.
             TellsUse (deletes.delete_rows self.now.database (delete_of delete.now)) new.is_pool_used) }
         ensures kind { IfErr result (IsRefusal (deletes.delete_rows self.now.database (delete_of delete.now))) }

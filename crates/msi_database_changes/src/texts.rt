@@ -3,7 +3,6 @@
 ghost use Rattle.std.specs.Prelude.{◌≡◌, false, Some, IfOk, IfErr, OnOk, length, true, unwrap_or};
 ghost use Rattle.std.specs.List.{fold};
 ghost use Rattle.msi_pool_places.specs.FirstFit.{given_back};
-ghost use Rattle.msi_pool_places.specs.Pool.{unindexed};
 ghost use Rattle.msi_base.specs.Results.{OnlyMemory};
 ghost use Rattle.msi_base.specs.declared.errors.ErrorKind.TheVariants.{InvalidInput};
 ghost use Rattle.msi_base.specs.Refusals.{IsRefusal, or_refused};
@@ -48,7 +47,7 @@ impl Model for PoolInUse {
 impl PoolInUse {
     /// Returns a pool that the change has not used yet.
     pub fn new(pool: StringPool) -> PoolInUse
-        ensures { result ≡ record { pool = unindexed pool; is_used = false } }
+        ensures { result ≡ record { pool = pool; is_used = false } }
     {
         let was_long = pool.long_string_refs();
         let mut pool = pool;
@@ -87,7 +86,7 @@ impl PoolInUse {
 
     /// Returns the pool, moved out. Its references have the width that it needs.
     pub fn into_pool(self) -> StringPool
-        ensures { unindexed result ≡ settled self.pool }
+        ensures { result ≡ settled self.pool }
     {
         let PoolInUse {
             pool,

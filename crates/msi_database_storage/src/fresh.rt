@@ -3,7 +3,6 @@
 ghost use Rattle.std.specs.Prelude.{◌≡◌, ◌∷◌, [], IfOk, OnOk, Some, false, is_some, length, true};
 ghost use Rattle.msi_container_format.specs.Names.{is_name_length};
 ghost use Rattle.msi_base.specs.Results.{OnlyMemory};
-ghost use Rattle.msi_pool.specs.Pool.{unindexed};
 ghost use Rattle.msi_database_schema.specs.Keys.{table_key as key_of};
 ghost use Rattle.msi_database_changes.specs.Insert.{cells_added};
 ghost use Rattle.msi_database_changes.specs.Texts.{in_use};
@@ -126,7 +125,7 @@ fn described_streams(
 pub fn new_tables(alloc: Global) -> Result<NewTables, Error>
     ensures tables { IfOk result (λ new. new.tables ≡ columns_table ∷ tables_table ∷ validation_table ∷ []) }
     ensures stored { IfOk result (λ new. new.stored.items ≡ fresh_stored) }
-    ensures pool { IfOk result (λ new. unindexed new.pool ≡ fresh_pool) }
+    ensures pool { IfOk result (λ new. new.pool ≡ fresh_pool) }
     ensures kind { OnlyMemory result }
 {
     let system = system_tables(alloc)?;

@@ -4,7 +4,7 @@ ghost use Rattle.std.specs.Prelude.{◌≡◌, ◌≤◌, ◌++◌, ◌||◌, �
 ghost use Rattle.std.specs.FinMap.{entries};
 ghost use Rattle.msi_base.specs.Lists.{tabulated};
 ghost use Rattle.msi_base.specs.Results.{OnlyMemory};
-ghost use Rattle.msi_pool.specs.Pool.{CountsFit, unindexed};
+ghost use Rattle.msi_pool.specs.Pool.{CountsFit};
 ghost use Rattle.msi_table.specs.Census.{IsCensus, numbers_of_rows};
 ghost use Rattle.msi_database_storage.specs.Kept.{AreAsLong, table_kept};
 ghost use Rattle.msi_database_storage.specs.Naming.{is_named_in, numbers_of_tables, pool_shown};
@@ -78,7 +78,7 @@ pub fn with_named_texts(
 ) -> Result<StringPool, Error>
     requires { length census.now.counts ≡ length pool.places }
     ensures ok { IfOk result (λ shown. (numbers : List ℕ) → IsCensus (length pool.places) numbers census.now
-        → unindexed shown ≡ pool_shown (numbers ++ numbers_of_rows rows.now) (unindexed pool)) }
+        → shown ≡ pool_shown (numbers ++ numbers_of_rows rows.now) pool) }
     ensures few { IfOk result (λ _. length pool.places ≤ 16777215) }
     ensures counts { IfOk result (λ _. CountsFit pool.places) }
     ensures kind { OnlyMemory result }

@@ -5,7 +5,6 @@ ghost use Rattle.std.specs.FinMap.{entries};
 ghost use Rattle.msi_base.specs.declared.errors.ErrorKind.TheVariants.{InvalidData};
 ghost use Rattle.msi_base.specs.Results.{OnlyMemory};
 ghost use Rattle.msi_table_values.specs.Columns.{most_columns};
-ghost use Rattle.msi_pool.specs.Pool.{unindexed};
 ghost use Rattle.msi_base.specs.Refusals.{IsRefusal, or_refused};
 ghost use Rattle.msi_database_schema.specs.Schema.{table_with};
 ghost use Rattle.msi_database_schema.specs.System.{validation_columns as columns_of_validation, validation_name};
@@ -68,7 +67,7 @@ fn described_rows(
     ensures ok { IfOk result (λ rows.
         rows_stored (entries streams.now) pool.now.long columns name.now ≡ Some rows.items) }
     ensures kind { IfErr result (IsRefusal (or_refused InvalidData
-        (described_by (entries streams.now) (unindexed pool.now) columns name.now))) }
+        (described_by (entries streams.now) pool.now columns name.now))) }
 {
     let table = named_table(alloc, name, columns, pool.long_string_refs())?;
     stored_rows(alloc, streams, &table)
@@ -85,10 +84,10 @@ fn tables_beside(
     requires bytes { HoldBytes (entries streams.now) }
     requires validation { rows_stored (entries streams.now) pool.now.long columns_of_validation validation_name
         ≡ Some validation.now }
-    ensures ok { let schema = schema_in (entries streams.now) (unindexed pool.now) in
+    ensures ok { let schema = schema_in (entries streams.now) pool.now in
         IfOk result (λ tables. schema ≡ Some (schema_listed tables)) }
     ensures long { IfOk result (AreAsLong pool.now.long) }
-    ensures kind { let schema = schema_in (entries streams.now) (unindexed pool.now) in
+    ensures kind { let schema = schema_in (entries streams.now) pool.now in
         IfErr result (IsRefusal (or_refused InvalidData schema)) }
 {
     let tables = described_rows(alloc, pool, streams, TABLES, tables_columns(alloc)?)?;
@@ -127,10 +126,10 @@ pub fn tables_in(
     ensures validation { IfOk result (λ described.
         rows_stored (entries streams.now) pool.now.long columns_of_validation validation_name
         ≡ Some described.validation.items) }
-    ensures ok { let schema = schema_in (entries streams.now) (unindexed pool.now) in
+    ensures ok { let schema = schema_in (entries streams.now) pool.now in
         IfOk result (λ described. schema ≡ Some (schema_listed described.tables)) }
     ensures long { IfOk result (λ described. AreAsLong pool.now.long described.tables) }
-    ensures kind { let schema = schema_in (entries streams.now) (unindexed pool.now) in
+    ensures kind { let schema = schema_in (entries streams.now) pool.now in
         IfErr result (IsRefusal (or_refused InvalidData schema)) }
 {
     let standard = standard_table(alloc, pool)?;

@@ -5,7 +5,6 @@ ghost use Rattle.std.specs.FinMap.{entries};
 ghost use Rattle.std.specs.List.{list_all};
 ghost use Rattle.std.specs.Option as options;
 ghost use Rattle.msi_pool.specs.FirstFit.{most_places as most_of};
-ghost use Rattle.msi_pool.specs.Pool.{unindexed};
 ghost use Rattle.msi_table.specs.Census.{IsCensus};
 ghost use Rattle.msi_database_schema.specs.System.{validation_columns, validation_name};
 ghost use Rattle.msi_database_changes.specs.Database.{are_alike as alike, is_readable_table, is_sound as is_sound_one};
@@ -127,10 +126,10 @@ pub fn are_sound(
 ) -> bool
     requires names { HaveShortNames (entries streams.now) }
     requires long { AreAsLong pool.now.long tables.now }
-    requires census { let database = database_kept (unindexed pool.now) tables.now (entries streams.now) in
+    requires census { let database = database_kept pool.now tables.now (entries streams.now) in
         IsCensus (length pool.now.places) (named_numbers database) census.now }
     requires standard { standard.now ≡ validation_columns }
-    ensures { result ≡ is_sound_one (database_kept (unindexed pool.now) tables.now (entries streams.now)) }
+    ensures { result ≡ is_sound_one (database_kept pool.now tables.now (entries streams.now)) }
 {
     if !counts_suffice(pool, census) {
         return false;

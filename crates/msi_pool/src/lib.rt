@@ -7,4 +7,4 @@ pub mod pool_streams;
 pub mod reasons;
 pub mod stringpool;
 
-pub use stringpool::{StringPool, StringPoolBuilder, StringRef};
+pub use stringpool::{IndexedPool, Operations, StringPool, StringPoolBuilder, StringRef};

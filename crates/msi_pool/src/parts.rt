@@ -5,7 +5,7 @@ ghost use Rattle.std.specs.Prelude.{if◌then◌else◌, string_bytes};
 ghost use Rattle.msi_base.specs.declared.errors.ErrorKind.TheVariants.{InvalidInput, OutOfMemory};
 ghost use Rattle.msi_pool_places.specs.FirstFit.{is_long_with, taken};
 ghost use Rattle.msi_pool_places.specs.Recounting.{many_recounted, with_counts};
-ghost use Rattle.msi_pool_places.specs.Pool.{CountsFit, PlacesWritten, unindexed, without_unnamed_texts};
+ghost use Rattle.msi_pool_places.specs.Pool.{CountsFit, PlacesWritten, without_unnamed_texts};
 
 pub use crate::stringpool::reading::{pool_builder_of, pool_of};
 pub use crate::stringpool::writing::{check_texts, data_stream_of, pool_stream_of};
@@ -33,14 +33,14 @@ pub fn place_number(reference: StringRef) -> u32
 ///
 /// # Errors
 /// Fails with `InvalidInput` if the pool has 16777215 places and none is free or has the text, and otherwise with
-/// `OutOfMemory`. Then the pool is as it was, but for `operations`, and the text is dropped.
+/// `OutOfMemory`. Then the pool is as it was, and the text is dropped.
 pub fn incref_widening(pool: &mut StringPool, text: String) -> Result<StringRef, Error>
     ensures ok { IfOk result (λ number.
         taken true pool.old.places (string_bytes text) ≡ Some (number, pool.new.places)) }
     ensures long { OnOk result (pool.new.long ≡ is_long_with pool.old.long pool.new.places) }
     ensures kind { let room = is_some (taken true pool.old.places (string_bytes text)) in
         IfErr result (λ kind. kind ≡ (if room then OutOfMemory else InvalidInput)) }
-    ensures err { OnErr result (unindexed pool.new ≡ unindexed pool.old) }
+    ensures err { OnErr result (pool.new ≡ pool.old) }
     ensures page { pool.new.page ≡ pool.old.page }
 {
     pool.incref_widening(text)
@@ -50,10 +50,8 @@ pub fn incref_widening(pool: &mut StringPool, text: String) -> Result<StringRef,
 /// becomes free, and its text empty; any other keeps its text. It takes no memory.
 pub fn set_counts(pool: &mut StringPool, counts: &[u16]) -> u32
     requires { length counts.now ≡ length pool.old.places }
-    ensures pool { unindexed pool.new
-        ≡ record (unindexed pool.old) { places = with_counts counts.now pool.old.places } }
+    ensures pool { pool.new ≡ record pool.old { places = with_counts counts.now pool.old.places } }
     ensures changed { result ≡ many_recounted counts.now pool.old.places }
-    ensures operations { pool.new.operations ≡ 0 }
 {
     pool.set_counts(counts)
 }

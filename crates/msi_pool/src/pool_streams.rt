@@ -8,8 +8,8 @@ ghost use Rattle.msi_base.specs.Faults.{AppendsPart, HasFewer};
 ghost use Rattle.msi_base.specs.Results.{IsStreamFault, IsUnlessFault};
 ghost use Rattle.msi_base.specs.declared.errors.ErrorKind.TheVariants.{InvalidData, InvalidInput, Io, OutOfMemory};
 ghost use Rattle.msi_pool_places.specs.Pool as pools;
-ghost use Rattle.msi_pool_places.specs.Pool.{IsPoolStream, PoolStream, SpellsTexts, newly_indexed, pool_with};
-ghost use Rattle.msi_pool_places.specs.Pool.{data_stream, pool_stream, unindexed};
+ghost use Rattle.msi_pool_places.specs.Pool.{IsPoolStream, PoolStream, SpellsTexts, pool_with};
+ghost use Rattle.msi_pool_places.specs.Pool.{data_stream, pool_stream};
 ghost use Rattle.msi_pool_places.specs.References.{ReadsReference, fits_reference, reference_bytes, reference_width};
 ghost use Rattle.msi_pool.specs.PoolLaws.{ReadsBack};
 ghost use Rattle.msi_pool.specs.PoolWriting.{is_refused};
@@ -63,12 +63,12 @@ pub fn build_from_data<R: Read + Drop>(
 ) -> Result<StringPool, Error>
     // The pool has the texts that are spelled.
     ensures found { IfSome (R.remaining reader) (λ bytes. IfOk result (λ pool.
-        (pool ≡ newly_indexed (pool_with stream pool.places))
+        (pool ≡ pool_with stream pool.places)
         × SpellsTexts stream.page bytes stream.entries pool.places)) }
     // Texts that are spelled are read, and nothing else.
     ensures only { IfSome (R.remaining reader) (λ bytes. (places : List pools.Place)
         → SpellsTexts stream.page bytes stream.entries places
-        → IsUnlessFault result (newly_indexed (pool_with stream places))) }
+        → IsUnlessFault result (pool_with stream places)) }
     ensures kinds { IfErr result (λ kind. IsStreamFault kind) }
 {
     let bytes = bytes_of(alloc, reader)?;
@@ -82,12 +82,12 @@ pub fn build_from_data<R: Read + Drop>(
 /// is written then. Fails with `OutOfMemory`, or with `Io` if the writer fails. It may then have taken a prefix of the
 /// bytes.
 pub fn write_pool<W: Write>(pool: &StringPool, writer: &mut W) -> Result<(), Error>
-    ensures ok { OnOk result ((bytes : List ℕ) × (pool_stream (unindexed pool.now) ≡ Some bytes)
+    ensures ok { OnOk result ((bytes : List ℕ) × (pool_stream pool.now ≡ Some bytes)
         × Appends (W.contents writer.old) (W.contents writer.new) bytes) }
-    ensures spelled { OnOk result (ReadsBack (unindexed pool.now)) }
-    ensures refused { IsErrOf result InvalidInput ↔ IsTrue (is_refused (unindexed pool.now)) }
+    ensures spelled { OnOk result (ReadsBack pool.now) }
+    ensures refused { IsErrOf result InvalidInput ↔ IsTrue (is_refused pool.now) }
     ensures unwritten { IsErrOf result InvalidInput → writer.new ≡ writer.old }
-    ensures part { let bytes = unwrap_or (pool_stream (unindexed pool.now)) [] in
+    ensures part { let bytes = unwrap_or (pool_stream pool.now) [] in
         OnErr result (AppendsPart (W.contents writer.old) (W.contents writer.new) bytes) }
     ensures kinds { IfErr result (λ kind. (kind ≡ InvalidInput) ⊎ (kind ≡ OutOfMemory) ⊎ (kind ≡ Io)) }
 {
@@ -102,12 +102,12 @@ pub fn write_pool<W: Write>(pool: &StringPool, writer: &mut W) -> Result<(), Err
 /// is written then. Fails with `OutOfMemory`, or with `Io` if the writer fails. It may then have taken a prefix of the
 /// bytes.
 pub fn write_data<W: Write>(pool: &StringPool, writer: &mut W) -> Result<(), Error>
-    ensures ok { OnOk result ((bytes : List ℕ) × (data_stream (unindexed pool.now) ≡ Some bytes)
+    ensures ok { OnOk result ((bytes : List ℕ) × (data_stream pool.now ≡ Some bytes)
         × Appends (W.contents writer.old) (W.contents writer.new) bytes) }
-    ensures spelled { OnOk result (ReadsBack (unindexed pool.now)) }
-    ensures refused { IsErrOf result InvalidInput ↔ IsTrue (is_refused (unindexed pool.now)) }
+    ensures spelled { OnOk result (ReadsBack pool.now) }
+    ensures refused { IsErrOf result InvalidInput ↔ IsTrue (is_refused pool.now) }
     ensures unwritten { IsErrOf result InvalidInput → writer.new ≡ writer.old }
-    ensures part { let bytes = unwrap_or (data_stream (unindexed pool.now)) [] in
+    ensures part { let bytes = unwrap_or (data_stream pool.now) [] in
         OnErr result (AppendsPart (W.contents writer.old) (W.contents writer.new) bytes) }
     ensures kinds { IfErr result (λ kind. (kind ≡ InvalidInput) ⊎ (kind ≡ OutOfMemory) ⊎ (kind ≡ Io)) }
 {

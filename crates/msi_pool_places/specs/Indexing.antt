@@ -20,12 +20,6 @@ places_of (Read texts) = places_joined texts
 places_of (Recounted places) = places
 places_of (Indexed all) = all.places
 
--- the operations of the last text taken or place given back; none before the first
-abbrev pub operations_of : KeptPlaces → ℕ
-operations_of (Read texts) = 0
-operations_of (Recounted places) = 0
-operations_of (Indexed all) = all.operations
-
 -- where there are indexes, they are what the places say; texts that are joined are cut where they end
 abbrev pub HasTrueIndexes : KeptPlaces → Type 0
 HasTrueIndexes (Read texts) = IsJoined texts
@@ -37,4 +31,3 @@ pub record IsKept (kept : KeptPlaces) : Type 0 where
   pub most : length (places_of kept) ≤ 16777215
   pub counts : CountsFit (places_of kept)
   pub indexed : HasTrueIndexes kept
-  pub few : operations_of kept ≤ 8

@@ -19,21 +19,6 @@ pub record Pool : Type 0 where
   pub long : Bool
   pub places : List Place
 
--- a pool with indexes of its places; `operations` are those that the last text taken or place given back needed on them
-pub record IndexedPool : Type 0 where
-  pub page : CodePage
-  pub long : Bool
-  pub places : List Place
-  pub operations : ℕ
-
--- the pool without its indexes: what the streams tell of it
-abbrev pub unindexed : IndexedPool → Pool
-unindexed pool = record { page = pool.page; long = pool.long; places = pool.places }
-
--- a pool whose indexes were just made: no text was taken since, and no place given back
-abbrev pub newly_indexed : Pool → IndexedPool
-newly_indexed pool = record { page = pool.page; long = pool.long; places = pool.places; operations = 0 }
-
 -- each place is named by fewer than 2^16 cells
 abbrev pub CountsFit : List Place → Type 0
 CountsFit places = lists.AllByRecursion (λ p. p.count < 2 ^ 16) places

@@ -21,22 +21,20 @@ use msi_base::errors::{Error, ErrorKind};
 use std::alloc::Global;
 use std::mem;
 
-/// The places, an index of the free ones, an index from each text to its places that can be named once more, and how
-/// many operations the last call made on them.
+/// The places, an index of the free ones, and an index from each text to its places that can be named once more.
 #[derive(Drop)]
 pub struct IndexedPlaces {
     many: usize,
     places: Places,
     free: FreePlaces,
     texts: TextIndex,
-    operations: Operations,
 }
 
 impl IndexedPlaces {
+    /// Makes the indexes, in one pass over the places, whose operations aren't counted.
     pub(crate) fn of(places: Places) -> Result<IndexedPlaces, Error>
         requires { length places ≤ 16777215 }
         ensures ok { IfOk result (λ all. all.places ≡ places) }
-        ensures operations { IfOk result (λ all. all.operations ≡ 0) }
         ensures indexed { IfOk result (λ all. IsIndexed all) }
         ensures kind { OnlyMemory result }
     {
@@ -46,15 +44,13 @@ impl IndexedPlaces {
             places,
             free,
             texts,
-            operations: Operations::new(),
         })
     }
 
-    /// Returns the same places and indexes, with no operation yet.
+    /// Returns the same places and indexes.
     pub(crate) fn clone(&self) -> Result<IndexedPlaces, Error>
         requires { IsIndexed self.now }
         ensures ok { IfOk result (λ all. all.places ≡ self.now.places) }
-        ensures operations { IfOk result (λ all. all.operations ≡ 0) }
         ensures indexed { IfOk result (λ all. IsIndexed all) }
         ensures kind { OnlyMemory result }
     {
@@ -63,15 +59,7 @@ impl IndexedPlaces {
             places: self.places.clone()?,
             free: self.free.clone()?,
             texts: self.texts.clone()?,
-            operations: Operations::new(),
         })
-    }
-
-    /// How many operations the last call of `take` or `give_back` made; 0 before the first.
-    pub(crate) fn operations(&self) -> u32
-        ensures { result ≡ self.now.operations }
-    {
-        self.operations.count()
     }
 
     pub(crate) fn places(&self) -> &Places
@@ -93,15 +81,19 @@ impl IndexedPlaces {
         requires named { length is_named.now ≡ length self.old.places }
         ensures places { self.new.places ≡ without_unnamed_texts is_named.now self.old.places }
         ensures indexed { IsIndexed self.new }
-        ensures operations { self.new.operations ≡ self.old.operations }
     {
         self.places.forget_texts(is_named);
     }
 
     /// Stores a text and returns its place, counted from 0: the first that is free or has the text and fewer than 65535
-    /// cells, or else a new one. Fails with `InvalidInput` where there is room for no more. If it fails, the places and
-    /// the indexes are as they were.
-    pub(crate) fn take(&mut self, text: String, long: bool) -> Result<u32, Error>
+    /// cells, or else a new one. The operations are counted from 0 on, also if it fails: at most 8. Fails with
+    /// `InvalidInput` where there is room for no more. If it fails, the places and the indexes are as they were.
+    pub fn take(
+        &mut self,
+        text: String,
+        long: bool,
+        operations: &mut Operations,
+    ) -> Result<u32, Error>
         requires indexed { IsIndexed self.old }
         requires most { length self.old.places ≤ 16777215 }
         ensures ok { IfOk result (λ at.
@@ -110,75 +102,90 @@ impl IndexedPlaces {
             IfErr result (λ kind. kind ≡ (if room then OutOfMemory else InvalidInput)) }
         ensures err { OnErr result (self.new.places ≡ self.old.places) }
         ensures indexed { IsIndexed self.new }
-        ensures most { self.new.operations ≤ 8 }
-        ensures least { OnOk result (1 ≤ self.new.operations) }
+        ensures most { operations.new ≤ 8 }
+        ensures least { OnOk result (1 ≤ operations.new) }
     {
-        self.operations = Operations::new();
+        *operations = Operations::new();
         let start = Entry::new(SharedText::from_string(text), 0);
-        let free = self.free.least(&mut self.operations);
-        let held = self.texts.least(&start, &mut self.operations);
+        let free = self.free.least(operations);
+        let held = self.texts.least(&start, operations);
         let text = start.into_text();
         match lesser(free, held) {
-            None => self.append(text, long),
+            None => self.append(text, long, operations),
             Some(at) => {
                 if held == Some(at) {
-                    self.raise(at, text)
+                    self.raise(at, text, operations)
                 } else {
-                    self.fill(at, text)
+                    self.fill(at, text, operations)
                 }
             }
         }
     }
 
     /// Counts one cell more for a place that has the text, and returns that place.
-    fn raise(&mut self, at: u32, text: SharedText) -> Result<u32, Error>
+    fn raise(
+        &mut self,
+        at: u32,
+        text: SharedText,
+        operations: &mut Operations,
+    ) -> Result<u32, Error>
         requires indexed { IsIndexed self.old }
         requires room { has_room_for text (slice_get self.old.places at) ≡ true }
-        requires operations { self.old.operations ≤ 2 }
+        requires operations { operations.old ≤ 2 }
         ensures at { IfOk result (λ i. i ≡ at) }
         ensures ok { OnOk result (self.new.places ≡ with_text_at self.old.places at text) }
         ensures err { OnErr result (self.new.places ≡ self.old.places) }
         ensures indexed { IsIndexed self.new }
         ensures kind { OnlyMemory result }
-        ensures most { self.new.operations ≤ self.old.operations + 3 }
-        ensures least { self.old.operations ≤ self.new.operations }
+        ensures most { operations.new ≤ operations.old + 3 }
+        ensures least { operations.old ≤ operations.new }
     {
-        let place = self.places.get(at as usize, &mut self.operations);
+        let place = self.places.get(at as usize, operations);
         let raised = Place::new(place.shared_text()?, place.count() + 1);
         let entry = Entry::new(text, at);
         close(
             &mut self.texts,
             &entry,
             raised.count(),
-            &mut self.operations,
+            operations,
         );
-        self.places.set(at as usize, raised, &mut self.operations);
+        self.places.set(at as usize, raised, operations);
         Ok(at)
     }
 
-    fn fill(&mut self, at: u32, text: SharedText) -> Result<u32, Error>
+    fn fill(
+        &mut self,
+        at: u32,
+        text: SharedText,
+        operations: &mut Operations,
+    ) -> Result<u32, Error>
         requires indexed { IsIndexed self.old }
         requires free { is_free (slice_get self.old.places at) ≡ true }
-        requires operations { self.old.operations ≤ 2 }
+        requires operations { operations.old ≤ 2 }
         ensures at { IfOk result (λ i. i ≡ at) }
         ensures ok { OnOk result (self.new.places ≡ with_text_at self.old.places at text) }
         ensures err { OnErr result (self.new.places ≡ self.old.places) }
         ensures indexed { IsIndexed self.new }
         ensures kind { OnlyMemory result }
-        ensures most { self.new.operations ≤ self.old.operations + 3 }
-        ensures least { self.old.operations ≤ self.new.operations }
+        ensures most { operations.new ≤ operations.old + 3 }
+        ensures least { operations.old ≤ operations.new }
     {
         let place = Place::new(text.into_shared()?, 1);
-        insert_text(&mut self.texts, at, &place, &mut self.operations)?;
-        self.free.remove(at, &mut self.operations);
-        self.places.set(at as usize, place, &mut self.operations);
+        insert_text(&mut self.texts, at, &place, operations)?;
+        self.free.remove(at, operations);
+        self.places.set(at as usize, place, operations);
         Ok(at)
     }
 
-    fn append(&mut self, text: SharedText, long: bool) -> Result<u32, Error>
+    fn append(
+        &mut self,
+        text: SharedText,
+        long: bool,
+        operations: &mut Operations,
+    ) -> Result<u32, Error>
         requires indexed { IsIndexed self.old }
         requires most { length self.old.places ≤ 16777215 }
-        requires operations { self.old.operations ≤ 2 }
+        requires operations { operations.old ≤ 2 }
         ensures room { OnOk result (length self.old.places < most_of long) }
         ensures at { IfOk result (λ at. at ≡ length self.old.places) }
         ensures ok { OnOk result (self.new.places ≡ with_text_at self.old.places (length self.old.places) text) }
@@ -186,8 +193,8 @@ impl IndexedPlaces {
         ensures indexed { IsIndexed self.new }
         ensures kind { IfErr result (λ kind.
             kind ≡ (if nat_lt (length self.old.places) (most_of long) then OutOfMemory else InvalidInput)) }
-        ensures most { self.new.operations ≤ self.old.operations + 3 }
-        ensures least { self.old.operations ≤ self.new.operations }
+        ensures most { operations.new ≤ operations.old + 3 }
+        ensures least { operations.old ≤ operations.new }
     {
         if self.many >= most_places(long) {
             return Err(Error::new(ErrorKind::InvalidInput, reasons::POOL_FULL));
@@ -195,18 +202,19 @@ impl IndexedPlaces {
         let at = self.many as u32;
         let text = text.into_shared()?;
         let place = Place::new(text.clone()?, 1);
-        insert_text(&mut self.texts, at, &place, &mut self.operations)?;
-        if let Err(error) = self.places.push(place, &mut self.operations) {
-            remove_text(&mut self.texts, at, text, &mut self.operations);
+        insert_text(&mut self.texts, at, &place, operations)?;
+        if let Err(error) = self.places.push(place, operations) {
+            remove_text(&mut self.texts, at, text, operations);
             return Err(error);
         }
         self.many += 1;
         Ok(at)
     }
 
-    /// Takes one cell from the place of a number from 1 on; its text goes with the last. Fails with `InvalidData` past
-    /// the end and for a free place. If it fails, the places and the indexes are as they were.
-    pub(crate) fn give_back(&mut self, number: u32) -> Result<(), Error>
+    /// Takes one cell from the place of a number from 1 on; its text goes with the last. The operations are counted from
+    /// 0 on, also if it fails: at most 8. Fails with `InvalidData` past the end and for a free place. If it fails, the
+    /// places and the indexes are as they were.
+    pub fn give_back(&mut self, number: u32, operations: &mut Operations) -> Result<(), Error>
         requires indexed { IsIndexed self.old }
         requires most { length self.old.places ≤ 16777215 }
         requires number { 1 ≤ number }
@@ -215,62 +223,72 @@ impl IndexedPlaces {
             IfErr result (λ kind. kind ≡ (if used then OutOfMemory else InvalidData)) }
         ensures err { OnErr result (self.new.places ≡ self.old.places) }
         ensures indexed { IsIndexed self.new }
-        ensures most { self.new.operations ≤ 8 }
-        ensures least { OnOk result (1 ≤ self.new.operations) }
+        ensures most { operations.new ≤ 8 }
+        ensures least { OnOk result (1 ≤ operations.new) }
     {
-        self.operations = Operations::new();
+        *operations = Operations::new();
         let at = number - 1;
         if at as usize >= self.many {
             return Err(Error::new(ErrorKind::InvalidData, reasons::PLACE_UNKNOWN));
         }
-        let place = self.places.get(at as usize, &mut self.operations);
+        let place = self.places.get(at as usize, operations);
         if place.count() == 0 {
             return Err(Error::new(ErrorKind::InvalidData, reasons::PLACE_FREE));
         }
         let text = place.shared_text()?;
         let left = place.count() - 1;
         if left == 0 {
-            self.empty(at, text)
+            self.empty(at, text, operations)
         } else {
-            self.lower(at, Place::new(text, left))
+            self.lower(at, Place::new(text, left), operations)
         }
     }
 
-    fn empty(&mut self, at: u32, text: SharedText) -> Result<(), Error>
+    fn empty(
+        &mut self,
+        at: u32,
+        text: SharedText,
+        operations: &mut Operations,
+    ) -> Result<(), Error>
         requires indexed { IsIndexed self.old }
         requires place { slice_get self.old.places at ≡ Some (record { text = text; count = 1 }) }
-        requires operations { self.old.operations ≤ 2 }
+        requires operations { operations.old ≤ 2 }
         ensures ok { OnOk result (self.new.places ≡ set self.old.places at (record { text = []; count = 0 })) }
         ensures err { OnErr result (self.new.places ≡ self.old.places) }
         ensures indexed { IsIndexed self.new }
         ensures kind { OnlyMemory result }
-        ensures most { self.new.operations ≤ self.old.operations + 3 }
-        ensures least { self.old.operations ≤ self.new.operations }
+        ensures most { operations.new ≤ operations.old + 3 }
+        ensures least { operations.old ≤ operations.new }
     {
         let alloc = self.places.allocator();
-        self.free.insert(at, &mut self.operations)?;
-        remove_text(&mut self.texts, at, text, &mut self.operations);
+        self.free.insert(at, operations)?;
+        remove_text(&mut self.texts, at, text, operations);
         let place = Place::new(SharedText::empty(alloc), 0);
-        self.places.set(at as usize, place, &mut self.operations);
+        self.places.set(at as usize, place, operations);
         Ok(())
     }
 
     /// Replaces a place that is still in use and had one cell more.
-    fn lower(&mut self, at: u32, place: Place) -> Result<(), Error>
+    fn lower(
+        &mut self,
+        at: u32,
+        place: Place,
+        operations: &mut Operations,
+    ) -> Result<(), Error>
         requires indexed { IsIndexed self.old }
         requires place { slice_get self.old.places at ≡ Some (record { text = place.text; count = place.count + 1 }) }
         requires used { 0 < place.count }
         requires fits { place.count < 65535 }
-        requires operations { self.old.operations ≤ 2 }
+        requires operations { operations.old ≤ 2 }
         ensures ok { OnOk result (self.new.places ≡ set self.old.places at place) }
         ensures err { OnErr result (self.new.places ≡ self.old.places) }
         ensures indexed { IsIndexed self.new }
         ensures kind { OnlyMemory result }
-        ensures most { self.new.operations ≤ self.old.operations + 3 }
-        ensures least { self.old.operations ≤ self.new.operations }
+        ensures most { operations.new ≤ operations.old + 3 }
+        ensures least { operations.old ≤ operations.new }
     {
-        reopen(&mut self.texts, at, &place, &mut self.operations)?;
-        self.places.set(at as usize, place, &mut self.operations);
+        reopen(&mut self.texts, at, &place, operations)?;
+        self.places.set(at as usize, place, operations);
         Ok(())
     }
 }
@@ -354,7 +372,6 @@ fn remove_text(texts: &mut TextIndex, at: u32, text: SharedText, operations: &mu
     texts.remove(&Entry::new(text, at), operations);
 }
 
-/// Makes the indexes in one pass. Its operations aren't counted.
 fn indexes_of(alloc: Global, places: &[Place]) -> Result<(FreePlaces, TextIndex), Error>
     requires { length places.now ≤ 16777215 }
     ensures free { IfOk result (λ indexes. AreFree indexes.0 places.now) }

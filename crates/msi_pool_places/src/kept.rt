@@ -6,13 +6,14 @@ ghost use Rattle.std.specs.Prelude.{string_bytes, if◌then◌else◌, length, s
 ghost use Rattle.std.specs.List.{list_any};
 ghost use Rattle.msi_pool_places.specs.Pool.{PlacesWritten, without_unnamed_texts};
 ghost use Rattle.msi_pool_places.specs.FirstFit.{taken, given_back, is_fit};
-ghost use Rattle.msi_pool_places.specs.Indexing.{HasTrueIndexes, IsKept, places_of, operations_of};
+ghost use Rattle.msi_pool_places.specs.Indexing.{HasTrueIndexes, IsIndexed, IsKept, places_of};
 ghost use Rattle.msi_pool_places.specs.Recounting.{many_recounted, with_counts};
 ghost use Rattle.msi_base.specs.Results.{OnlyMemory};
 ghost use Rattle.msi_base.specs.declared.errors.ErrorKind.TheVariants.{InvalidData, InvalidInput, OutOfMemory};
 
 use crate::indexed::{IndexedPlaces, most_places};
 use crate::joined::JoinedTexts;
+use crate::operations::Operations;
 use crate::places::{MAX_CELLS, PlaceRef, Places};
 use crate::reasons;
 use msi_base::errors::{Error, ErrorKind};
@@ -63,21 +64,10 @@ impl KeptPlaces {
         }
     }
 
-    /// How many operations the last call of `take` or `give_back` made; 0 before the first.
-    pub fn operations(&self) -> u32
-        ensures { result ≡ operations_of self.now }
-    {
-        match self {
-            KeptPlaces::Indexed(all) => all.operations(),
-            _ => 0,
-        }
-    }
-
-    /// The same places, and indexes where there are some, with no operation yet. The only error is `OutOfMemory`.
+    /// The same places, and indexes where there are some. The only error is `OutOfMemory`.
     pub fn clone(&self) -> Result<KeptPlaces, Error>
         requires { HasTrueIndexes self.now }
         ensures ok { IfOk result (λ kept. places_of kept ≡ places_of self.now) }
-        ensures operations { IfOk result (λ kept. operations_of kept ≡ 0) }
         ensures indexed { IfOk result (λ kept. HasTrueIndexes kept) }
         ensures kind { OnlyMemory result }
     {
@@ -86,6 +76,20 @@ impl KeptPlaces {
             KeptPlaces::Recounted(places) => KeptPlaces::Recounted(places.clone()?),
             KeptPlaces::Indexed(all) => KeptPlaces::Indexed(all.clone()?),
         })
+    }
+
+    /// Makes the indexes, in one pass over the places, where there are none yet. The only error is `OutOfMemory`.
+    pub fn into_indexed(self) -> Result<IndexedPlaces, Error>
+        requires { IsKept self }
+        ensures ok { IfOk result (λ all. all.places ≡ places_of self) }
+        ensures indexed { IfOk result (λ all. IsIndexed all) }
+        ensures kind { OnlyMemory result }
+    {
+        match self {
+            KeptPlaces::Read(texts) => IndexedPlaces::of(texts.to_places()?),
+            KeptPlaces::Recounted(places) => IndexedPlaces::of(places),
+            KeptPlaces::Indexed(all) => Ok(all),
+        }
     }
 
     fn to_places(&self) -> Result<Places, Error>
@@ -106,7 +110,6 @@ impl KeptPlaces {
         requires named { length is_named.now ≡ length (places_of self.old) }
         ensures places { places_of self.new ≡ without_unnamed_texts is_named.now (places_of self.old) }
         ensures indexed { HasTrueIndexes self.new }
-        ensures operations { operations_of self.new ≡ operations_of self.old }
     {
         match self {
             KeptPlaces::Read(texts) => texts.forget_texts(is_named),
@@ -116,7 +119,7 @@ impl KeptPlaces {
     }
 
     /// Sets the count of each place, and returns how many got another one. A place without cells loses its text. The
-    /// indexes are made again at the next change, and there is no operation yet.
+    /// indexes are made again at the next change.
     pub fn set_counts(&mut self, counts: &[u16]) -> u32
         requires indexed { HasTrueIndexes self.old }
         requires many { length counts.now ≡ length (places_of self.old) }
@@ -124,7 +127,6 @@ impl KeptPlaces {
         ensures places { places_of self.new ≡ with_counts counts.now (places_of self.old) }
         ensures changed { result ≡ many_recounted counts.now (places_of self.old) }
         ensures indexed { HasTrueIndexes self.new }
-        ensures operations { operations_of self.new ≡ 0 }
     {
         match self {
             KeptPlaces::Read(texts) => texts.set_counts(counts),
@@ -138,7 +140,8 @@ impl KeptPlaces {
         }
     }
 
-    /// Stores a text and returns its place, counted from 0, as `IndexedPlaces::take` does.
+    /// Stores a text and returns its place, counted from 0, as `IndexedPlaces::take` does. Without indexes it makes them
+    /// first, if there is room for the text.
     pub fn take(&mut self, text: String, long: bool) -> Result<u32, Error>
         requires { IsKept self.old }
         ensures ok { IfOk result (λ at.
@@ -147,22 +150,21 @@ impl KeptPlaces {
             IfErr result (λ kind. kind ≡ (if room then OutOfMemory else InvalidInput)) }
         ensures err { OnErr result (places_of self.new ≡ places_of self.old) }
         ensures indexed { HasTrueIndexes self.new }
-        ensures most { operations_of self.new ≤ 8 }
-        ensures least { OnOk result (1 ≤ operations_of self.new) }
     {
         if let KeptPlaces::Indexed(all) = self {
-            return all.take(text, long);
+            return all.take(text, long, &mut Operations::new());
         }
         if !self.has_room(long, text.as_str()) {
             return Err(Error::new(ErrorKind::InvalidInput, reasons::POOL_FULL));
         }
         let mut all = IndexedPlaces::of(self.to_places()?)?;
-        let taken = all.take(text, long);
+        let taken = all.take(text, long, &mut Operations::new());
         *self = KeptPlaces::Indexed(all);
         taken
     }
 
-    /// Gives back the place of a number from 1 on, as `IndexedPlaces::give_back` does.
+    /// Gives back the place of a number from 1 on, as `IndexedPlaces::give_back` does. Without indexes it makes them
+    /// first, if the place is in use.
     pub fn give_back(&mut self, number: u32) -> Result<(), Error>
         requires kept { IsKept self.old }
         requires number { 1 ≤ number }
@@ -171,15 +173,13 @@ impl KeptPlaces {
             IfErr result (λ kind. kind ≡ (if used then OutOfMemory else InvalidData)) }
         ensures err { OnErr result (places_of self.new ≡ places_of self.old) }
         ensures indexed { HasTrueIndexes self.new }
-        ensures most { operations_of self.new ≤ 8 }
-        ensures least { OnOk result (1 ≤ operations_of self.new) }
     {
         if let KeptPlaces::Indexed(all) = self {
-            return all.give_back(number);
+            return all.give_back(number, &mut Operations::new());
         }
         self.check_used(number)?;
         let mut all = IndexedPlaces::of(self.to_places()?)?;
-        let given = all.give_back(number);
+        let given = all.give_back(number, &mut Operations::new());
         *self = KeptPlaces::Indexed(all);
         given
     }

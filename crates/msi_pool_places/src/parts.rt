@@ -2,7 +2,7 @@
 
 pub use crate::entries::Entries;
 pub use crate::free::FreePlaces;
-pub use crate::indexed::most_places;
+pub use crate::indexed::{IndexedPlaces, most_places};
 pub use crate::joined::JoinedTexts;
 pub use crate::joiner::TextJoiner;
 pub use crate::kept::KeptPlaces;

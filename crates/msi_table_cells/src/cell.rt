@@ -6,7 +6,6 @@ ghost use Rattle.std.specs.Ordering.{as_partial_cmp, eq_by_cmp};
 ghost use Rattle.std.proofs.Common.{refl};
 ghost use Rattle.msi_base.specs.Results.{OnlyMemory};
 ghost use Rattle.msi_base.specs.declared.errors.ErrorKind.TheVariants.{InvalidData, InvalidInput};
-ghost use Rattle.msi_pool.specs.Pool.{unindexed};
 ghost use Rattle.msi_table_values.specs.Refusals.{FailsWith};
 ghost use Rattle.msi_table_values.specs.Values.{text_of};
 ghost use Rattle.msi_table_cells.specs.CellOrder.{cell_cmp};
@@ -46,7 +45,7 @@ impl ValueRef {
             cell_of_value pool.old.long pool.old.places value ≡ Some (cell, pool.new.places)) }
         ensures kind { FailsWith InvalidInput result (cell_of_value pool.old.long pool.old.places value) }
         ensures only_texts { OnErr result (IsSome (text_of value)) }
-        ensures err { OnErr result (unindexed pool.new ≡ unindexed pool.old) }
+        ensures err { OnErr result (pool.new ≡ pool.old) }
         ensures page { pool.new.page ≡ pool.old.page }
         ensures long { pool.new.long ≡ pool.old.long }
     {
@@ -66,7 +65,7 @@ impl ValueRef {
     pub fn remove(self, pool: &mut StringPool) -> Result<(), Error>
         ensures ok { OnOk result (places_without pool.old.places self ≡ Some pool.new.places) }
         ensures kind { FailsWith InvalidData result (places_without pool.old.places self) }
-        ensures err { OnErr result (unindexed pool.new ≡ unindexed pool.old) }
+        ensures err { OnErr result (pool.new ≡ pool.old) }
         ensures page { pool.new.page ≡ pool.old.page }
         ensures long { pool.new.long ≡ pool.old.long }
     {

@@ -3,8 +3,9 @@
 ghost use Rattle.std.specs.Prelude.{◌≡◌, IfOk, IfErr, OnOk, OnErr, Some, is_some, if◌then◌else◌, [], false, length};
 ghost use Rattle.std.specs.Prelude.{true, IsTrue, ◌↔◌, ◌<◌, slice_get};
 ghost use Rattle.std.specs.Prelude.{string_bytes, ◌≤◌};
+ghost use Rattle.msi_pool_places.specs.Indexing.{IsIndexed};
 ghost use Rattle.msi_pool_places.specs.JoinedTexts.{IsJoined, places_joined};
-ghost use Rattle.msi_pool_places.specs.Pool.{CountsFit, PlacesWritten, newly_indexed, unindexed};
+ghost use Rattle.msi_pool_places.specs.Pool.{CountsFit, PlacesWritten};
 ghost use Rattle.msi_pool_places.specs.Pool.{without_unnamed_texts};
 ghost use Rattle.msi_pool_places.specs.FirstFit.{taken, given_back, is_long_with};
 ghost use Rattle.msi_pool_places.specs.FirstFitLaws.{Holds, place_at, text_at, count_at};
@@ -12,18 +13,19 @@ ghost use Rattle.msi_pool_places.specs.Recounting.{many_recounted, with_counts};
 ghost use Rattle.msi_base.specs.Results.{OnlyMemory};
 ghost use Rattle.msi_base.specs.declared.errors.ErrorKind.TheVariants.{InvalidData, InvalidInput, OutOfMemory};
 
+use crate::stringpool::indexed::IndexedPool;
 use crate::stringpool::reference::StringRef;
 use msi_base::codepage::CodePage;
 use msi_base::errors::Error;
-use msi_pool_places::parts::{JoinedTexts, KeptPlaces, MAX_SHORT_PLACES, PlaceRef};
+use msi_pool_places::parts::{IndexedPlaces, JoinedTexts, KeptPlaces, MAX_SHORT_PLACES, PlaceRef};
 use std::alloc::Global;
 use std::marker::Model;
 
 /// The bit above the page's id that says that references are long.
 pub(crate) const LONG: u32 = 1 << 31;
 
-/// The string pool: texts by number. Contracts see its page, whether references are long, its places, and how many
-/// operations the last `incref` or `decref` made on them.
+/// The string pool: texts by number. As it was read it has no indexes; its first `incref` or `decref` makes them, as
+/// `into_indexed` does. Contracts see its page, whether references are long, and its places.
 pub struct StringPool {
     codepage: CodePage,
     long: bool,
@@ -42,17 +44,12 @@ impl Drop for StringPool {
 }
 
 impl Model for StringPool {
-    ghost use Rattle.msi_pool_places.specs.Pool.{IndexedPool};
-    ghost use Rattle.msi_pool_places.specs.Indexing.{IsKept, places_of, operations_of};
+    ghost use Rattle.msi_pool_places.specs.Pool.{Pool};
+    ghost use Rattle.msi_pool_places.specs.Indexing.{IsKept, places_of};
 
-    ghost Value = { IndexedPool };
+    ghost Value = { Pool };
 
-    ghost view = { λ p. record {
-      page = p.codepage;
-      long = p.long;
-      places = places_of p.kept;
-      operations = operations_of p.kept;
-    } };
+    ghost view = { λ p. record { page = p.codepage; long = p.long; places = places_of p.kept } };
 
     ghost invariant = { λ p. IsKept p.kept };
 }
@@ -60,7 +57,7 @@ impl Model for StringPool {
 impl StringPool {
     /// Returns an empty pool of a page, with short references.
     pub fn new(alloc: Global, page: CodePage) -> StringPool
-        ensures { result ≡ newly_indexed (record { page = page; long = false; places = [] }) }
+        ensures { result ≡ record { page = page; long = false; places = [] } }
     {
         StringPool {
             codepage: page,
@@ -72,7 +69,7 @@ impl StringPool {
     pub(crate) fn from_parts(codepage: CodePage, long: bool, texts: JoinedTexts) -> StringPool
         requires joined { IsJoined texts }
         requires most { length (places_joined texts) ≤ 16777215 }
-        ensures { result ≡ newly_indexed (record { page = codepage; long = long; places = places_joined texts }) }
+        ensures { result ≡ record { page = codepage; long = long; places = places_joined texts } }
     {
         StringPool {
             codepage,
@@ -163,7 +160,7 @@ impl StringPool {
     /// # Errors
     /// Fails with `OutOfMemory`.
     pub fn clone(&self) -> Result<StringPool, Error>
-        ensures ok { IfOk result (λ pool. pool ≡ newly_indexed (unindexed self.now)) }
+        ensures ok { IfOk result (λ pool. pool ≡ self.now) }
         ensures kind { OnlyMemory result }
     {
         Ok(StringPool {
@@ -171,6 +168,35 @@ impl StringPool {
             long: self.long,
             kept: self.kept.clone()?,
         })
+    }
+
+    /// Returns the pool with its indexes. Where it has none yet, they are made in one pass over its places.
+    ///
+    /// # Errors
+    /// Fails with `OutOfMemory`.
+    pub fn into_indexed(self) -> Result<IndexedPool, Error>
+        ensures ok { IfOk result (λ pool. pool ≡ self) }
+        ensures kind { OnlyMemory result }
+    {
+        let StringPool {
+            codepage,
+            long,
+            kept,
+        } = self;
+        Ok(IndexedPool::from_places(codepage, long, kept.into_indexed()?))
+    }
+
+    pub(crate) fn from_indexed(codepage: CodePage, long: bool, places: IndexedPlaces) -> StringPool
+        requires indexed { IsIndexed places }
+        requires most { length places.places ≤ 16777215 }
+        requires counts { CountsFit places.places }
+        ensures { result ≡ record { page = codepage; long = long; places = places.places } }
+    {
+        StringPool {
+            codepage,
+            long,
+            kept: KeptPlaces::Indexed(places),
+        }
     }
 
     pub(crate) fn free_places_are_empty(&self) -> bool
@@ -185,30 +211,19 @@ impl StringPool {
         self.kept.allocator()
     }
 
-    /// Returns how many operations the last `incref` or `decref` made on the places and their indexes, also if it
-    /// failed: at most 8. It is 0 before the first, and in a clone.
-    pub fn operations(&self) -> u32
-        ensures value { result ≡ self.now.operations }
-        ensures most { result ≤ 8 }
-    {
-        self.kept.operations()
-    }
-
     /// Stores a text and returns its place: the first that is free, or that has the text and fewer than 65535 cells,
     /// or else a new one.
     ///
     /// # Errors
-    /// Fails with `InvalidInput` if the pool is full, and otherwise with `OutOfMemory`. Then the pool is as it was,
-    /// but for `operations`, and the text is dropped.
+    /// Fails with `InvalidInput` if the pool is full, and otherwise with `OutOfMemory`. Then the pool is as it was, and
+    /// the text is dropped.
     pub fn incref(&mut self, text: String) -> Result<StringRef, Error>
         ensures ok { IfOk result (λ number.
             taken self.old.long self.old.places (string_bytes text) ≡ Some (number, self.new.places)) }
         ensures holds { IfOk result (λ number. Holds self.new.places number (string_bytes text)) }
         ensures kind { let room = is_some (taken self.old.long self.old.places (string_bytes text)) in
             IfErr result (λ kind. kind ≡ (if room then OutOfMemory else InvalidInput)) }
-        ensures err { OnErr result (unindexed self.new ≡ unindexed self.old) }
-        ensures most { self.new.operations ≤ 8 }
-        ensures least { OnOk result (1 ≤ self.new.operations) }
+        ensures err { OnErr result (self.new ≡ self.old) }
         ensures page { self.new.page ≡ self.old.page }
         ensures long { self.new.long ≡ self.old.long }
     {
@@ -217,15 +232,15 @@ impl StringPool {
     }
 
     /// Stores a text as `incref` does, and widens the references if it needs a place past 65535. Fails with
-    /// `InvalidInput` if the pool has 16777215 places and none is free or has the text. After a failure only
-    /// `operations` of the pool has changed, and the text is dropped.
+    /// `InvalidInput` if the pool has 16777215 places and none is free or has the text. After a failure the pool is as
+    /// it was, and the text is dropped.
     pub(crate) fn incref_widening(&mut self, text: String) -> Result<StringRef, Error>
         ensures ok { IfOk result (λ number.
             taken true self.old.places (string_bytes text) ≡ Some (number, self.new.places)) }
         ensures long { OnOk result (self.new.long ≡ is_long_with self.old.long self.new.places) }
         ensures kind { let room = is_some (taken true self.old.places (string_bytes text)) in
             IfErr result (λ kind. kind ≡ (if room then OutOfMemory else InvalidInput)) }
-        ensures err { OnErr result (unindexed self.new ≡ unindexed self.old) }
+        ensures err { OnErr result (self.new ≡ self.old) }
         ensures page { self.new.page ≡ self.old.page }
     {
         let at = self.kept.take(text, true)?;
@@ -239,12 +254,10 @@ impl StringPool {
     ///
     /// # Errors
     /// Fails with `InvalidData` past the end and for a free place, and otherwise with `OutOfMemory`. Then the pool is
-    /// as it was, but for `operations`.
+    /// as it was.
     pub fn decref(&mut self, reference: StringRef) -> Result<(), Error>
         ensures ok { OnOk result (given_back self.old.places reference ≡ Some self.new.places) }
-        ensures err { OnErr result (unindexed self.new ≡ unindexed self.old) }
-        ensures most { self.new.operations ≤ 8 }
-        ensures least { OnOk result (1 ≤ self.new.operations) }
+        ensures err { OnErr result (self.new ≡ self.old) }
         ensures kind { let used = is_some (given_back self.old.places reference) in
             IfErr result (λ kind. kind ≡ (if used then OutOfMemory else InvalidData)) }
         ensures page { self.new.page ≡ self.old.page }
@@ -258,10 +271,8 @@ impl StringPool {
     /// cells becomes free, and its text empty. It takes no memory.
     pub(crate) fn set_counts(&mut self, counts: &[u16]) -> u32
         requires { length counts.now ≡ length self.old.places }
-        ensures pool { unindexed self.new
-            ≡ record (unindexed self.old) { places = with_counts counts.now self.old.places } }
+        ensures pool { self.new ≡ record self.old { places = with_counts counts.now self.old.places } }
         ensures changed { result ≡ many_recounted counts.now self.old.places }
-        ensures operations { self.new.operations ≡ 0 }
     {
         self.kept.set_counts(counts)
     }

@@ -6,7 +6,7 @@ ghost use Rattle.msi_base.specs.Pages.{page_with_id, text_in};
 ghost use Rattle.msi_base.specs.declared.codepage.CodePage.TheVariants.{Utf8};
 ghost use Rattle.msi_pool_places.specs.Pool as pools;
 ghost use Rattle.msi_pool_places.specs.Pool.{IsPoolStream, PoolStream, SpellsTexts};
-ghost use Rattle.msi_pool_places.specs.Pool.{newly_indexed, pool_with};
+ghost use Rattle.msi_pool_places.specs.Pool.{pool_with};
 ghost use Rattle.msi_pool_places.specs.JoinedTexts.{IsJoined, places_joined};
 ghost use Rattle.msi_pool_places.specs.TextJoining.{IsJoining, entries_left, places_read};
 ghost use Rattle.msi_pool_places.specs.PoolReading.{IsPut, place_in_front, header_in};
@@ -79,10 +79,10 @@ pub fn pool_of(
     part: Option<&Part>,
 ) -> Result<StringPool, Error>
     ensures found { IfOk result (λ pool.
-        (pool ≡ newly_indexed (pool_with stream pool.places))
+        (pool ≡ pool_with stream pool.places)
         × SpellsTexts stream.page bytes.now stream.entries pool.places) }
     ensures only { (places : List pools.Place) → SpellsTexts stream.page bytes.now stream.entries places
-        → IsUnlessMemory result (newly_indexed (pool_with stream places)) }
+        → IsUnlessMemory result (pool_with stream places) }
     ensures kinds { IfErr result (λ kind. (kind ≡ InvalidData) ⊎ (kind ≡ OutOfMemory)) }
 {
     let StringPoolBuilder {

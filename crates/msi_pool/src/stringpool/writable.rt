@@ -2,7 +2,7 @@
 
 ghost use Rattle.std.specs.Prelude.{◌<◌, ◌↔◌, IsTrue, IsUtf8};
 ghost use Rattle.msi_base.specs.Pages.{IsWritable};
-ghost use Rattle.msi_pool_places.specs.Pool.{AreWritable, HaveUtf8Texts, unindexed};
+ghost use Rattle.msi_pool_places.specs.Pool.{AreWritable, HaveUtf8Texts};
 
 use crate::stringpool::pool::StringPool;
 use msi_base::codepage::CodePage;
@@ -12,7 +12,7 @@ impl StringPool {
     /// Returns whether each text that a cell refers to reads back as it was, once it is written in the page. It takes
     /// no memory.
     pub fn is_writable(&self) -> bool
-        ensures exact { IsTrue result ↔ AreWritable (unindexed self.now) }
+        ensures exact { IsTrue result ↔ AreWritable self.now }
         ensures utf8 { HaveUtf8Texts self.now.places }
     {
         // Each place is looked at, also behind one that doesn't read back, since `utf8` is said of all.

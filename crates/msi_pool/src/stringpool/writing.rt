@@ -4,7 +4,7 @@ ghost use Rattle.std.specs.Prelude.{◌≡◌, ◌+◌, ◌≤◌, ◌^◌, ◌�
 ghost use Rattle.std.specs.Prelude.{OnOk, IfOk, IfErr, IsErrOf, Some, option_map, unwrap_or, is_some, if◌then◌else◌};
 ghost use Rattle.std.specs.List.{flat_map};
 ghost use Rattle.msi_base.specs.Pages.{page_id};
-ghost use Rattle.msi_pool_places.specs.Pool.{place_bytes, plain_entry, pool_stream, data_stream, unindexed};
+ghost use Rattle.msi_pool_places.specs.Pool.{place_bytes, plain_entry, pool_stream, data_stream};
 ghost use Rattle.msi_pool_places.specs.Pool.{CountsFit};
 ghost use Rattle.msi_pool.specs.PoolLaws.{ReadsBack};
 ghost use Rattle.msi_pool.specs.PoolWriting.{is_refused_spelling, is_refused, piece_of};
@@ -34,9 +34,9 @@ const LONG_END: usize = 1 << 32;
 /// Fails with `InvalidInput` if the page can't encode a text in use, or if its encoding has 2^32 bytes or more.
 /// Otherwise it fails with `OutOfMemory`.
 pub fn pool_stream_of(pool: &StringPool) -> Result<Vec<u8>, Error>
-    ensures ok { IfOk result (λ bytes. pool_stream (unindexed pool.now) ≡ Some bytes.items) }
-    ensures spelled { OnOk result (ReadsBack (unindexed pool.now)) }
-    ensures refused { IsErrOf result InvalidInput ↔ IsTrue (is_refused (unindexed pool.now)) }
+    ensures ok { IfOk result (λ bytes. pool_stream pool.now ≡ Some bytes.items) }
+    ensures spelled { OnOk result (ReadsBack pool.now) }
+    ensures refused { IsErrOf result InvalidInput ↔ IsTrue (is_refused pool.now) }
     ensures kinds { IfErr result (λ kind. (kind ≡ InvalidInput) ⊎ (kind ≡ OutOfMemory)) }
 {
     if let Some(reason) = refusal(pool) {
@@ -54,9 +54,9 @@ pub fn pool_stream_of(pool: &StringPool) -> Result<Vec<u8>, Error>
 /// Fails with `InvalidInput` if the page can't encode a text in use, or if its encoding has 2^32 bytes or more.
 /// Otherwise it fails with `OutOfMemory`.
 pub fn data_stream_of(pool: &StringPool) -> Result<Vec<u8>, Error>
-    ensures ok { IfOk result (λ bytes. data_stream (unindexed pool.now) ≡ Some bytes.items) }
-    ensures spelled { OnOk result (ReadsBack (unindexed pool.now)) }
-    ensures refused { IsErrOf result InvalidInput ↔ IsTrue (is_refused (unindexed pool.now)) }
+    ensures ok { IfOk result (λ bytes. data_stream pool.now ≡ Some bytes.items) }
+    ensures spelled { OnOk result (ReadsBack pool.now) }
+    ensures refused { IsErrOf result InvalidInput ↔ IsTrue (is_refused pool.now) }
     ensures kinds { IfErr result (λ kind. (kind ≡ InvalidInput) ⊎ (kind ≡ OutOfMemory)) }
 {
     if let Some(reason) = refusal(pool) {
@@ -72,7 +72,7 @@ pub fn data_stream_of(pool: &StringPool) -> Result<Vec<u8>, Error>
 /// # Errors
 /// Fails with `InvalidInput` if the page can't encode a text in use, or if its encoding has 2^32 bytes or more.
 pub fn check_texts(pool: &StringPool) -> Result<(), Error>
-    ensures { result ≡ unless_refused ((is_refused (unindexed pool.now), InvalidInput) ∷ []) tt }
+    ensures { result ≡ unless_refused ((is_refused pool.now, InvalidInput) ∷ []) tt }
 {
     match refusal(pool) {
         Some(reason) => Err(Error::new(ErrorKind::InvalidInput, reason)),
@@ -88,7 +88,7 @@ fn header(page: CodePage, long: bool) -> u32
 }
 
 fn refusal(pool: &StringPool) -> Option<Reason>
-    ensures refused { is_some result ≡ is_refused (unindexed pool.now) }
+    ensures refused { is_some result ≡ is_refused pool.now }
     ensures many { length pool.now.places ≤ 16777215 }
     ensures counts { CountsFit pool.now.places }
 {
@@ -123,7 +123,7 @@ fn place_len(page: CodePage, place: &PlaceRef) -> Option<usize>
 }
 
 fn push_entries(held: &mut Vec<u8>, pool: &StringPool) -> Result<(), AllocError>
-    requires { is_refused (unindexed pool.now) ≡ false }
+    requires { is_refused pool.now ≡ false }
     ensures { OnOk result
         (held.new.items ≡ held.old.items ++ flat_map (entry_in pool.now.page) pool.now.places) }
 {
@@ -157,7 +157,7 @@ fn push_entry(held: &mut Vec<u8>, len: u32, count: u16) -> Result<(), AllocError
 }
 
 fn push_texts(held: &mut Vec<u8>, pool: &StringPool) -> Result<(), Error>
-    requires { is_refused (unindexed pool.now) ≡ false }
+    requires { is_refused pool.now ≡ false }
     ensures ok { OnOk result
         (held.new.items ≡ held.old.items ++ flat_map (piece_of pool.now.page) pool.now.places) }
     ensures kind { OnlyMemory result }

@@ -1,7 +1,7 @@
 use Rattle.std.proofs.Common.{◌≡◌, Some, refl, rules, subst}
 use Rattle.std.specs.Vec.Iter.{into_iter_items}
 use Rattle.msi_base.specs.declared.errors.ErrorKind.TheVariants.{InvalidInput}
-use Rattle.msi_pool_places.specs.Pool.{Pool, unindexed}
+use Rattle.msi_pool_places.specs.Pool.{Pool}
 use Rattle.msi_base.specs.Refusals.{AnswersFirst, IsRefusal, or_refused}
 use Rattle.msi_base.proofs.RefusalLemmas.{accepted_first, first_passed}
 use Rattle.msi_database_storage.specs.Streams.{Streams}
@@ -26,7 +26,7 @@ returns-in_err-renewed-clause-flushed g c =
     (subst (λ (pool : Pool). IsRefusal (or_refused InvalidInput (renewed_over c.args.is_summary_lent c.args.summary.now c.args.is_pool_changed pool c.args.database.now.streams)) c.in_err-renewed.field-0.0)
     c.pool.ensures (c.in_err-renewed.ensures.kind c.args.database.now.streams))
     (subst (λ (pool : Pool). AnswersFirst (text_refusals c.args.is_summary_lent c.args.summary.now c.args.is_pool_changed pool) c.from_residual.result) c.pool.ensures
-    (first_passed _ (text_refusals c.args.is_summary_lent c.args.summary.now c.args.is_pool_changed (unindexed c.pool.result.now)) c.in_err-renewed.field-0.0 c.from_residual.result
+    (first_passed _ (text_refusals c.args.is_summary_lent c.args.summary.now c.args.is_pool_changed c.pool.result.now) c.in_err-renewed.field-0.0 c.from_residual.result
     c.from_residual.ensures.1 c.in_err-renewed.ensures.early))
 
 pub returns-in_err-renewed-clause-faultless : goal.returns-in_err-renewed-clause-faultless
@@ -57,12 +57,12 @@ pub returns-in_err-renewed-clause-early : goal.returns-in_err-renewed-clause-ear
 returns-in_err-renewed-clause-early g c =
     let r = c.from_residual.result in
     subst (λ (pool : Pool). AnswersFirst (text_refusals c.args.is_summary_lent c.args.summary.now c.args.is_pool_changed pool) r) c.pool.ensures
-    (first_passed _ (text_refusals c.args.is_summary_lent c.args.summary.now c.args.is_pool_changed (unindexed c.pool.result.now)) c.in_err-renewed.field-0.0 r
+    (first_passed _ (text_refusals c.args.is_summary_lent c.args.summary.now c.args.is_pool_changed c.pool.result.now) c.in_err-renewed.field-0.0 r
     c.from_residual.ensures.1 c.in_err-renewed.ensures.early)
 
 pub returns-clause-early : goal.returns-clause-early
 returns-clause-early g c =
     let r = c.write_with.result in
     subst (λ (pool : Pool). AnswersFirst (text_refusals c.args.is_summary_lent c.args.summary.now c.args.is_pool_changed pool) r) c.pool.ensures
-    (accepted_first (text_refusals c.args.is_summary_lent c.args.summary.now c.args.is_pool_changed (unindexed c.pool.result.now)) c.in_ok-renewed.renewed r
+    (accepted_first (text_refusals c.args.is_summary_lent c.args.summary.now c.args.is_pool_changed c.pool.result.now) c.in_ok-renewed.renewed r
     c.in_ok-renewed.ensures.early)

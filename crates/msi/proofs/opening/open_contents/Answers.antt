@@ -1,5 +1,4 @@
 use Rattle.std.proofs.Common.{ap}
-use Rattle.msi_pool_places.specs.Pool.{unindexed}
 use Rattle.msi.specs.Meaning.{open_steps}
 use Rattle.msi.specs.Opening.{StopsAmong}
 use Rattle.msi.proofs.OpenStepLemmas.{database_stops, passed_on, pool_stops}
@@ -14,8 +13,8 @@ returns-in_err-pool-clause-kind c =
 pub returns-in_err-database-clause-kind : goal.returns-in_err-database-clause-kind
 returns-in_err-database-clause-kind c =
     passed_on (StopsAmong c.args.contents open_steps) c.from_residual-in_err-database.result c.in_err-database.field-0.0 c.from_residual-in_err-database.ensures.1
-    (database_stops c.args.contents c.in_ok-kind.kind c.in_ok-kind.ensures.ok c.in_ok-summary.summary c.in_ok-summary.ensures.ok c.in_err-database.field-0.0 (unindexed c.in_ok-pool.pool)
-    c.in_ok-pool.ensures.found (λ other held. ap unindexed (c.in_ok-pool.ensures.only other held)) c.in_err-database.ensures.kind)
+    (database_stops c.args.contents c.in_ok-kind.kind c.in_ok-kind.ensures.ok c.in_ok-summary.summary c.in_ok-summary.ensures.ok c.in_err-database.field-0.0 c.in_ok-pool.pool
+    c.in_ok-pool.ensures.found (λ other held. (c.in_ok-pool.ensures.only other held)) c.in_err-database.ensures.kind)
 
 pub returns-in_err-kind-clause-ok : goal.returns-in_err-kind-clause-ok
 returns-in_err-kind-clause-ok c = let p = err_from_is_err_and c.from_residual.result c.from_residual.ensures.1 in rw p.1 tt

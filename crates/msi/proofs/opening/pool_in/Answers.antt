@@ -1,5 +1,4 @@
 use Rattle.std.proofs.Common.{◌≡◌, ◌∙◌, ap, sym, Some, [], ◌∷◌, None}
-use Rattle.msi_pool_places.specs.Pool.{newly_indexed}
 use Rattle.std.specs.FinMap.{entries}
 use Rattle.msi_database_schema.specs.Keys.{string_data_name, table_key}
 use Rattle.msi_database_storage.specs.Streams.{stream_at}
@@ -10,7 +9,7 @@ use Rattle.msi.proofs.opening.pool_in.Goals as goal
 
 pub returns-in_err-stream-clause-only : goal.returns-in_err-stream-clause-only
 returns-in_err-stream-clause-only c = λ raw held.
-    memory_passed c.from_residual.result c.in_err-stream.field-0.0 (newly_indexed raw) c.from_residual.ensures.1 (no_pool_stream c.args.contents.now raw c.in_err-stream.ensures.only held)
+    memory_passed c.from_residual.result c.in_err-stream.field-0.0 raw c.from_residual.ensures.1 (no_pool_stream c.args.contents.now raw c.in_err-stream.ensures.only held)
 
 pub returns-in_err-bytes-clause-only : goal.returns-in_err-bytes-clause-only
 returns-in_err-bytes-clause-only c = λ raw held.

@@ -1,5 +1,4 @@
 use Rattle.std.proofs.Common.{◌≡◌, ◌∙◌, ap, sym, Some, refl}
-use Rattle.msi_pool.specs.Pool.{unindexed}
 use Rattle.std.specs.Prelude.{map, option_map}
 use Rattle.std.specs.FinMap.{entries}
 use Rattle.msi_table_cells.specs.CellValues.{row_values}
@@ -13,7 +12,7 @@ use Rattle.msi_database_storage.proofs.PassedLemmas.{memory_refused, no_value}
 use Rattle.msi_database_storage.proofs.reading.tables_beside.Goals as goal
 
 pub returns-clause-ok : goal.returns-clause-ok
-returns-clause-ok c = let streams = entries c.args.streams.now in let raw = unindexed c.args.pool.now in let values = map (row_values raw.places) in
+returns-clause-ok c = let streams = entries c.args.streams.now in let raw = c.args.pool.now in let values = map (row_values raw.places) in
     let tables : described_by streams raw tables_columns tables_name ≡ Some (values c.as_slice.result.now) =
     ap (option_map values) (ap (λ columns. stored_rows streams raw.long columns tables_name) (sym c.in_ok-tables_columns.ensures.ok) ∙ c.in_ok-tables.ensures.ok ∙ ap Some (sym c.as_slice.ensures.value)) in
     let columns : described_by streams raw columns_columns columns_name ≡ Some (values c.as_slice-2.result.now) =
@@ -26,12 +25,12 @@ returns-clause-ok c = let streams = entries c.args.streams.now in let raw = unin
     told_ok streams raw c.tables_of_cells.result raw.long s refl is c.tables_of_cells.ensures
 
 pub returns-clause-long : goal.returns-clause-long
-returns-clause-long c = let streams = entries c.args.streams.now in let raw = unindexed c.args.pool.now in let values = map (row_values raw.places) in
+returns-clause-long c = let streams = entries c.args.streams.now in let raw = c.args.pool.now in let values = map (row_values raw.places) in
     let s : SchemaRows = rows_of (values c.as_slice.result.now) (values c.as_slice-2.result.now) (values c.args.validation.now) in
     told_long streams raw c.tables_of_cells.result raw.long s refl c.tables_of_cells.ensures
 
 pub returns-clause-kind : goal.returns-clause-kind
-returns-clause-kind c = let streams = entries c.args.streams.now in let raw = unindexed c.args.pool.now in let values = map (row_values raw.places) in
+returns-clause-kind c = let streams = entries c.args.streams.now in let raw = c.args.pool.now in let values = map (row_values raw.places) in
     let tables : described_by streams raw tables_columns tables_name ≡ Some (values c.as_slice.result.now) =
     ap (option_map values) (ap (λ columns. stored_rows streams raw.long columns tables_name) (sym c.in_ok-tables_columns.ensures.ok) ∙ c.in_ok-tables.ensures.ok ∙ ap Some (sym c.as_slice.ensures.value)) in
     let columns : described_by streams raw columns_columns columns_name ≡ Some (values c.as_slice-2.result.now) =

@@ -1,7 +1,6 @@
 use Rattle.std.proofs.Common.{◌∙◌, ap, sym, Some}
 use Rattle.std.specs.FinMap.{entries}
 use Rattle.msi_base.proofs.RefusalLemmas.{err_passed}
-use Rattle.msi_pool.specs.Pool.{unindexed}
 use Rattle.msi_database_storage.proofs.ReadingLemmas.{standard_stored, unread_refused}
 use Rattle.msi_database_storage.proofs.reading.tables_in.Goals as goal
 
@@ -15,4 +14,4 @@ returns-clause-validation c =
 
 pub returns-in_err-validation-clause-kind : goal.returns-in_err-validation-clause-kind
 returns-in_err-validation-clause-kind c = err_passed c.from_residual-in_err-validation.result c.in_err-validation.field-0.0 _ c.from_residual-in_err-validation.ensures.1
-    (unread_refused (entries c.args.streams.now) (unindexed c.args.pool.now) c.in_ok-standard.standard c.in_err-validation.field-0.0 c.in_ok-standard.ensures.ok c.in_err-validation.ensures.kind)
+    (unread_refused (entries c.args.streams.now) c.args.pool.now c.in_ok-standard.standard c.in_err-validation.field-0.0 c.in_ok-standard.ensures.ok c.in_err-validation.ensures.kind)

@@ -1,7 +1,7 @@
 use Rattle.std.proofs.Common.{◌≡◌, ◌∙◌, Some, ap, inr, rules, subst, sym}
 use Rattle.std.specs.Prelude.{IfErr, IfOk, Ok}
 use Rattle.msi_base.specs.declared.errors.ErrorKind.TheVariants.{InvalidInput}
-use Rattle.msi_pool_places.specs.Pool.{Pool, unindexed}
+use Rattle.msi_pool_places.specs.Pool.{Pool}
 use Rattle.msi_container_write.specs.Borrowed.{contents_of}
 use Rattle.msi_base.specs.Refusals.{AnswersFirst, IsRefusal, or_refused}
 use Rattle.msi_base.proofs.RefusalLemmas.{accepted_first, first_passed}
@@ -75,7 +75,7 @@ returns-in_err-renewed-clause-early g c =
     let r = c.from_residual-in_err-renewed.result in
     texts_first _ c.args.self.now c.self.view_is c.in_ok-check_storages.ensures r
     (subst (λ (pool : Pool). AnswersFirst (text_refusals p.is_summary_lent p.summary p.is_pool_changed pool) r) c.pool.ensures
-    (first_passed _ (text_refusals p.is_summary_lent p.summary p.is_pool_changed (unindexed c.pool.result.now)) c.in_err-renewed.field-0.0 r
+    (first_passed _ (text_refusals p.is_summary_lent p.summary p.is_pool_changed c.pool.result.now) c.in_err-renewed.field-0.0 r
     c.from_residual-in_err-renewed.ensures.1 c.in_err-renewed.ensures.early))
 
 pub returns-in_err-streams-clause-early : goal.returns-in_err-streams-clause-early
@@ -84,7 +84,7 @@ returns-in_err-streams-clause-early g c =
     let r = c.from_residual-in_err-streams.result in
     texts_first _ c.args.self.now c.self.view_is c.in_ok-check_storages.ensures r
     (subst (λ (pool : Pool). AnswersFirst (text_refusals p.is_summary_lent p.summary p.is_pool_changed pool) r) c.pool.ensures
-    (accepted_first (text_refusals p.is_summary_lent p.summary p.is_pool_changed (unindexed c.pool.result.now)) c.in_ok-renewed.renewed r c.in_ok-renewed.ensures.early))
+    (accepted_first (text_refusals p.is_summary_lent p.summary p.is_pool_changed c.pool.result.now) c.in_ok-renewed.renewed r c.in_ok-renewed.ensures.early))
 
 pub returns-in_err-put_all-clause-early : goal.returns-in_err-put_all-clause-early
 returns-in_err-put_all-clause-early g c =
@@ -92,7 +92,7 @@ returns-in_err-put_all-clause-early g c =
     let r = c.from_residual-in_err-put_all.result in
     texts_first _ c.args.self.now c.self.view_is c.in_ok-check_storages.ensures r
     (subst (λ (pool : Pool). AnswersFirst (text_refusals p.is_summary_lent p.summary p.is_pool_changed pool) r) c.pool.ensures
-    (accepted_first (text_refusals p.is_summary_lent p.summary p.is_pool_changed (unindexed c.pool.result.now)) c.in_ok-renewed.renewed r c.in_ok-renewed.ensures.early))
+    (accepted_first (text_refusals p.is_summary_lent p.summary p.is_pool_changed c.pool.result.now) c.in_ok-renewed.renewed r c.in_ok-renewed.ensures.early))
 
 pub returns-clause-early : goal.returns-clause-early
 returns-clause-early g c =
@@ -100,4 +100,4 @@ returns-clause-early g c =
     let r = c.image_of.result in
     texts_first _ c.args.self.now c.self.view_is c.in_ok-check_storages.ensures r
     (subst (λ (pool : Pool). AnswersFirst (text_refusals p.is_summary_lent p.summary p.is_pool_changed pool) r) c.pool.ensures
-    (accepted_first (text_refusals p.is_summary_lent p.summary p.is_pool_changed (unindexed c.pool.result.now)) c.in_ok-renewed.renewed r c.in_ok-renewed.ensures.early))
+    (accepted_first (text_refusals p.is_summary_lent p.summary p.is_pool_changed c.pool.result.now) c.in_ok-renewed.renewed r c.in_ok-renewed.ensures.early))

@@ -1,4 +1,3 @@
-use Rattle.msi_pool_places.specs.Pool.{unindexed}
 use Rattle.msi_base.proofs.RefusalLemmas.{accepted_first, first_passed, err_passed}
 use Rattle.msi_database_changes.specs.Create.{create_table}
 use Rattle.msi_database.specs.Creating.{create_refusals}
@@ -10,15 +9,15 @@ use Rattle.msi_database.proofs.database.Database.create_table.Goals as goal
 
 pub finish_tables-requires-clause-kept : goal.finish_tables-requires-clause-kept
 finish_tables-requires-clause-kept c = let old = c.args.self.now in let new = c.in_ok-new.field-0.new in
-    makes_kept old (create_table old.database c.args.name.now c.args.columns) (base_with new.wide old) (unindexed new.pool) new.tables new.stored.items c.in_ok-new.ensures.ok
+    makes_kept old (create_table old.database c.args.name.now c.args.columns) (base_with new.wide old) new.pool new.tables new.stored.items c.in_ok-new.ensures.ok
 
 pub returns-clause-ok : goal.returns-clause-ok
 returns-clause-ok c = let old = c.args.self.now in let new = c.in_ok-new.field-0.new in
-    makes_leaves old c.finish_tables.new.self (create_table old.database c.args.name.now c.args.columns) (base_with new.wide old) (unindexed new.pool) new.tables new.stored.items c.in_ok-new.ensures.ok c.in_ok-finish_tables.ensures.ok
+    makes_leaves old c.finish_tables.new.self (create_table old.database c.args.name.now c.args.columns) (base_with new.wide old) new.pool new.tables new.stored.items c.in_ok-new.ensures.ok c.in_ok-finish_tables.ensures.ok
 
 pub finish_tables-requires-clause-sound : goal.finish_tables-requires-clause-sound
 finish_tables-requires-clause-sound c = let old = c.args.self.now in let new = c.in_ok-new.field-0.new in
-    makes_sound old (create_table old.database c.args.name.now c.args.columns) (base_with new.wide old) (unindexed new.pool) new.tables new.stored.items c.in_ok-new.ensures.ok
+    makes_sound old (create_table old.database c.args.name.now c.args.columns) (base_with new.wide old) new.pool new.tables new.stored.items c.in_ok-new.ensures.ok
 
 pub returns-in_err-new-clause-early : goal.returns-in_err-new-clause-early
 returns-in_err-new-clause-early c =

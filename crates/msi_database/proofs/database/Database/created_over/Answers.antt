@@ -1,5 +1,4 @@
 use Rattle.std.proofs.Common.{◌≡◌, true, subst, sym}
-use Rattle.msi_pool_places.specs.Pool.{unindexed}
 use Rattle.msi_database_changes.specs.Database.{is_sound}
 use Rattle.msi_database_changes.proofs.AtWidthLemmas.{sound_widened}
 use Rattle.msi_database_storage.specs.Kept.{Kept}
@@ -16,7 +15,7 @@ streams_for-requires-clause-held c = wide_held c.args.self.now c.args.pool c.is_
 pub returns-then-is_widened-clause-ok : goal.returns-then-is_widened-clause-ok
 returns-then-is_widened-clause-ok c = wide_created c.args.self.now c.args.pool c.is_widened.result c.is_widened.ensures c.if-is_widened.true c.args.name.now c.args.columns c.args.rows c.in_ok-wide.wide c.in_ok-wide.ensures.ok
     c.creation.result.new.stored.items c.in_ok-stored.stored.items c.in_ok-stored.ensures.ok c.creation.result.new.tables c.in_ok-tables.tables c.in_ok-tables.ensures.ok c.creation.result.new.wide c.creation.ensures.wide
-    c.creation.ensures.stored c.creation.ensures.tables (unindexed c.creation.result.new.pool) c.creation.ensures.pool c.creation.result.is_pool_used c.creation.ensures.uses
+    c.creation.ensures.stored c.creation.ensures.tables c.creation.result.new.pool c.creation.ensures.pool c.creation.result.is_pool_used c.creation.ensures.uses
 
 pub streams_for-requires-2-clause-held : goal.streams_for-requires-2-clause-held
 streams_for-requires-2-clause-held c = same_held c.args.self.now c.args.pool c.is_widened.result c.is_widened.ensures c.if-is_widened.false c.args.name.now c.args.columns c.args.rows c.requires.held
@@ -24,7 +23,7 @@ streams_for-requires-2-clause-held c = same_held c.args.self.now c.args.pool c.i
 pub returns-clause-ok : goal.returns-clause-ok
 returns-clause-ok c = same_created c.args.self.now c.args.pool c.is_widened.result c.is_widened.ensures c.if-is_widened.false c.args.name.now c.args.columns c.args.rows
     c.creation-2.result.new.stored.items c.in_ok-stored-2.stored.items c.in_ok-stored-2.ensures.ok c.creation-2.result.new.tables c.in_ok-tables-2.tables c.in_ok-tables-2.ensures.ok c.creation-2.result.new.wide c.creation-2.ensures.wide
-    c.creation-2.ensures.stored c.creation-2.ensures.tables (unindexed c.creation-2.result.new.pool) c.creation-2.ensures.pool c.creation-2.result.is_pool_used c.creation-2.ensures.uses
+    c.creation-2.ensures.stored c.creation-2.ensures.tables c.creation-2.result.new.pool c.creation-2.ensures.pool c.creation-2.result.is_pool_used c.creation-2.ensures.uses
 
 pub returns-in_err-wide-clause-ok : goal.returns-in_err-wide-clause-ok
 returns-in_err-wide-clause-ok c = no_value _ c.from_residual.result c.in_err-wide.field-0.0 c.from_residual.ensures.1

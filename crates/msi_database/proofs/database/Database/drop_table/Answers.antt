@@ -1,4 +1,3 @@
-use Rattle.msi_pool_places.specs.Pool.{unindexed}
 use Rattle.msi_base.proofs.RefusalLemmas.{accepted_first, first_passed, err_passed}
 use Rattle.msi_database_changes.specs.Drop.{drop_table, early_drop_refusals}
 use Rattle.msi_database.specs.Making.{base_with}
@@ -9,15 +8,15 @@ use Rattle.msi_database.proofs.database.Database.drop_table.Goals as goal
 
 pub finish_tables-requires-clause-kept : goal.finish_tables-requires-clause-kept
 finish_tables-requires-clause-kept c = let old = c.args.self.now in let made = c.in_ok-made.field-0.made in
-    makes_kept old (drop_table old.database c.args.name.now) (base_with made.wide old) (unindexed made.pool) made.tables made.stored.items c.in_ok-made.ensures.ok
+    makes_kept old (drop_table old.database c.args.name.now) (base_with made.wide old) made.pool made.tables made.stored.items c.in_ok-made.ensures.ok
 
 pub returns-clause-ok : goal.returns-clause-ok
 returns-clause-ok c = let old = c.args.self.now in let made = c.in_ok-made.field-0.made in
-    makes_leaves old c.finish_tables.new.self (drop_table old.database c.args.name.now) (base_with made.wide old) (unindexed made.pool) made.tables made.stored.items c.in_ok-made.ensures.ok c.in_ok-finish_tables.ensures.ok
+    makes_leaves old c.finish_tables.new.self (drop_table old.database c.args.name.now) (base_with made.wide old) made.pool made.tables made.stored.items c.in_ok-made.ensures.ok c.in_ok-finish_tables.ensures.ok
 
 pub finish_tables-requires-clause-sound : goal.finish_tables-requires-clause-sound
 finish_tables-requires-clause-sound c = let old = c.args.self.now in let made = c.in_ok-made.field-0.made in
-    makes_sound old (drop_table old.database c.args.name.now) (base_with made.wide old) (unindexed made.pool) made.tables made.stored.items c.in_ok-made.ensures.ok
+    makes_sound old (drop_table old.database c.args.name.now) (base_with made.wide old) made.pool made.tables made.stored.items c.in_ok-made.ensures.ok
 
 pub returns-in_err-made-clause-early : goal.returns-in_err-made-clause-early
 returns-in_err-made-clause-early c =

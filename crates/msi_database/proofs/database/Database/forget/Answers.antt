@@ -1,5 +1,4 @@
 use Rattle.std.proofs.Common.{not, ◌++◌, List, subst, ap, ◌∙◌, refl}
-use Rattle.msi_pool_places.specs.Pool.{unindexed}
 use Rattle.msi_database_changes.specs.Drop.{is_row_about}
 use Rattle.msi_database_changes.specs.declared.storing.Stored.{Stored}
 use Rattle.msi_database_storage.specs.Kept.{Kept}
@@ -17,7 +16,7 @@ stream_of-requires-clause-storable c =
 pub returns-clause-stored : goal.returns-clause-stored
 returns-clause-stored c = let d = c.args.self.now.database in
     c.in_ok-push.ensures.items ∙ ap (λ (es : List Stored). c.args.dropping.now.stored.items ++ es)
-    (forgot d c.args.name.now c.args.system.now c.in-Some.table.now c.in-Some.ensures c.in_ok-held.held.items c.in_ok-rows.rows.items c.in_ok-held.ensures.ok (unindexed c.self.inside.pool) (ap (λ (k : Kept). k.database.pool) c.self.view_is)
+    (forgot d c.args.name.now c.args.system.now c.in-Some.table.now c.in-Some.ensures c.in_ok-held.held.items c.in_ok-rows.rows.items c.in_ok-held.ensures.ok c.self.inside.pool (ap (λ (k : Kept). k.database.pool) c.self.view_is)
     c.in_ok-rows.ensures.ok c.in_ok-others.others c.in_ok-others.ensures.name c.in_ok-others.ensures.bytes)
 
 pub returns-in_err-held-clause-pool : goal.returns-in_err-held-clause-pool

@@ -1,5 +1,4 @@
 use Rattle.std.proofs.Common.{◌∙◌}
-use Rattle.msi_pool_places.specs.Pool.{unindexed}
 use Rattle.std.specs.Vec.Iter.{into_iter_items}
 use Rattle.msi_database.proofs.FreshKeptLemmas.{fresh_parts, names_are_own}
 use Rattle.msi_database.proofs.database.Database.new.Goals as goal
@@ -8,9 +7,9 @@ pub store_all-requires : goal.store_all-requires
 store_all-requires c = names_are_own (into_iter_items c.into_iter.result) c.in_ok-tables.field-0.stored.items c.into_iter.ensures.rest c.in_ok-tables.ensures.stored
 
 pub invariant_of-result : goal.invariant_of-result
-invariant_of-result c = (fresh_parts (unindexed c.in_ok-tables.field-0.pool) c.in_ok-tables.field-0.tables c.new-streams.result c.store_all.new.streams (into_iter_items c.into_iter.result)
+invariant_of-result c = (fresh_parts c.in_ok-tables.field-0.pool c.in_ok-tables.field-0.tables c.new-streams.result c.store_all.new.streams (into_iter_items c.into_iter.result)
     c.in_ok-tables.ensures.pool c.in_ok-tables.ensures.tables c.new-streams.ensures (c.into_iter.ensures.rest ∙ c.in_ok-tables.ensures.stored) c.in_ok-store_all.ensures.ok).1
 
 pub returns-clause-ok : goal.returns-clause-ok
-returns-clause-ok c = (fresh_parts (unindexed c.in_ok-tables.field-0.pool) c.in_ok-tables.field-0.tables c.new-streams.result c.store_all.new.streams (into_iter_items c.into_iter.result)
+returns-clause-ok c = (fresh_parts c.in_ok-tables.field-0.pool c.in_ok-tables.field-0.tables c.new-streams.result c.store_all.new.streams (into_iter_items c.into_iter.result)
     c.in_ok-tables.ensures.pool c.in_ok-tables.ensures.tables c.new-streams.ensures (c.into_iter.ensures.rest ∙ c.in_ok-tables.ensures.stored) c.in_ok-store_all.ensures.ok).0

@@ -1,6 +1,5 @@
 use Rattle.std.proofs.Common.{◌∙◌, ap, length, subst, sym}
 use Rattle.std.specs.FinMap.{entries}
-use Rattle.msi_pool_places.specs.Pool.{unindexed}
 use Rattle.msi_database_changes.proofs.RecountingLemmas.{many_counts}
 use Rattle.msi_database_storage.specs.Kept.{Kept}
 use Rattle.msi_database.specs.Keeping.{IsKeptDatabase}
@@ -13,10 +12,10 @@ set_counts-changed-requires c = ap length (c.counts.ensures ∙ c.in_ok-census.e
 
 pub invariant_of-self : goal.invariant_of-self
 invariant_of-self c = let d = c.self.inside in
-    left_kept (unindexed d.pool) (unindexed c.set_counts-changed.new.pool) d.tables (entries d.streams) c.args.self.now c.self.view_is c.counts.result.now (c.counts.ensures ∙ c.in_ok-census.ensures.counts)
+    left_kept d.pool c.set_counts-changed.new.pool d.tables (entries d.streams) c.args.self.now c.self.view_is c.counts.result.now (c.counts.ensures ∙ c.in_ok-census.ensures.counts)
     c.set_counts-changed.ensures.pool (subst IsKeptDatabase c.self.view_is c.self.invariant.kept) c.self.invariant.as_long c.in_ok-census.ensures.ok
 
 pub returns-clause-sound : goal.returns-clause-sound
 returns-clause-sound c = let d = c.self.inside in
-    sym (left_kept (unindexed d.pool) (unindexed c.set_counts-changed.new.pool) d.tables (entries d.streams) c.args.self.now c.self.view_is c.counts.result.now (c.counts.ensures ∙ c.in_ok-census.ensures.counts)
+    sym (left_kept d.pool c.set_counts-changed.new.pool d.tables (entries d.streams) c.args.self.now c.self.view_is c.counts.result.now (c.counts.ensures ∙ c.in_ok-census.ensures.counts)
     c.set_counts-changed.ensures.pool (subst IsKeptDatabase c.self.view_is c.self.invariant.kept) c.self.invariant.as_long c.in_ok-census.ensures.ok).known

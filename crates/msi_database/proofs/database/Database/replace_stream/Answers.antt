@@ -1,5 +1,4 @@
 use Rattle.std.proofs.Common.{Some}
-use Rattle.msi_pool_places.specs.Pool.{unindexed}
 use Rattle.msi_base.proofs.ResultLemmas.{on_err_from}
 use Rattle.msi_database.proofs.OtherLemmas.{absent_before, held_before, stays, there_after}
 use Rattle.msi_database.proofs.database.Database.replace_stream.Goals as goal
@@ -7,19 +6,19 @@ use Rattle.msi_database.proofs.database.Database.replace_stream.Goals as goal
 pub returns-in_err-replace-clause-absent : goal.returns-in_err-replace-clause-absent
 returns-in_err-replace-clause-absent c = let d = c.self.inside in
     on_err_from c.from_residual.result
-    (absent_before (unindexed d.pool) d.tables d.streams d.is_sound c.args.self.now c.self.view_is c.args.name c.in_err-replace.ensures.absent)
+    (absent_before d.pool d.tables d.streams d.is_sound c.args.self.now c.self.view_is c.args.name c.in_err-replace.ensures.absent)
 
 pub invariant_of-self-2 : goal.invariant_of-self-2
 invariant_of-self-2 c = let d = c.self.inside in
-    (stays (unindexed d.pool) d.tables d.streams d.is_sound c.args.self.now c.self.view_is c.replace.new.self c.args.name (Some c.args.bytes) c.self.invariant c.requires c.know_length.ensures c.in_ok-replace.ensures.ok).kept
+    (stays d.pool d.tables d.streams d.is_sound c.args.self.now c.self.view_is c.replace.new.self c.args.name (Some c.args.bytes) c.self.invariant c.requires c.know_length.ensures c.in_ok-replace.ensures.ok).kept
 
 pub returns-clause-ok : goal.returns-clause-ok
 returns-clause-ok c = let d = c.self.inside in
-    (stays (unindexed d.pool) d.tables d.streams d.is_sound c.args.self.now c.self.view_is c.replace.new.self c.args.name (Some c.args.bytes) c.self.invariant c.requires c.know_length.ensures c.in_ok-replace.ensures.ok).same
+    (stays d.pool d.tables d.streams d.is_sound c.args.self.now c.self.view_is c.replace.new.self c.args.name (Some c.args.bytes) c.self.invariant c.requires c.know_length.ensures c.in_ok-replace.ensures.ok).same
 
 pub returns-clause-held : goal.returns-clause-held
 returns-clause-held c = let d = c.self.inside in
-    held_before (unindexed d.pool) d.tables d.streams d.is_sound c.args.self.now c.self.view_is c.args.name c.in_ok-replace.field-0 c.in_ok-replace.ensures.held
+    held_before d.pool d.tables d.streams d.is_sound c.args.self.now c.self.view_is c.args.name c.in_ok-replace.field-0 c.in_ok-replace.ensures.held
 
 pub returns-clause-there : goal.returns-clause-there
 returns-clause-there c = there_after c.replace.new.self c.args.name c.in_ok-replace.ensures.there

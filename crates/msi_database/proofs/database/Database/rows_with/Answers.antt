@@ -2,7 +2,6 @@ use Rattle.std.proofs.Common.{◌≡◌, ap, sym, subst, ◌∙◌, Some, true}
 use Rattle.std.specs.Prelude.{IfErr}
 use Rattle.std.proofs.lemmas.Result.{IfOk-weaker}
 use Rattle.msi_base.specs.declared.errors.ErrorKind.TheVariants.{InvalidInput}
-use Rattle.msi_pool_places.specs.Pool.{unindexed}
 use Rattle.msi_base.specs.Refusals.{IsRefusal, or_refused}
 use Rattle.msi_database_changes.specs.Texts.{in_use}
 use Rattle.msi_database_changes.specs.Insert.{cells_added}
@@ -14,7 +13,7 @@ use Rattle.msi_database.proofs.database.Database.rows_with.Goals as goal
 at_last : (c : goal.After-add_rows) → rows_with c.args.self.now.database c.args.name.now c.args.values.items (in_use c.args.pool.now)
     ≡ or_refused InvalidInput (cells_added true c.columns-columns.result.now (in_use c.args.pool.now) c.in_ok-held.held.items c.args.values.items)
 at_last c = rows_at_last c.args.self.now.database c.args.name.now c.in-Some.table.now c.in-Some.ensures c.columns-columns.result.now c.columns-columns.ensures.columns
-    c.in_ok-held.held.items c.in_ok-held.ensures.ok c.args.values.items c.args.pool.now (unindexed c.pool.result.now) c.pool.ensures.places c.as_slice.result.now c.as_slice.ensures.value c.as_slice-2.result.now c.as_slice-2.ensures.value
+    c.in_ok-held.held.items c.in_ok-held.ensures.ok c.args.values.items c.args.pool.now c.pool.result.now c.pool.ensures.places c.as_slice.result.now c.as_slice.ensures.value c.as_slice-2.result.now c.as_slice-2.ensures.value
     c.in_ok-refuse_rows.ensures.ok
 
 pub returns-clause-ok : goal.returns-clause-ok

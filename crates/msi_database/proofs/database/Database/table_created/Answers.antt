@@ -1,6 +1,5 @@
 use Rattle.std.proofs.Common.{List, ap, subst, sym, ◌∙◌}
 use Rattle.std.proofs.lemmas.Result.{IfOk-weaker}
-use Rattle.msi_pool_places.specs.Pool.{unindexed}
 use Rattle.msi_table_values.specs.Columns.{ColumnDef}
 use Rattle.msi_base.specs.Refusals.{first_refusal}
 use Rattle.msi_base.proofs.RefusalLemmas.{err_passed, first_answered, none_answered}
@@ -20,44 +19,44 @@ returns-in_err-refuse_create-clause-kind c = let k = c.in_err-refuse_create.fiel
 pub returns-in_err-rows-clause-kind : goal.returns-in_err-rows-clause-kind
 returns-in_err-rows-clause-kind c = let d = c.self.inside in let k = c.in_err-rows.field-0.0 in
     err_passed c.from_residual-in_err-rows.result k _ c.from_residual-in_err-rows.ensures.1
-    (rows_refused c.args.self.now (subst IsKeptDatabase c.self.view_is c.self.invariant.kept) c.in_ok-refuse_create.ensures.sound (unindexed d.pool) (ap (λ (k : Kept). k.database.pool) c.self.view_is)
-    (unindexed c.in_ok-clone.field-0) (ap unindexed c.in_ok-clone.ensures.ok) c.new-pool.result c.new-pool.ensures c.args.name.now c.args.columns c.as_slice.result.now c.as_slice.ensures
+    (rows_refused c.args.self.now (subst IsKeptDatabase c.self.view_is c.self.invariant.kept) c.in_ok-refuse_create.ensures.sound d.pool (ap (λ (k : Kept). k.database.pool) c.self.view_is)
+    c.in_ok-clone.field-0 (c.in_ok-clone.ensures.ok) c.new-pool.result c.new-pool.ensures c.args.name.now c.args.columns c.as_slice.result.now c.as_slice.ensures
     c.in_ok-refuse_create.field-0 c.in_ok-refuse_create.ensures.value c.as_slice-2.result.now c.as_slice-2.ensures k c.in_err-rows.ensures.kind)
 
 pub created_over-requires-clause-held : goal.created_over-requires-clause-held
 created_over-requires-clause-held c = let d = c.self.inside in
-    (create_called c.args.self.now (subst IsKeptDatabase c.self.view_is c.self.invariant.kept) c.in_ok-refuse_create.ensures.sound (unindexed d.pool) (ap (λ (k : Kept). k.database.pool) c.self.view_is)
-    (unindexed c.in_ok-clone.field-0) (ap unindexed c.in_ok-clone.ensures.ok) c.new-pool.result c.new-pool.ensures c.args.name.now c.args.columns c.as_slice.result.now c.as_slice.ensures
+    (create_called c.args.self.now (subst IsKeptDatabase c.self.view_is c.self.invariant.kept) c.in_ok-refuse_create.ensures.sound d.pool (ap (λ (k : Kept). k.database.pool) c.self.view_is)
+    c.in_ok-clone.field-0 (c.in_ok-clone.ensures.ok) c.new-pool.result c.new-pool.ensures c.args.name.now c.args.columns c.as_slice.result.now c.as_slice.ensures
     c.in_ok-refuse_create.field-0 c.in_ok-refuse_create.ensures.value c.as_slice-2.result.now c.as_slice-2.ensures c.in_ok-rows.rows c.rows_described.new.pool c.in_ok-rows.ensures.page c.in_ok-rows.ensures.long c.in_ok-rows.ensures.ok).held
 
 pub returns-clause-ok : goal.returns-clause-ok
 returns-clause-ok c = let d = c.self.inside in let old = c.args.self.now in
-    IfOk-weaker c.created_over.result (λ made. IsCreated old c.args.name.now c.args.columns c.in_ok-rows.rows c.rows_described.new.pool made.new.wide made.new.stored.items made.new.tables (unindexed made.new.pool) made.is_pool_used) _
+    IfOk-weaker c.created_over.result (λ made. IsCreated old c.args.name.now c.args.columns c.in_ok-rows.rows c.rows_described.new.pool made.new.wide made.new.stored.items made.new.tables made.new.pool made.is_pool_used) _
     (λ made is. made_with old c.args.name.now c.args.columns c.in_ok-rows.rows c.rows_described.new.pool
-    (create_called c.args.self.now (subst IsKeptDatabase c.self.view_is c.self.invariant.kept) c.in_ok-refuse_create.ensures.sound (unindexed d.pool) (ap (λ (k : Kept). k.database.pool) c.self.view_is)
-    (unindexed c.in_ok-clone.field-0) (ap unindexed c.in_ok-clone.ensures.ok) c.new-pool.result c.new-pool.ensures c.args.name.now c.args.columns c.as_slice.result.now c.as_slice.ensures
+    (create_called c.args.self.now (subst IsKeptDatabase c.self.view_is c.self.invariant.kept) c.in_ok-refuse_create.ensures.sound d.pool (ap (λ (k : Kept). k.database.pool) c.self.view_is)
+    c.in_ok-clone.field-0 (c.in_ok-clone.ensures.ok) c.new-pool.result c.new-pool.ensures c.args.name.now c.args.columns c.as_slice.result.now c.as_slice.ensures
     c.in_ok-refuse_create.field-0 c.in_ok-refuse_create.ensures.value c.as_slice-2.result.now c.as_slice-2.ensures c.in_ok-rows.rows c.rows_described.new.pool c.in_ok-rows.ensures.page c.in_ok-rows.ensures.long c.in_ok-rows.ensures.ok)
-    made.new.wide made.new.stored.items made.new.tables (unindexed made.new.pool) made.is_pool_used is)
+    made.new.wide made.new.stored.items made.new.tables made.new.pool made.is_pool_used is)
     c.created_over.ensures.ok
 
 pub returns-clause-used : goal.returns-clause-used
 returns-clause-used c = let d = c.self.inside in let old = c.args.self.now in
-    IfOk-weaker c.created_over.result (λ made. IsCreated old c.args.name.now c.args.columns c.in_ok-rows.rows c.rows_described.new.pool made.new.wide made.new.stored.items made.new.tables (unindexed made.new.pool) made.is_pool_used) _
+    IfOk-weaker c.created_over.result (λ made. IsCreated old c.args.name.now c.args.columns c.in_ok-rows.rows c.rows_described.new.pool made.new.wide made.new.stored.items made.new.tables made.new.pool made.is_pool_used) _
     (λ made is. told_with old c.args.name.now c.args.columns c.in_ok-rows.rows c.rows_described.new.pool
-    (create_called c.args.self.now (subst IsKeptDatabase c.self.view_is c.self.invariant.kept) c.in_ok-refuse_create.ensures.sound (unindexed d.pool) (ap (λ (k : Kept). k.database.pool) c.self.view_is)
-    (unindexed c.in_ok-clone.field-0) (ap unindexed c.in_ok-clone.ensures.ok) c.new-pool.result c.new-pool.ensures c.args.name.now c.args.columns c.as_slice.result.now c.as_slice.ensures
+    (create_called c.args.self.now (subst IsKeptDatabase c.self.view_is c.self.invariant.kept) c.in_ok-refuse_create.ensures.sound d.pool (ap (λ (k : Kept). k.database.pool) c.self.view_is)
+    c.in_ok-clone.field-0 (c.in_ok-clone.ensures.ok) c.new-pool.result c.new-pool.ensures c.args.name.now c.args.columns c.as_slice.result.now c.as_slice.ensures
     c.in_ok-refuse_create.field-0 c.in_ok-refuse_create.ensures.value c.as_slice-2.result.now c.as_slice-2.ensures c.in_ok-rows.rows c.rows_described.new.pool c.in_ok-rows.ensures.page c.in_ok-rows.ensures.long c.in_ok-rows.ensures.ok)
-    made.new.wide made.new.stored.items made.new.tables (unindexed made.new.pool) made.is_pool_used is)
+    made.new.wide made.new.stored.items made.new.tables made.new.pool made.is_pool_used is)
     c.created_over.ensures.ok
 
 pub returns-clause-names : goal.returns-clause-names
 returns-clause-names c = let d = c.self.inside in let old = c.args.self.now in
-    IfOk-weaker c.created_over.result (λ made. IsCreated old c.args.name.now c.args.columns c.in_ok-rows.rows c.rows_described.new.pool made.new.wide made.new.stored.items made.new.tables (unindexed made.new.pool) made.is_pool_used) _
+    IfOk-weaker c.created_over.result (λ made. IsCreated old c.args.name.now c.args.columns c.in_ok-rows.rows c.rows_described.new.pool made.new.wide made.new.stored.items made.new.tables made.new.pool made.is_pool_used) _
     (λ made is. named_with old c.args.name.now c.args.columns c.in_ok-rows.rows c.rows_described.new.pool
-    (create_called c.args.self.now (subst IsKeptDatabase c.self.view_is c.self.invariant.kept) c.in_ok-refuse_create.ensures.sound (unindexed d.pool) (ap (λ (k : Kept). k.database.pool) c.self.view_is)
-    (unindexed c.in_ok-clone.field-0) (ap unindexed c.in_ok-clone.ensures.ok) c.new-pool.result c.new-pool.ensures c.args.name.now c.args.columns c.as_slice.result.now c.as_slice.ensures
+    (create_called c.args.self.now (subst IsKeptDatabase c.self.view_is c.self.invariant.kept) c.in_ok-refuse_create.ensures.sound d.pool (ap (λ (k : Kept). k.database.pool) c.self.view_is)
+    c.in_ok-clone.field-0 (c.in_ok-clone.ensures.ok) c.new-pool.result c.new-pool.ensures c.args.name.now c.args.columns c.as_slice.result.now c.as_slice.ensures
     c.in_ok-refuse_create.field-0 c.in_ok-refuse_create.ensures.value c.as_slice-2.result.now c.as_slice-2.ensures c.in_ok-rows.rows c.rows_described.new.pool c.in_ok-rows.ensures.page c.in_ok-rows.ensures.long c.in_ok-rows.ensures.ok)
-    made.new.wide made.new.stored.items made.new.tables (unindexed made.new.pool) made.is_pool_used is)
+    made.new.wide made.new.stored.items made.new.tables made.new.pool made.is_pool_used is)
     c.created_over.ensures.ok
 
 pub returns-in_err-refuse_create-clause-early : goal.returns-in_err-refuse_create-clause-early

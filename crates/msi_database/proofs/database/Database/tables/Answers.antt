@@ -1,8 +1,7 @@
 use Rattle.std.proofs.Common.{sym, ◌∙◌}
-use Rattle.msi_pool_places.specs.Pool.{unindexed}
 use Rattle.std.specs.FinMap.{entries}
 use Rattle.msi_database.proofs.TablesKeptLemmas.{listed_kept}
 use Rattle.msi_database.proofs.database.Database.tables.Goals as goal
 
 pub returns : goal.returns
-returns c = rw (← c.self.view_is) (c.as_slice.ensures ∙ sym (listed_kept (unindexed c.self.inside.pool) c.self.inside.tables (entries c.self.inside.streams) c.self.invariant.as_long))
+returns c = rw (← c.self.view_is) (c.as_slice.ensures ∙ sym (listed_kept c.self.inside.pool c.self.inside.tables (entries c.self.inside.streams) c.self.invariant.as_long))

@@ -1,5 +1,4 @@
 use Rattle.std.proofs.Common.{◌≡◌, ◌∷◌, [], subst, sym}
-use Rattle.msi_pool_places.specs.Pool.{unindexed}
 use Rattle.std.proofs.lemmas.Result.{IfOk-weaker, on_ok_weaker}
 use Rattle.msi_query.specs.Queries.{UpdateQuery}
 use Rattle.msi_database_changes.specs.RowUpdates.{update_of}
@@ -15,14 +14,14 @@ use Rattle.msi_database.proofs.database.Database.update_rows.Goals as goal
 
 pub finish_rows-requires-clause-kept : goal.finish_rows-requires-clause-kept
 finish_rows-requires-clause-kept c = let old = c.args.self.now in
-    makes_kept old (update_rows old.database (update_of c.update_parts.result)) (base_with c.in_ok-new.new.wide old) (unindexed c.in_ok-new.new.pool) (tables_listed (base_with c.in_ok-new.new.wide old).database) (c.in_ok-new.new.stored ∷ []) c.in_ok-new.ensures.ok
+    makes_kept old (update_rows old.database (update_of c.update_parts.result)) (base_with c.in_ok-new.new.wide old) c.in_ok-new.new.pool (tables_listed (base_with c.in_ok-new.new.wide old).database) (c.in_ok-new.new.stored ∷ []) c.in_ok-new.ensures.ok
 
 pub returns-clause-ok : goal.returns-clause-ok
 returns-clause-ok c = let old = c.args.self.now in let new = c.finish_rows.new.self in
     let same : update_of c.update_parts.result ≡ c.args.query = λ i. record { table = c.update_parts.ensures.table i; sets = c.update_parts.ensures.sets i; condition = c.update_parts.ensures.condition i } in
-    on_ok_weaker {P = new ≡ kept_of (unindexed c.in_ok-new.new.pool) (tables_listed (base_with c.in_ok-new.new.wide old).database) (stored_in (c.in_ok-new.new.stored ∷ []) (base_with c.in_ok-new.new.wide old).streams)} c.finish_rows.result
+    on_ok_weaker {P = new ≡ kept_of c.in_ok-new.new.pool (tables_listed (base_with c.in_ok-new.new.wide old).database) (stored_in (c.in_ok-new.new.stored ∷ []) (base_with c.in_ok-new.new.wide old).streams)} c.finish_rows.result
     (λ e. subst (λ (q : UpdateQuery). Leaves old (update_rows old.database q) new) same
-    (makes_leaves old new (update_rows old.database (update_of c.update_parts.result)) (base_with c.in_ok-new.new.wide old) (unindexed c.in_ok-new.new.pool) (tables_listed (base_with c.in_ok-new.new.wide old).database) (c.in_ok-new.new.stored ∷ []) c.in_ok-new.ensures.ok e))
+    (makes_leaves old new (update_rows old.database (update_of c.update_parts.result)) (base_with c.in_ok-new.new.wide old) c.in_ok-new.new.pool (tables_listed (base_with c.in_ok-new.new.wide old).database) (c.in_ok-new.new.stored ∷ []) c.in_ok-new.ensures.ok e))
     c.finish_rows.ensures.ok
 
 pub returns-clause-used : goal.returns-clause-used
@@ -35,7 +34,7 @@ returns-clause-used c = let old = c.args.self.now in
 
 pub finish_rows-requires-clause-sound : goal.finish_rows-requires-clause-sound
 finish_rows-requires-clause-sound c = let old = c.args.self.now in
-    makes_sound old (update_rows old.database (update_of c.update_parts.result)) (base_with c.in_ok-new.new.wide old) (unindexed c.in_ok-new.new.pool) (tables_listed (base_with c.in_ok-new.new.wide old).database) (c.in_ok-new.new.stored ∷ []) c.in_ok-new.ensures.ok
+    makes_sound old (update_rows old.database (update_of c.update_parts.result)) (base_with c.in_ok-new.new.wide old) c.in_ok-new.new.pool (tables_listed (base_with c.in_ok-new.new.wide old).database) (c.in_ok-new.new.stored ∷ []) c.in_ok-new.ensures.ok
 
 pub returns-in_err-new-clause-early : goal.returns-in_err-new-clause-early
 returns-in_err-new-clause-early c = let d = c.args.self.now.database in

@@ -1,7 +1,6 @@
 use Rattle.std.proofs.Common.{ap, subst, ◌∙◌, fold, List, map}
 use Rattle.std.specs.FinMap.{entries}
 use Rattle.msi_container_format.specs.Streams as maps
-use Rattle.msi_pool_places.specs.Pool.{IndexedPool, unindexed}
 use Rattle.msi_table.specs.Tables.{TableDef, long_table_of}
 use Rattle.msi_database_storage.specs.Kept.{Kept}
 use Rattle.msi_database_storage.specs.Streams.{Streams}
@@ -14,8 +13,8 @@ use Rattle.msi_database.proofs.database.Database.widened.Goals as goal
 
 pub invariant_of-result : goal.invariant_of-result
 invariant_of-result c = let d = c.self.inside in let old = c.args.self.now in
-    (wide_parts old (subst IsKeptDatabase c.self.view_is c.self.invariant.kept) c.requires (unindexed d.pool) (ap (λ (k : Kept). k.database.pool) c.self.view_is)
-    (unindexed c.widen.new.self) (ap unindexed c.widen.ensures ∙ ap (λ (p : IndexedPool). long_pool (unindexed p)) c.in_ok-pool.ensures.ok)
+    (wide_parts old (subst IsKeptDatabase c.self.view_is c.self.invariant.kept) c.requires d.pool (ap (λ (k : Kept). k.database.pool) c.self.view_is)
+    c.widen.new.self (c.widen.ensures ∙ ap long_pool c.in_ok-pool.ensures.ok)
     c.in_ok-tables.tables (c.in_ok-tables.ensures.ok ∙ ap (λ (ts : List TableDef). map long_table_of ts) c.tables.ensures)
     (entries c.store_unlisted_long.new.streams) (c.in_ok-store_unlisted_long.ensures.ok
     ∙ ap (λ (s : Streams). with_long_rows s (unlisted_table old.database)) (c.in_ok-store_tables_long.ensures.ok
@@ -24,8 +23,8 @@ invariant_of-result c = let d = c.self.inside in let old = c.args.self.now in
 
 pub returns-clause-ok : goal.returns-clause-ok
 returns-clause-ok c = let d = c.self.inside in let old = c.args.self.now in
-    (wide_parts old (subst IsKeptDatabase c.self.view_is c.self.invariant.kept) c.requires (unindexed d.pool) (ap (λ (k : Kept). k.database.pool) c.self.view_is)
-    (unindexed c.widen.new.self) (ap unindexed c.widen.ensures ∙ ap (λ (p : IndexedPool). long_pool (unindexed p)) c.in_ok-pool.ensures.ok)
+    (wide_parts old (subst IsKeptDatabase c.self.view_is c.self.invariant.kept) c.requires d.pool (ap (λ (k : Kept). k.database.pool) c.self.view_is)
+    c.widen.new.self (c.widen.ensures ∙ ap long_pool c.in_ok-pool.ensures.ok)
     c.in_ok-tables.tables (c.in_ok-tables.ensures.ok ∙ ap (λ (ts : List TableDef). map long_table_of ts) c.tables.ensures)
     (entries c.store_unlisted_long.new.streams) (c.in_ok-store_unlisted_long.ensures.ok
     ∙ ap (λ (s : Streams). with_long_rows s (unlisted_table old.database)) (c.in_ok-store_tables_long.ensures.ok

@@ -14,5 +14,4 @@ invariant_of-self c =
       most = omega (arith, same, c.self.invariant.most);
       counts = subst CountsFit (sym c.forget_texts.ensures.places) (CountsFit-without c.args.is_named.now before c.self.invariant.counts);
       indexed = c.forget_texts.ensures.indexed;
-      few = omega (arith, c.forget_texts.ensures.operations, c.self.invariant.few);
     }

@@ -1,4 +1,3 @@
-use Rattle.std.proofs.Common.{arith}
 use Rattle.msi_pool.proofs.stringpool.pool.StringPool.from_parts.Goals as goal
 
 pub invariant_of-result : goal.invariant_of-result
@@ -6,5 +5,4 @@ invariant_of-result c = record {
   most = c.requires.most;
   counts = c.requires.joined.fit;
   indexed = c.requires.joined;
-  few = omega arith;
 }

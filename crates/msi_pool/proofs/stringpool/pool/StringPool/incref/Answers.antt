@@ -14,7 +14,6 @@ invariant_of-self-2 c =
       most = taken_most c.self.inside.long before after text (c.in_ok-at.at + 1) c.in_ok-at.ensures.ok c.self.invariant.most;
       counts = (taken_in_range c.self.inside.long before after text (c.in_ok-at.at + 1) c.in_ok-at.ensures.ok).1 c.self.invariant.counts;
       indexed = c.take.ensures.indexed;
-      few = c.take.ensures.most;
     }
 
 pub returns-clause-holds : goal.returns-clause-holds

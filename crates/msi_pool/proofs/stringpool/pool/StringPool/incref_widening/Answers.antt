@@ -13,7 +13,6 @@ invariant_of-self-then-len-gt-MAX_SHORT_PLACES c =
       most = taken_most true before after text (c.in_ok-at.at + 1) c.in_ok-at.ensures.ok c.self.invariant.most;
       counts = (taken_in_range true before after text (c.in_ok-at.at + 1) c.in_ok-at.ensures.ok).1 c.self.invariant.counts;
       indexed = c.take.ensures.indexed;
-      few = c.take.ensures.most;
     }
 
 pub invariant_of-self-else-len-gt-MAX_SHORT_PLACES : goal.invariant_of-self-else-len-gt-MAX_SHORT_PLACES
@@ -25,5 +24,4 @@ invariant_of-self-else-len-gt-MAX_SHORT_PLACES c =
       most = taken_most true before after text (c.in_ok-at.at + 1) c.in_ok-at.ensures.ok c.self.invariant.most;
       counts = (taken_in_range true before after text (c.in_ok-at.at + 1) c.in_ok-at.ensures.ok).1 c.self.invariant.counts;
       indexed = c.take.ensures.indexed;
-      few = c.take.ensures.most;
     }

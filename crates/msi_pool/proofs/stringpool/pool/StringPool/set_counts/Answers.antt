@@ -14,5 +14,4 @@ invariant_of-self c =
       most = omega (arith, same, c.self.invariant.most);
       counts = subst CountsFit (sym c.set_counts.ensures.places) (CountsFit-with_counts c.args.counts.now before (λ i e inside. omega (arith, c.type_inv.counts i, get_or_default_zero c.args.counts.now i e inside)));
       indexed = c.set_counts.ensures.indexed;
-      few = omega (arith, c.set_counts.ensures.operations);
     }
