@@ -35,8 +35,8 @@ pub enum ValueRef {
 }
 
 impl ValueRef {
-    /// Returns the cell of a value, whose text the pool takes. If it fails, the pool is as before, but for its count
-    /// of operations; only a text can be refused, as nothing else takes memory.
+    /// Returns the cell of a value, whose text the pool takes. If it fails, the pool is as before; only a text can be
+    /// refused, as nothing else takes memory.
     ///
     /// # Errors
     /// Fails with `InvalidInput` if the pool is full, or with `OutOfMemory`.
@@ -57,8 +57,7 @@ impl ValueRef {
         }
     }
 
-    /// Gives back the place of the cell's text, if it has one. If it fails, the pool is as before, but for its
-    /// count of operations.
+    /// Gives back the place of the cell's text, if it has one. If it fails, the pool is as before.
     ///
     /// # Errors
     /// Fails with `InvalidData` if that place is free or past the end, and otherwise with `OutOfMemory`.
