@@ -3,12 +3,9 @@
 
 mod copying;
 mod decoding;
-mod fresh;
 pub mod listing;
 mod naming;
 pub mod parts;
 mod reading;
-mod recounting;
 mod soundness;
 mod storing;
-mod widening;
