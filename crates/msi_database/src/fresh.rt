@@ -16,14 +16,14 @@ use msi_base::errors::Error;
 use msi_base::text::Items;
 use msi_container_format::contents::StreamMap;
 use msi_database_changes::insert::add_rows;
-use msi_database_changes::parts::{Stored, store_all};
 use msi_database_changes::texts::PoolInUse;
+use msi_database_changes::{Stored, store_all};
 use msi_database_schema::description::{tables_row, validation_rows};
-use msi_database_schema::parts::{column_rows, named_table};
 use msi_database_schema::system::{
     COLUMNS, TABLES, VALIDATION, columns_columns, tables_columns, validation_columns,
 };
-use msi_database_storage::parts::stream_of;
+use msi_database_schema::{column_rows, named_table};
+use msi_database_storage::stream_of;
 use msi_pool::stringpool::StringPool;
 use msi_table::Table;
 use msi_table_cells::cell::ValueRef;

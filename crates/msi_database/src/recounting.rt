@@ -22,10 +22,10 @@ use crate::reasons;
 use msi_base::errors::{Error, ErrorKind, Reason};
 use msi_container_format::contents::StreamMap;
 use msi_database_changes::counting::count_beside;
-use msi_database_schema::parts::named_table;
+use msi_database_schema::named_table;
 use msi_database_schema::system::{VALIDATION, validation_columns};
 use msi_database_storage::listing::table_named;
-use msi_database_storage::parts::{
+use msi_database_storage::{
     are_sound_tables, fits_width, is_standard, stream_bytes, tables_census,
 };
 use msi_pool::parts::set_counts;
