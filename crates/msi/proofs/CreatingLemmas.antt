@@ -12,7 +12,7 @@ use Rattle.msi_container_write.specs.Layout.{layout}
 use Rattle.msi_database_changes.specs.Database.{is_sound}
 use Rattle.msi_database_storage.specs.Kept.{Kept}
 use Rattle.msi_database_storage.specs.Streams.{Streams}
-use Rattle.msi_database_storage.specs.Fresh as databases
+use Rattle.msi_database.specs.Fresh as databases
 use Rattle.msi_database.proofs.FreshLemmas.{fresh_is_kept}
 use Rattle.msi.specs.declared.kinds.PackageType.{PackageType}
 use Rattle.msi.specs.Kinds.{title_of}

@@ -12,7 +12,7 @@ use Rattle.msi_database_changes.specs.Database.{CountsAreExact, is_sound, rows_o
 use Rattle.msi_table_cells.specs.KeyOrder.{key_of, same_key}
 use Rattle.msi_database_changes.specs.Laws.{KeysAreDistinct}
 use Rattle.msi_database_changes.proofs.DescribingLemmas.{rows_at_is}
-use Rattle.msi_database_storage.specs.Fresh as databases
+use Rattle.msi_database.specs.Fresh as databases
 use Rattle.msi_database.proofs.FreshLemmas.{fresh_is_kept}
 use Rattle.msi_database_storage.proofs.MapLemmas as maps
 use Rattle.msi_database_storage.proofs.StoredLemmas.{AreNames, all_names}

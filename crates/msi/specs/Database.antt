@@ -7,8 +7,8 @@ pub use Rattle.msi_database.specs.Dropping
 pub use Rattle.msi_database.specs.OwnStreams
 pub use Rattle.msi_database.specs.Others
 pub use Rattle.msi_database.specs.Fresh
-pub use Rattle.msi_database_storage.specs.Fresh as FreshDatabases
-pub use Rattle.msi_database_storage.specs.FreshParts
+pub use Rattle.msi_database.specs.Fresh as FreshDatabases
+pub use Rattle.msi_database.specs.FreshParts
 pub use Rattle.msi_database_storage.specs.Reading
 pub use Rattle.msi_database.specs.Creating
 pub use Rattle.msi_database.specs.Recounting

@@ -12,7 +12,7 @@ use Rattle.msi_summary_properties.specs.PropertyStream as properties
 use Rattle.msi_container_write.specs.Layout.{layout}
 use Rattle.msi_database_changes.specs.Database.{CountsAreExact, Database, is_sound}
 use Rattle.msi_database_changes.specs.Laws.{KeysAreDistinct}
-use Rattle.msi_database_storage.specs.Fresh as databases
+use Rattle.msi_database.specs.Fresh as databases
 use Rattle.msi.specs.declared.kinds.PackageType.{PackageType}
 use Rattle.msi.specs.Kinds.{title_of}
 use Rattle.msi.specs.State.{State, parts_of}

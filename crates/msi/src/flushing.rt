@@ -22,7 +22,6 @@ use msi_container_format::contents::Bytes;
 use msi_container_format::name::Name;
 use msi_container_write::parts::{BorrowedContents, image_to};
 use msi_database::Database;
-use msi_database::parts::{put_back_stream, replace_stream};
 use msi_summary::SummaryInfo;
 use std::alloc::Global;
 use std::vec::IntoIter;
@@ -88,11 +87,11 @@ pub(crate) fn write_with<F: Device>(
     let Some((name, bytes)) = renewed.next() else {
         return write_streams(alloc, root, database, device);
     };
-    let before = replace_stream(database, name.duplicate(), bytes)?;
+    let before = database.replace_stream(name.duplicate(), bytes)?;
     match write_with(alloc, root, database, renewed, device) {
         Ok(()) => Ok(()),
         Err(error) => {
-            put_back_stream(database, &name, before);
+            database.put_back_stream(&name, before);
             Err(error)
         }
     }

@@ -36,7 +36,9 @@ pub use msi_base::{CodePage, Error, ErrorKind, IntoText, Items, Text};
 pub use msi_categories::{Category, LanguageId, Timestamp};
 pub use msi_container_device::{Buffered, Device, Memory, Metered, Source};
 pub use msi_container_format::streamname;
-pub use msi_pool::{IndexedPool, Operations, StringPool, StringPoolBuilder, StringRef, pool_streams};
+pub use msi_pool::{
+    IndexedPool, Operations, StringPool, StringPoolBuilder, StringRef, pool_streams,
+};
 pub use msi_query::{Delete, Expr, Insert, Select, Update};
 pub use msi_query_parse::{Expected, Parse, ParseError, Refused, Statement};
 pub use msi_summary::{

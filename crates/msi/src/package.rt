@@ -23,7 +23,6 @@ use msi_base::errors::{Error, ErrorKind};
 use msi_container_device::Source;
 use msi_container_format::name::Name;
 use msi_database::Database;
-use msi_database::parts::put_back_stream;
 use msi_query::Select;
 use msi_summary::SummaryInfo;
 use msi_table::{Rows, Table};
@@ -224,7 +223,7 @@ pub(crate) fn settle(database: &mut Database, name: &mut Option<Name>, current: 
     ensures kept { IsKeptDatabase database.new }
 {
     if let Some(name) = name.take() {
-        put_back_stream(database, &name, Some(current.take_bytes()));
+        database.put_back_stream(&name, Some(current.take_bytes()));
     }
     database.kept();
 }

@@ -19,7 +19,7 @@ use msi_container_format::contents::{Bytes, StreamMap};
 use msi_container_format::name::Name;
 use msi_container_write::parts::BorrowedContents;
 use msi_database_schema::names::{string_data_key, string_pool_key, summary_key};
-use msi_database_storage::parts::{copied_bytes, copied_streams};
+use msi_database_storage::{copied_bytes, copied_streams};
 use msi_pool::parts::{check_texts, data_stream_of, pool_stream_of};
 use msi_pool::stringpool::StringPool;
 use msi_summary::SummaryInfo;

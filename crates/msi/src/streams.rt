@@ -22,7 +22,6 @@ use msi_base::errors::{Error, ErrorKind};
 use msi_container_device::Source;
 use msi_container_format::contents::{Bytes, StreamMap};
 use msi_container_format::name::Name;
-use msi_database::parts::{remove_stream, replace_stream};
 use msi_database_schema::names::{signature_ex_key, signature_key};
 
 impl<F: Source> Package<F> {
@@ -86,7 +85,7 @@ impl<F: Source> Package<F> {
         let key = checked_key(name)?;
         settle(&mut self.database, &mut self.open, &mut self.current);
         let empty = Bytes::from_vec(Vec::new(self.alloc));
-        replace_stream(&mut self.database, key.duplicate(), empty)?;
+        self.database.replace_stream(key.duplicate(), empty)?;
         self.is_unwritten = true;
         self.open = Some(key);
         self.current = OpenStream::new(self.alloc);
@@ -111,7 +110,7 @@ impl<F: Source> Package<F> {
             return Err(Error::new(ErrorKind::NotFound, reasons::NO_STREAM));
         }
         settle(&mut self.database, &mut self.open, &mut self.current);
-        remove_stream(&mut self.database, &key);
+        self.database.remove_stream(&key);
         self.is_unwritten = true;
         Ok(())
     }
@@ -127,8 +126,8 @@ impl<F: Source> Package<F> {
     {
         self.check_storages()?;
         settle(&mut self.database, &mut self.open, &mut self.current);
-        remove_stream(&mut self.database, &signature_ex_key());
-        remove_stream(&mut self.database, &signature_key());
+        self.database.remove_stream(&signature_ex_key());
+        self.database.remove_stream(&signature_key());
         self.is_unwritten = true;
         Ok(())
     }

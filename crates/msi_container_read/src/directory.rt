@@ -11,7 +11,8 @@ ghost use Rattle.msi_container_format.specs.Container as container;
 ghost use Rattle.msi_container_read.specs.Reading as spec;
 ghost use Rattle.msi_container_format.specs.Trees.{Tree, members};
 
-use crate::parts::{Claimed, Claims, sector_size};
+use crate::claims::{Claimed, Claims};
+use crate::header::sector_size;
 use crate::reasons;
 use msi_base::{Error, ErrorKind};
 use msi_container_format::format::{

@@ -7,7 +7,6 @@ mod fat;
 mod header;
 mod listing;
 mod names;
-pub mod parts;
 mod reading;
 mod reasons;
 mod runs;
@@ -17,6 +16,6 @@ mod table;
 mod walks;
 
 pub use listing::list;
-pub use parts::Steps;
 pub use reading::{read, read_counted, read_shared};
 pub use sizes::{Listing, Sizes};
+pub use table::Steps;

@@ -13,9 +13,9 @@ ghost use Rattle.msi_container_read.specs.Reading.{HaveNamesApart};
 
 use crate::directory::Directory;
 use crate::names::{insert_size, names_of, own_name};
-use crate::parts::Steps;
 use crate::reading::read_outline;
 use crate::sizes::{Listing, Sizes};
+use crate::table::Steps;
 use msi_base::Error;
 use std::alloc::Global;
 

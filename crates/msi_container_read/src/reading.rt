@@ -18,13 +18,14 @@ ghost use Rattle.msi_container_read.specs.Steps as counted;
 ghost use Rattle.msi_container_read.specs.Counts.{links};
 ghost use Rattle.msi_container_format.specs.Trees.{Tree, members};
 
+use crate::claims::{Claimed, Claims};
 use crate::directory::{Directory, check_kinds, reach};
-use crate::parts::{
-    AllocationTable, Claimed, Claims, Steps, check_header, read_difat, read_fat, sector_count,
-    sector_size, walk, walk_to_end,
-};
+use crate::fat::{read_difat, read_fat};
+use crate::header::{check_header, sector_count, sector_size};
 use crate::reasons;
 use crate::streams::{Tables, Uses, collect, has_storage, of_kind, walk_each};
+use crate::table::{AllocationTable, Steps};
+use crate::walks::{walk, walk_to_end};
 use msi_base::{Error, ErrorKind};
 use msi_container_format::contents::Contents;
 use msi_container_format::format::{

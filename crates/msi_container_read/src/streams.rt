@@ -12,10 +12,13 @@ ghost use Rattle.msi_container_format.specs.Container as container;
 ghost use Rattle.msi_container_read.specs.Reading as spec;
 ghost use Rattle.msi_container_read.specs.Counts.{links};
 
+use crate::claims::Claims;
 use crate::directory::Directory;
+use crate::header::sector_size;
 use crate::names::{insert_stream, names_of, own_name};
-use crate::parts::{AllocationTable, Claims, Steps, sector_size, walk};
 use crate::runs::run_start;
+use crate::table::{AllocationTable, Steps};
+use crate::walks::walk;
 use msi_base::Error;
 use msi_container_format::contents::{Bytes, StreamMap};
 use msi_container_format::format::{MINI_SECTOR_SIZE, MINI_STREAM_CUTOFF, STORAGE};

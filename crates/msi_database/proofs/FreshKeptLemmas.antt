@@ -13,13 +13,13 @@ use Rattle.msi_database_storage.specs.Storing.{stored_in}
 use Rattle.msi_database_storage.specs.Streams.{Streams}
 use Rattle.msi_database_storage.specs.Kept.{AreAsLong, Kept, schema_listed}
 use Rattle.msi_database.specs.Keeping.{AreParts, IsKeptDatabase}
-use Rattle.msi_database_storage.specs.Fresh.{fresh, fresh_change}
-use Rattle.msi_database_storage.specs.FreshParts.{columns_table, fresh_pool, fresh_stored, tables_table, validation_table}
+use Rattle.msi_database.specs.Fresh.{fresh, fresh_change}
+use Rattle.msi_database.specs.FreshParts.{columns_table, fresh_pool, fresh_stored, tables_table, validation_table}
 use Rattle.msi_database.proofs.ChangingLemmas.{streams_stored}
 use Rattle.msi_database_storage.proofs.EditLemmas.{tables_stored_in}
 use Rattle.msi_database.proofs.FreshLemmas.{fresh_is_kept}
-use Rattle.msi_database_storage.proofs.FreshMadeLemmas.{have_own_names}
-use Rattle.msi_database_storage.proofs.FreshStepLemmas.{columns_long, tables_long, validation_long}
+use Rattle.msi_database.proofs.FreshMadeLemmas.{have_own_names}
+use Rattle.msi_database.proofs.FreshStepLemmas.{columns_long, tables_long, validation_long}
 use Rattle.msi_database.proofs.PartsLemmas.{kept_parts}
 
 abbrev system : List TableDef

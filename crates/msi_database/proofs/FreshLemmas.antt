@@ -12,7 +12,7 @@ use Rattle.msi_database_changes.specs.Database.{Database, CountsAreExact, cells_
 use Rattle.msi_database_changes.proofs.FitTestLemmas.{all_fit, all_fit_is, unlisted_fit, each_fits}
 use Rattle.msi_database_storage.specs.StreamNames.{HaveShortNames}
 use Rattle.msi_database_storage.specs.Agreement.{TablesAre, UnlistedIs, SchemaIs}
-use Rattle.msi_database_storage.specs.Fresh.{fresh}
+use Rattle.msi_database.specs.Fresh.{fresh}
 use Rattle.msi_database.specs.Fresh.{FreshIsKept}
 use Rattle.msi_database_storage.proofs.StreamLemmas.{AreSorted, TablesSorted}
 use Rattle.msi_database.proofs.FitLemmas.{rows_fit}

@@ -50,3 +50,8 @@ pub mod BothWidthsLemmas
 pub mod WideRefusalLemmas
 pub mod MakesAtLemmas
 pub mod CreatedAnewLemmas
+pub mod CellsCensusLemmas
+pub mod LongRowsLemmas
+pub mod FreshCallLemmas
+pub mod FreshMadeLemmas
+pub mod FreshStepLemmas

@@ -6,6 +6,7 @@ pub mod Dropping
 pub mod OwnStreams
 pub mod Others
 pub mod Fresh
+pub mod FreshParts
 pub mod Creating
 pub mod Recounting
 -- The words of the crates below, which public clauses cite.
@@ -43,4 +44,3 @@ pub use Rattle.msi_database_storage.specs.Kept
 pub use Rattle.msi_database_storage.specs.Storing
 pub use Rattle.msi_database_storage.specs.Agreement
 pub use Rattle.msi_database_storage.specs.Reading
-pub use Rattle.msi_database_storage.specs.Fresh as FreshDatabases

@@ -18,7 +18,7 @@ use msi_base::errors::{Error, ErrorKind};
 use msi_base::text::Items;
 use msi_container_format::contents::StreamMap;
 use msi_database_storage::listing::table_named;
-use msi_database_storage::parts::table_rows;
+use msi_database_storage::table_rows;
 use msi_pool::stringpool::StringPool;
 use msi_query::Select;
 use msi_query_rows::{Tables, select_rows};

@@ -19,12 +19,12 @@ use crate::changing::TablesAnew;
 use crate::database::Database;
 use crate::reasons;
 use msi_base::errors::{Error, ErrorKind};
+use msi_database_changes::Stored;
 use msi_database_changes::drop::rows_without;
-use msi_database_changes::parts::Stored;
 use msi_database_changes::texts::PoolInUse;
 use msi_database_schema::names::is_table_name;
 use msi_database_schema::system::{COLUMNS, TABLES, VALIDATION, is_system_table};
-use msi_database_storage::parts::stream_of;
+use msi_database_storage::stream_of;
 use msi_table::Table;
 
 /// A drop that goes on: the pool, and the streams to be stored.

@@ -8,7 +8,6 @@ mod dropping;
 mod fresh;
 pub mod laws;
 mod others;
-pub mod parts;
 mod reading;
 mod reasons;
 mod recounting;

@@ -20,13 +20,12 @@ fn know_length(name: &Name)
 }
 
 impl Database {
-    /// The name must be no table's. Replacing a stream takes no memory; adding one may fail, and then nothing has
-    /// changed.
-    pub(crate) fn replace_stream(
-        &mut self,
-        name: Name,
-        bytes: Bytes,
-    ) -> Result<Option<Bytes>, Error>
+    /// Stores a stream under a name that is no table's, and returns the bytes of the one that was there. Replacing one
+    /// takes no memory.
+    ///
+    /// # Errors
+    /// Fails with `OutOfMemory`, and only if there was none; then nothing has changed.
+    pub fn replace_stream(&mut self, name: Name, bytes: Bytes) -> Result<Option<Bytes>, Error>
         requires { IsOther self.old.database name }
         ensures ok { OnOk result (self.new ≡ with_streams (with_stream name bytes) self.old) }
         ensures held { IfOk result (λ held. held ≡ stream_at name self.old.streams) }
@@ -41,7 +40,7 @@ impl Database {
 
     /// Puts back what `replace_stream` returned: these bytes, or no stream. A stream of that name has to exist, so it
     /// takes no memory.
-    pub(crate) fn put_back_stream(&mut self, name: &Name, bytes: Option<Bytes>)
+    pub fn put_back_stream(&mut self, name: &Name, bytes: Option<Bytes>)
         requires other { IsOther self.old.database name.now }
         requires there { has_stream_at name.now self.old.streams ≡ true }
         ensures { self.new ≡ with_streams (with_stream_or_none name.now bytes) self.old }
@@ -50,7 +49,8 @@ impl Database {
         put_back(&mut self.streams, name, bytes);
     }
 
-    pub(crate) fn remove_stream(&mut self, name: &Name) -> Option<Bytes>
+    /// Takes the stream of a name that is no table's out, if there is one, and hands its bytes back. It takes no memory.
+    pub fn remove_stream(&mut self, name: &Name) -> Option<Bytes>
         requires { IsOther self.old.database name.now }
         ensures held { result ≡ stream_at name.now self.old.streams }
         ensures gone { self.new ≡ with_streams (without_stream name.now) self.old }

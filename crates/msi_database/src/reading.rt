@@ -11,7 +11,7 @@ ghost use Rattle.msi_database_storage.specs.Reading.{IsDatabaseOf};
 use crate::database::Database;
 use msi_base::errors::Error;
 use msi_container_format::contents::StreamMap;
-use msi_database_storage::parts::{
+use msi_database_storage::{
     DescribedTables, are_sound, look_at, tables_census, tables_in, unlisted_rows, with_named_texts,
 };
 use msi_pool::stringpool::StringPool;

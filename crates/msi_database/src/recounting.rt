@@ -3,7 +3,9 @@
 ghost use Rattle.std.specs.Prelude.{◌≡◌, IfErr, IfOk, None, Ok, OnErr, OnOk, length, true};
 ghost use Rattle.msi_base.specs.Results.{OnlyMemory};
 ghost use Rattle.msi_base.specs.declared.errors.ErrorKind.TheVariants.{InvalidData};
-ghost use Rattle.msi_table.specs.Census.{IsCensus};
+ghost use Rattle.std.specs.FinMap.{entries};
+ghost use Rattle.msi_pool.specs.Pool.{Pool};
+ghost use Rattle.msi_table.specs.Census.{CountsMore, IsCensus, numbers_of_rows};
 ghost use Rattle.msi_base.specs.Refusals.{AnswersFirst, IsRefusal, first_refusal, unless_refused};
 ghost use Rattle.msi_database_schema.specs.Schema.{table_with};
 ghost use Rattle.msi_database_schema.specs.System.{validation_columns as columns_of_validation, validation_name};
@@ -11,18 +13,26 @@ ghost use Rattle.msi_database_changes.specs.Database.{is_sound, named_numbers};
 ghost use Rattle.msi_database_changes.specs.Recounting as databases;
 ghost use Rattle.msi_database_changes.specs.Recounting.{cell_counts, counting_refusals, early_recount_refusals};
 ghost use Rattle.msi_database_changes.specs.Recounting.{recount_refusals};
+ghost use Rattle.msi_database_storage.specs.Kept.{AreAsLong, database_kept, unlisted_kept};
+ghost use Rattle.msi_database_storage.specs.StreamNames.{HaveShortNames};
 ghost use Rattle.msi_database.specs.Recounting.{after_recount};
 
 use crate::database::Database;
 use crate::reasons;
 use msi_base::errors::{Error, ErrorKind, Reason};
-use msi_database_schema::parts::named_table;
+use msi_container_format::contents::StreamMap;
+use msi_database_changes::counting::count_beside;
+use msi_database_schema::named_table;
 use msi_database_schema::system::{VALIDATION, validation_columns};
-use msi_database_storage::parts::{are_sound_tables, cells_census, fits_width, is_standard};
+use msi_database_storage::listing::table_named;
+use msi_database_storage::{
+    are_sound_tables, fits_width, is_standard, stream_bytes, tables_census,
+};
 use msi_pool::parts::set_counts;
 use msi_table::Table;
 use msi_table::parts::Census;
 use msi_table_values::column::Column;
+use std::alloc::Global;
 
 fn invalid(reason: Reason) -> Error
     ensures { result ≡ InvalidData }
@@ -123,4 +133,36 @@ impl Database {
         self.is_sound = true;
         Ok(changed)
     }
+}
+
+/// Counts the cells of the stream of `_Validation`, where that is no table, by its standard columns.
+fn count_unlisted(census: &mut Census, streams: &StreamMap, tables: &[Table], standard: &Table)
+    requires names { HaveShortNames (entries streams.now) }
+    requires standard { standard.now ≡ table_with standard.now.long (validation_name, columns_of_validation) }
+    ensures { let rows = unlisted_kept (entries streams.now) standard.now.long tables.now in
+        CountsMore (numbers_of_rows rows) census.old census.new }
+{
+    let is_listed = table_named(tables, VALIDATION).is_some();
+    let bytes = stream_bytes(streams, VALIDATION);
+    count_beside(census, is_listed, standard, bytes);
+}
+
+/// Returns the census of all cells of a database, for a pool of so many places: those of its tables, and those of the
+/// stream of `_Validation` where that is no table, by its standard columns, which `standard` has. It makes no row.
+fn cells_census(
+    alloc: Global,
+    many: u32,
+    streams: &StreamMap,
+    tables: &[Table],
+    standard: &Table,
+) -> Result<Census, Error>
+    requires names { HaveShortNames (entries streams.now) }
+    requires standard { standard.now ≡ table_with standard.now.long (validation_name, columns_of_validation) }
+    ensures ok { IfOk result (λ census. (pool : Pool) → pool.long ≡ standard.now.long → AreAsLong pool.long tables.now
+        → IsCensus many (named_numbers (database_kept pool tables.now (entries streams.now))) census) }
+    ensures kind { OnlyMemory result }
+{
+    let mut census = tables_census(alloc, many, streams, tables)?;
+    count_unlisted(&mut census, streams, tables, standard);
+    Ok(census)
 }

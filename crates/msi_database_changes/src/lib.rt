@@ -9,10 +9,11 @@ pub mod drop;
 pub mod insert;
 pub mod keys;
 pub mod laws;
-pub mod parts;
 mod reasons;
 pub mod setting;
 mod storing;
 pub mod texts;
 pub mod update;
 pub mod views;
+
+pub use storing::{Stored, store_all};

@@ -70,8 +70,12 @@ fn column_row(
     Ok(Items::from_vec(Vec::from_array(alloc, row)?))
 }
 
-/// The bits of the columns' types must hold their lengths.
-pub(crate) fn column_rows(
+/// Returns the rows of `_Columns` that describe a table's columns, in order. The bits of their types have to hold
+/// their lengths, which `have_short_lengths` checks, and a table has at most 32767 columns.
+///
+/// # Errors
+/// Fails with `OutOfMemory`.
+pub fn column_rows(
     alloc: Global,
     table: &str,
     columns: &[Column],

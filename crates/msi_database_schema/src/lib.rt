@@ -7,8 +7,11 @@ pub mod description;
 mod faults;
 pub mod names;
 mod orders;
-pub mod parts;
 mod reasons;
 mod rows;
 pub mod schema;
 pub mod system;
+
+pub use description::column_rows;
+pub use names::short_table_key;
+pub use schema::named_table;

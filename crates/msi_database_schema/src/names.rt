@@ -64,8 +64,9 @@ pub fn table_key(name: &str) -> Option<Name>
     packed_name(name, true)
 }
 
-/// The name has to be short enough for a stream of a table. It takes no memory.
-pub(crate) fn short_table_key(name: &str) -> Name
+/// Returns the container's name of the stream of a table whose name isn't too long for one, which `table_key` checks.
+/// It takes no memory.
+pub fn short_table_key(name: &str) -> Name
     requires { is_name_length (length (key_of_table name.now)) ≡ true }
     ensures { result ≡ key_of_table name.now }
 {

@@ -31,7 +31,11 @@ use msi_table_cells::cell::ValueRef;
 use msi_table_values::column::Column;
 use std::alloc::Global;
 
-pub(crate) fn named_table(
+/// Returns a table of a name and columns, which are at most 32767.
+///
+/// # Errors
+/// Fails with `OutOfMemory`.
+pub fn named_table(
     alloc: Global,
     name: &str,
     columns: Items<Column>,

@@ -3,17 +3,12 @@ pub mod StreamAtLemmas
 pub mod TableAtLemmas
 pub mod SoundnessLemmas
 pub mod NamingLemmas
-pub mod RecountingLemmas
 pub mod ListingLemmas
 pub mod CopyingLemmas
 pub mod ReadLemmas
 pub mod ReadingLemmas
 pub mod PassedLemmas
-pub mod WideningLemmas
 pub mod MapLemmas
 pub mod StreamLemmas
 pub mod StoredLemmas
 pub mod EditLemmas
-pub mod FreshCallLemmas
-pub mod FreshStepLemmas
-pub mod FreshMadeLemmas

@@ -7,5 +7,3 @@ pub mod Storing
 pub mod Naming
 pub mod Agreement
 pub mod Reading
-pub mod Fresh
-pub mod FreshParts

@@ -3,12 +3,15 @@
 
 mod copying;
 mod decoding;
-mod fresh;
 pub mod listing;
 mod naming;
-pub mod parts;
 mod reading;
-mod recounting;
 mod soundness;
 mod storing;
-mod widening;
+
+pub use copying::{copied_bytes, copied_streams};
+pub use decoding::{is_readable, stored_rows, stream_bytes, table_rows};
+pub use naming::{tables_census, with_named_texts};
+pub use reading::{DescribedTables, look_at, tables_in, unlisted_rows};
+pub use soundness::{are_sound, are_sound_tables, fits_width, is_standard};
+pub use storing::{no_stream, stream_of};

@@ -18,7 +18,7 @@ use crate::listing::table_named;
 use msi_base::errors::Error;
 use msi_base::text::Items;
 use msi_container_format::contents::StreamMap;
-use msi_database_schema::parts::named_table;
+use msi_database_schema::named_table;
 use msi_database_schema::schema::tables_of_cells;
 use msi_database_schema::system::{
     COLUMNS, TABLES, VALIDATION, columns_columns, tables_columns, validation_columns,

@@ -11,7 +11,7 @@ pub use crate::stringpool::reading::{pool_builder_of, pool_of};
 pub use crate::stringpool::writing::{check_texts, data_stream_of, pool_stream_of};
 use crate::stringpool::{StringPool, StringRef};
 use msi_base::errors::Error;
-pub use msi_pool_places::parts::most_places;
+pub use msi_pool_places::most_places;
 
 /// Returns the place of a number.
 pub fn string_ref(number: u32) -> StringRef

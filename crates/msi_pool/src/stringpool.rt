@@ -7,7 +7,7 @@ mod reference;
 mod writable;
 pub(crate) mod writing;
 
-pub use msi_pool_places::parts::{MAX_CELLS, MAX_PLACES, MAX_SHORT_PLACES, Operations};
+pub use msi_pool_places::{MAX_CELLS, MAX_PLACES, MAX_SHORT_PLACES, Operations};
 pub use indexed::IndexedPool;
 pub use pool::StringPool;
 pub use reading::StringPoolBuilder;

@@ -8,7 +8,7 @@ ghost use Rattle.msi_pool_places.specs.Pool.{SpellsEntries};
 ghost use Rattle.msi_pool_places.specs.TextJoining.{AreUnread, entries_with};
 
 use crate::count::Count;
-use crate::parts::{Entry, Numbers, entry_of};
+use crate::{Entry, Numbers, entry_of};
 use msi_base::errors::Error;
 use std::alloc::Global;
 use std::marker::Model;

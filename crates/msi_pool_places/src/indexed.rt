@@ -12,11 +12,10 @@ ghost use Rattle.msi_pool_places.specs.PoolIndexes.{AreFree, is_among, has_room_
 ghost use Rattle.msi_pool_places.specs.TextIndexes.{AreOpen, is_entered, is_same};
 ghost use Rattle.msi_pool_places.specs.Indexing.{IsIndexed};
 
-use crate::parts::{FreePlaces, Operations};
 use crate::places::{MAX_CELLS, MAX_PLACES, MAX_SHORT_PLACES, Place, Places};
-use crate::reasons;
 use crate::shared::SharedText;
 use crate::texts::{Entry, TextIndex};
+use crate::{FreePlaces, Operations, reasons};
 use msi_base::errors::{Error, ErrorKind};
 use std::alloc::Global;
 use std::mem;
@@ -143,22 +142,12 @@ impl IndexedPlaces {
         let place = self.places.get(at as usize, operations);
         let raised = Place::new(place.shared_text()?, place.count() + 1);
         let entry = Entry::new(text, at);
-        close(
-            &mut self.texts,
-            &entry,
-            raised.count(),
-            operations,
-        );
+        close(&mut self.texts, &entry, raised.count(), operations);
         self.places.set(at as usize, raised, operations);
         Ok(at)
     }
 
-    fn fill(
-        &mut self,
-        at: u32,
-        text: SharedText,
-        operations: &mut Operations,
-    ) -> Result<u32, Error>
+    fn fill(&mut self, at: u32, text: SharedText, operations: &mut Operations) -> Result<u32, Error>
         requires indexed { IsIndexed self.old }
         requires free { is_free (slice_get self.old.places at) ≡ true }
         requires operations { operations.old ≤ 2 }
@@ -244,12 +233,7 @@ impl IndexedPlaces {
         }
     }
 
-    fn empty(
-        &mut self,
-        at: u32,
-        text: SharedText,
-        operations: &mut Operations,
-    ) -> Result<(), Error>
+    fn empty(&mut self, at: u32, text: SharedText, operations: &mut Operations) -> Result<(), Error>
         requires indexed { IsIndexed self.old }
         requires place { slice_get self.old.places at ≡ Some (record { text = text; count = 1 }) }
         requires operations { operations.old ≤ 2 }
@@ -269,12 +253,7 @@ impl IndexedPlaces {
     }
 
     /// Replaces a place that is still in use and had one cell more.
-    fn lower(
-        &mut self,
-        at: u32,
-        place: Place,
-        operations: &mut Operations,
-    ) -> Result<(), Error>
+    fn lower(&mut self, at: u32, place: Place, operations: &mut Operations) -> Result<(), Error>
         requires indexed { IsIndexed self.old }
         requires place { slice_get self.old.places at ≡ Some (record { text = place.text; count = place.count + 1 }) }
         requires used { 0 < place.count }

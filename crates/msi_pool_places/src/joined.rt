@@ -7,8 +7,8 @@ ghost use Rattle.msi_pool_places.specs.JoinedTexts.{IsAllCut, IsJoined, IsPlaceA
 ghost use Rattle.msi_pool_places.specs.Pool.{without_unnamed_texts};
 ghost use Rattle.msi_pool_places.specs.Recounting.{many_recounted, with_counts};
 
+use crate::Numbers;
 use crate::count::Count;
-use crate::parts::Numbers;
 use crate::piece::Piece;
 use crate::places::{Place, PlaceRef, Places};
 use crate::shared::SharedText;

@@ -9,7 +9,7 @@ ghost use Rattle.msi_pool_places.specs.TextJoining.{IsJoining, entries_left, pla
 use crate::count::Count;
 use crate::entries::Entries;
 use crate::joined::JoinedTexts;
-use crate::parts::{Entry, Numbers};
+use crate::{Entry, Numbers};
 use msi_base::errors::Error;
 use msi_base::parts::{Part, TextBuffer};
 use std::alloc::Global;

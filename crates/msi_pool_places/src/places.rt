@@ -6,7 +6,7 @@ ghost use Rattle.msi_pool_places.specs.Pool.{forgotten, without_unnamed_texts};
 ghost use Rattle.msi_base.specs.Results.{OnlyMemory};
 ghost use Rattle.msi_pool_places.specs.Recounting.{many_recounted, with_count, with_counts};
 
-use crate::parts::Operations;
+use crate::Operations;
 use crate::shared::SharedText;
 use msi_base::errors::Error;
 use std::alloc::{AllocError, Global};

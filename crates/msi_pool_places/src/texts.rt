@@ -5,7 +5,7 @@ ghost use Rattle.msi_base.specs.Results.{OnlyMemory};
 ghost use Rattle.msi_pool_places.specs.PoolIndexes.{IsLeast};
 ghost use Rattle.msi_pool_places.specs.TextIndexes.{is_entered, is_same};
 
-use crate::parts::Operations;
+use crate::Operations;
 use crate::shared::SharedText;
 use msi_base::errors::Error;
 use std::alloc::Global;

@@ -12,7 +12,7 @@ use crate::page::{TextPage, page_for};
 use crate::reasons;
 use msi_base::fields::u32_at;
 use msi_base::{Error, ErrorKind};
-use msi_pool_places::parts::Entries;
+use msi_pool_places::Entries;
 use std::alloc::Global;
 use std::marker::Model;
 

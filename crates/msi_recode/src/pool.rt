@@ -15,7 +15,7 @@ use crate::reader::TextReader;
 use crate::reasons;
 use msi_base::fields::{push_u16, push_u32};
 use msi_base::{Error, ErrorKind};
-use msi_pool_places::parts::{Entries, Entry};
+use msi_pool_places::{Entries, Entry};
 use std::alloc::{AllocError, Global};
 
 /// The id of UTF-8.

@@ -11,7 +11,7 @@ use crate::stringpool::pool::StringPool;
 use crate::stringpool::reference::StringRef;
 use msi_base::codepage::CodePage;
 use msi_base::errors::Error;
-use msi_pool_places::parts::{IndexedPlaces, Operations};
+use msi_pool_places::{IndexedPlaces, Operations};
 use std::marker::Model;
 
 /// A string pool with an index of its free places and one of its texts, so that a text is stored and given back in at

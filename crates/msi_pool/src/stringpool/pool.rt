@@ -17,7 +17,7 @@ use crate::stringpool::indexed::IndexedPool;
 use crate::stringpool::reference::StringRef;
 use msi_base::codepage::CodePage;
 use msi_base::errors::Error;
-use msi_pool_places::parts::{IndexedPlaces, JoinedTexts, KeptPlaces, MAX_SHORT_PLACES, PlaceRef};
+use msi_pool_places::{IndexedPlaces, JoinedTexts, KeptPlaces, MAX_SHORT_PLACES, PlaceRef};
 use std::alloc::Global;
 use std::marker::Model;
 

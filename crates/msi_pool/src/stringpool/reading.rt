@@ -20,7 +20,7 @@ use msi_base::codepage::CodePage;
 use msi_base::errors::{Error, ErrorKind};
 use msi_base::fields::u32_at;
 use msi_base::parts::Part;
-use msi_pool_places::parts::{Entries, Entry, JoinedTexts, MAX_PLACES, TextJoiner};
+use msi_pool_places::{Entries, Entry, JoinedTexts, MAX_PLACES, TextJoiner};
 use std::alloc::Global;
 use std::marker::Model;
 

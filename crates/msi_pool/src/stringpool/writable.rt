@@ -6,7 +6,7 @@ ghost use Rattle.msi_pool_places.specs.Pool.{AreWritable, HaveUtf8Texts};
 
 use crate::stringpool::pool::StringPool;
 use msi_base::codepage::CodePage;
-use msi_pool_places::parts::PlaceRef;
+use msi_pool_places::PlaceRef;
 
 impl StringPool {
     /// Returns whether each text that a cell refers to reads back as it was, once it is written in the page. It takes

@@ -19,7 +19,7 @@ use msi_base::codepage::CodePage;
 use msi_base::errors::{Error, ErrorKind, Reason};
 use msi_base::fields::{push_u16, push_u32};
 use msi_base::reasons::PAGE_CHARACTER;
-use msi_pool_places::parts::{PlaceRef, encoded_len};
+use msi_pool_places::{PlaceRef, encoded_len};
 use std::alloc::AllocError;
 
 /// From how many bytes on a text has a long entry.

@@ -16,5 +16,5 @@ pub returns-in_err-before-clause-faultless : goal.returns-in_err-before-clause-f
 returns-in_err-before-clause-faultless g t c = λ _ _. memory_faultless c.from_residual.result (search rules)
 
 pub returns-in-Err-clause-same : goal.returns-in-Err-clause-same
-returns-in-Err-clause-same g t c = restored c.args.database.now c.write_with.new.database c.put_back_stream.new.database c.in-Some.name c.duplicate.result c.in-Some.bytes c.in_ok-before.before
+returns-in-Err-clause-same g t c = restored c.args.database.now c.write_with.new.database c.put_back_stream.new.self c.in-Some.name c.duplicate.result c.in-Some.bytes c.in_ok-before.before
     c.kept.ensures.in_order (c.in-Err.ensures.same ∙ c.in_ok-before.ensures.ok) c.duplicate.ensures c.in_ok-before.ensures.held c.put_back_stream.ensures

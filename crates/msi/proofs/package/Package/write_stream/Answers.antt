@@ -18,7 +18,7 @@ replace_stream-requires g c =
 pub invariant_of-self-lent : goal.invariant_of-self-lent
 invariant_of-self-lent g c = λ left.
     let s = c.args.self.now.state in
-    opened_held c.replace_stream.new.database c.args.name.now c.in_ok-key.key c.duplicate.result c.self.inside.is_pool_changed
+    opened_held c.replace_stream.new.self c.args.name.now c.in_ok-key.key c.duplicate.result c.self.inside.is_pool_changed
     (key_accepted s c.args.name.now c.in_ok-key.key c.in_ok-key.ensures) (key_is s c.args.name.now c.in_ok-key.key c.in_ok-key.ensures)
     c.duplicate.ensures c.in_ok-replace_stream.ensures.there
     (λ changed. ap (λ (k : Kept). is_sound k.database) c.in_ok-replace_stream.ensures.ok
@@ -26,7 +26,7 @@ invariant_of-self-lent g c = λ left.
 
 pub returns : goal.returns
 returns g c = (
-  lent_same (λ left. left_written _ c.args.self.now c.settle.new.database c.replace_stream.new.database c.args.name.now c.in_ok-key.key c.duplicate.result
+  lent_same (λ left. left_written _ c.args.self.now c.settle.new.database c.replace_stream.new.self c.args.name.now c.in_ok-key.key c.duplicate.result
       c.from_vec-empty.result left.bytes c.self.view_is c.settle.ensures.kept.in_order c.in_ok-replace_stream.ensures.ok c.duplicate.ensures
       (key_is c.args.self.now.state c.args.name.now c.in_ok-key.key c.in_ok-key.ensures) c.settle.ensures.database),
   (

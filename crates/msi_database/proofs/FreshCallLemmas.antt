@@ -33,8 +33,8 @@ use Rattle.msi_database_storage.specs.Streams.{stream_of_rows}
 use Rattle.msi_database_changes.specs.declared.storing.Stored.{Stored}
 use Rattle.msi_database_changes.specs.Storing.{HaveOwnNames}
 use Rattle.msi_database_storage.specs.Storing.{tables_stored}
-use Rattle.msi_database_storage.specs.Fresh.{empty_table}
-use Rattle.msi_database_storage.specs.FreshParts.{Begins, CanBegin}
+use Rattle.msi_database.specs.Fresh.{empty_table}
+use Rattle.msi_database.specs.FreshParts.{Begins, CanBegin}
 use Rattle.msi_database_storage.proofs.MapLemmas as maps
 use Rattle.msi_database_storage.proofs.StreamLemmas.{list_cmp_exact}
 use Rattle.msi_database_storage.proofs.StoredLemmas.{AreNames}

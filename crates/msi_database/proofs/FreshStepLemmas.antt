@@ -10,9 +10,9 @@ use Rattle.msi_database_changes.specs.Database.{Database, table_at}
 use Rattle.msi_database_changes.specs.Texts.{PoolInUse, in_use}
 use Rattle.msi_database_changes.specs.Changes.{no_change, pool_of}
 use Rattle.msi_database_changes.specs.Insert.{cells_added}
-use Rattle.msi_database_storage.specs.Fresh.{bare_database, empty_table}
-use Rattle.msi_database_storage.specs.FreshParts.{CanBegin, columns_table, tables_table, unused_pool, validation_table}
-use Rattle.msi_database_storage.proofs.FreshCallLemmas.{begun, fits_begun, fits_begun_is, listing}
+use Rattle.msi_database.specs.Fresh.{bare_database, empty_table}
+use Rattle.msi_database.specs.FreshParts.{CanBegin, columns_table, tables_table, unused_pool, validation_table}
+use Rattle.msi_database.proofs.FreshCallLemmas.{begun, fits_begun, fits_begun_is, listing}
 
 -- THE VALUES, AND THE POOLS
 

@@ -1,6 +1,6 @@
-use Rattle.msi_database_storage.proofs.FreshMadeLemmas.{columns_made, tables_made, validation_made}
+use Rattle.msi_database.proofs.FreshMadeLemmas.{columns_made, tables_made, validation_made}
 use Rattle.std.proofs.lemmas.Result.{err_from_is_err_and}
-use Rattle.msi_database_storage.proofs.fresh.system_tables.Goals as goal
+use Rattle.msi_database.proofs.fresh.system_tables.Goals as goal
 
 pub returns-clause-columns : goal.returns-clause-columns
 returns-clause-columns c = columns_made c.in_ok-named_table.field-0 c.in_ok-columns_columns.field-0 c.in_ok-named_table.ensures.ok c.in_ok-columns_columns.ensures.ok

@@ -1,7 +1,7 @@
-use Rattle.msi_database_storage.proofs.FreshMadeLemmas.{short, columns_key, tables_key, validation_key, columns_long, tables_long, validation_long, columns_can, tables_can, validation_can, streams_made, pool_made}
+use Rattle.msi_database.proofs.FreshMadeLemmas.{short, columns_key, tables_key, validation_key, columns_long, tables_long, validation_long, columns_can, tables_can, validation_can, streams_made, pool_made}
 use Rattle.msi_database_storage.proofs.PassedLemmas.{memory_passed, no_value}
 use Rattle.msi_base.specs.declared.errors.ErrorKind.TheVariants.{OutOfMemory}
-use Rattle.msi_database_storage.proofs.fresh.described_streams.Goals as goal
+use Rattle.msi_database.proofs.fresh.described_streams.Goals as goal
 use Rattle.std.proofs.Common.{◌∙◌, refl}
 
 pub column_rows-requires-clause-short : goal.column_rows-requires-clause-short

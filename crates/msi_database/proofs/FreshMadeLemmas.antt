@@ -15,11 +15,11 @@ use Rattle.msi_database_changes.specs.Create.{described_by_rows}
 use Rattle.msi_database_changes.specs.Insert.{cells_added}
 use Rattle.msi_database_changes.specs.declared.storing.Stored.{Stored}
 use Rattle.msi_database_changes.specs.Storing.{HaveOwnNames}
-use Rattle.msi_database_storage.specs.Fresh.{fresh_change}
-use Rattle.msi_database_storage.specs.FreshParts.{Begins, CanBegin, columns_table, fresh_pool, fresh_stored, tables_table, unused_pool, validation_table}
-use Rattle.msi_database_storage.proofs.FreshCallLemmas.{AreBare, Describes, begins_as, begun, can_as, describes, listing, stream_begun}
-use Rattle.msi_database_storage.proofs.FreshStepLemmas as steps
-use Rattle.msi_database_storage.proofs.FreshStepLemmas.{bare, column_values, pool₀, pool₁, pool₂, table_values, validation_values}
+use Rattle.msi_database.specs.Fresh.{fresh_change}
+use Rattle.msi_database.specs.FreshParts.{Begins, CanBegin, columns_table, fresh_pool, fresh_stored, tables_table, unused_pool, validation_table}
+use Rattle.msi_database.proofs.FreshCallLemmas.{AreBare, Describes, begins_as, begun, can_as, describes, listing, stream_begun}
+use Rattle.msi_database.proofs.FreshStepLemmas as steps
+use Rattle.msi_database.proofs.FreshStepLemmas.{bare, column_values, pool₀, pool₁, pool₂, table_values, validation_values}
 
 -- THE TABLES
 

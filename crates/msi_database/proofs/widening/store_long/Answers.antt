@@ -1,7 +1,7 @@
 use Rattle.std.proofs.Common.{ap, ◌∙◌}
 use Rattle.msi_database_schema.specs.Keys.{table_key}
-use Rattle.msi_database_storage.proofs.WideningLemmas.{put_long}
-use Rattle.msi_database_storage.proofs.widening.store_long.Goals as goal
+use Rattle.msi_database.proofs.LongRowsLemmas.{put_long}
+use Rattle.msi_database.proofs.widening.store_long.Goals as goal
 
 pub returns-clause-ok : goal.returns-clause-ok
 returns-clause-ok c =

@@ -4,7 +4,7 @@ use Rattle.msi_table.specs.Census.{IsCensus, numbers_of_rows}
 use Rattle.std.specs.Prelude.{◌++◌}
 use Rattle.msi_database_storage.specs.Kept.{table_kept, unlisted_kept}
 use Rattle.msi_database_storage.specs.Naming.{numbers_of_tables}
-use Rattle.msi_database_storage.proofs.recounting.cells_census.Goals as goal
+use Rattle.msi_database.proofs.recounting.cells_census.Goals as goal
 
 pub returns-clause-ok : goal.returns-clause-ok
 returns-clause-ok c = λ pool wide all.

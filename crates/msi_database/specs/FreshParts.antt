@@ -11,7 +11,7 @@ use Rattle.msi_database_changes.specs.Insert.{cells_added}
 use Rattle.msi_database_changes.specs.declared.storing.Stored.{Stored}
 use Rattle.msi_database_storage.specs.Storing.{tables_stored}
 use Rattle.msi_database_storage.specs.Streams.{stream_of_rows}
-use Rattle.msi_database_storage.specs.Fresh.{bare_database, fresh_change}
+use Rattle.msi_database.specs.Fresh.{bare_database, fresh_change}
 
 -- the system tables
 unfoldable pub columns_table : TableDef

@@ -3,8 +3,8 @@ use Rattle.std.proofs.lemmas.Result.{IfOk-weaker}
 use Rattle.msi_table_cells.specs.declared.cell.ValueRef.{ValueRef}
 use Rattle.msi_database_changes.specs.Insert.{cells_added}
 use Rattle.msi_database_changes.specs.Texts.{in_use}
-use Rattle.msi_database_storage.proofs.FreshCallLemmas.{first_added, only_memory, still_some, taken_alike}
-use Rattle.msi_database_storage.proofs.fresh.first_cells.Goals as goal
+use Rattle.msi_database.proofs.FreshCallLemmas.{first_added, only_memory, still_some, taken_alike}
+use Rattle.msi_database.proofs.fresh.first_cells.Goals as goal
 
 pub returns-clause-ok : goal.returns-clause-ok
 returns-clause-ok c =

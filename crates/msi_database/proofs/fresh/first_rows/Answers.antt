@@ -1,5 +1,5 @@
-use Rattle.msi_database_storage.proofs.FreshCallLemmas.{first_some, first_storable, first_begins}
-use Rattle.msi_database_storage.proofs.fresh.first_rows.Goals as goal
+use Rattle.msi_database.proofs.FreshCallLemmas.{first_some, first_storable, first_begins}
+use Rattle.msi_database.proofs.fresh.first_rows.Goals as goal
 
 pub first_cells-requires : goal.first_cells-requires
 first_cells-requires c = first_some c.args.table.now c.args.pool.now c.columns.result.now c.args.rows.items c.requires.long c.columns.ensures.columns c.requires.fits

@@ -1,5 +1,5 @@
 use Rattle.std.proofs.lemmas.Result.{err_from_is_err_and}
-use Rattle.msi_database_storage.proofs.widening.long_tables.Goals as goal
+use Rattle.msi_database.proofs.widening.long_tables.Goals as goal
 
 pub returns-in_err-long-clause-ok : goal.returns-in_err-long-clause-ok
 returns-in_err-long-clause-ok c = let p = err_from_is_err_and c.from_residual.result c.from_residual.ensures.1 in rw p.1 tt
