@@ -1,6 +1,6 @@
 //! Makes the calls of transcripts, and prints each call that answers otherwise than expected:
 //! `transcripts check FILE..`. The exit status is 1 if one does, and 2 for wrong usage. `docs/TRANSCRIPTS.md` shows
-//! what stands in a transcript. Before them it runs the tests that are functions, of which some print lines.
+//! what stands in a transcript. Before them it runs the tests in `tests`, of which some print lines.
 //!
 //! `transcripts trials FILE..` is what `tools/try-faults` runs: there each call behind `try` may be refused memory.
 #![tactic(auto)]
@@ -17,6 +17,7 @@ mod pictures;
 mod session;
 mod statements;
 mod summary;
+mod tests;
 mod transcript;
 mod trials;
 
@@ -32,8 +33,8 @@ fn run(rt: &HostRuntime) -> Result<u8, Failure> {
     };
     let are_expected = match verb.as_str() {
         "check" => {
-            let are_shown = msi_tests::run(rt);
-            run_files(rt, files, false)? && are_shown
+            let pass = tests::run(rt);
+            run_files(rt, files, false)? && pass
         }
         "trials" => run_files(rt, files, true)?,
         _ => return Ok(2),

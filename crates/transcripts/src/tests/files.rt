@@ -1,6 +1,6 @@
 //! Packages in files of the folder for temporary ones.
 
-use crate::readme::file;
+use examples::readme;
 use msi::{Error, ErrorKind};
 use std::{env, fs, io, process};
 
@@ -55,7 +55,7 @@ fn is_left_alone(rt: &HostRuntime, path: &str, kind: Option<ErrorKind>) -> bool 
 
 pub(crate) fn opening_leaves_the_file_as_it_was(rt: &HostRuntime) -> io::Result<bool> {
     let path = path(rt, "files")?;
-    let Ok(package) = file(rt.alloc()) else {
+    let Ok(package) = readme::numbers(rt.alloc()) else {
         return Ok(false);
     };
     let mut are_left = true;

@@ -1,10 +1,10 @@
 //! Devices in memory, and over readers, writers and seekers of `std`, with a buffer and without.
 
-use crate::calls::Call::{Flush, Length, Read, ReadAll, Rewind, Write, WriteAll};
-use crate::calls::End::{Flagged, Refused, Well};
-use crate::calls::{DIGITS, Step, digits, gone};
-use crate::shown::is_shown;
-use msi_base::Error;
+use crate::tests::device_calls::Call::{Flush, Length, Read, ReadAll, Rewind, Write, WriteAll};
+use crate::tests::device_calls::End::{Flagged, Refused, Well};
+use crate::tests::device_calls::{DIGITS, Step, digits, gone};
+use crate::tests::outcome::passes;
+use msi::Error;
 use msi_container_device::{Buffered, Metered};
 use std::alloc::Global;
 use std::io::{self, Cursor, Seek, SeekFrom};
@@ -45,11 +45,11 @@ fn memory_goes(alloc: Global, row: &InMemory) -> Result<bool, Error> {
 }
 
 pub(crate) fn memory_is_read_to_its_end_and_written_past_it(rt: &HostRuntime) -> bool {
-    let mut are_shown = true;
+    let mut pass = true;
     for row in &IN_MEMORY {
-        are_shown &= is_shown(rt, &"memory", memory_goes(rt.alloc(), row));
+        pass &= passes(rt, &"memory", memory_goes(rt.alloc(), row));
     }
-    are_shown
+    pass
 }
 
 /// The ten digits in a file that counts its writes and flushes. A stubborn one fails to read, takes no byte, and says
@@ -142,11 +142,11 @@ fn metered_goes(alloc: Global, row: &OverFile) -> Result<bool, Error> {
 }
 
 pub(crate) fn files_are_written_and_read_and_faults_raise_the_flag(rt: &HostRuntime) -> bool {
-    let mut are_shown = true;
+    let mut pass = true;
     for row in &METERED {
-        are_shown &= is_shown(rt, &row.0, metered_goes(rt.alloc(), row));
+        pass &= passes(rt, &row.0, metered_goes(rt.alloc(), row));
     }
-    are_shown
+    pass
 }
 
 /// Two pieces over the digits, and two behind them.
@@ -175,5 +175,5 @@ fn are_collected(alloc: Global) -> Result<bool, Error> {
 }
 
 pub(crate) fn pieces_are_collected_and_read_back(rt: &HostRuntime) -> bool {
-    is_shown(rt, &"pieces", are_collected(rt.alloc()))
+    passes(rt, &"pieces", are_collected(rt.alloc()))
 }

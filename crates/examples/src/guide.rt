@@ -1,5 +1,4 @@
-//! The code of `docs/GUIDE.md`, in its order. Each task is done on a package in memory, and prints a line or two, which
-//! whoever runs the tests compares.
+//! The code of docs/GUIDE.md, in its order. Each task is done on a package in memory, and prints a line or two.
 
 use msi::{
     Column, Delete, Error, ErrorKind, Expr, Insert, LanguageId, Memory, Package, PackageType, Row,
@@ -9,7 +8,7 @@ use std::alloc::Global;
 use std::io::{self, Read, Write};
 
 /// Does the tasks in turn.
-pub(crate) fn follow(rt: &HostRuntime) -> Result<(), Error> {
+pub fn follow(rt: &HostRuntime) -> Result<(), Error> {
     let file = fill_package(rt)?;
     open_and_handle_errors(rt, file)?;
     open_and_handle_errors(rt, b"Dear reader".to_vec(rt.alloc())?)

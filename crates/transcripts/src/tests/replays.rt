@@ -1,6 +1,6 @@
 //! A list of calls, one of each kind, on a new package, and again on what they leave.
 
-use crate::shown::is_shown;
+use crate::tests::outcome::passes;
 use msi::{Error, ErrorKind, IntoText, Items, PackageType, Select};
 use msi_replay::{
     Answer, Call, Change, LookUp, ReaderCall, Replayed, SummaryCall, SummaryProperty, WriterCall,
@@ -94,5 +94,5 @@ fn are_answered(alloc: Global) -> Result<bool, Error> {
 }
 
 pub(crate) fn a_list_of_calls_is_answered(rt: &HostRuntime) -> bool {
-    is_shown(rt, &"a list of calls", are_answered(rt.alloc()))
+    passes(rt, &"a list of calls", are_answered(rt.alloc()))
 }

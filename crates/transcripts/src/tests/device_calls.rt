@@ -1,6 +1,6 @@
 //! Calls of a device as rows of a table: what each is passed, what it returns, and how it ends.
 
-use msi_base::{Error, ErrorKind};
+use msi::{Error, ErrorKind};
 use msi_container_device::faults::fault;
 use msi_container_device::parts::{read_all, write_all};
 use msi_container_device::{Device, Memory, Source};

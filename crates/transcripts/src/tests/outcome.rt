@@ -1,0 +1,22 @@
+//! Whether a test passes, and what is printed if it doesn't.
+
+use std::fmt::Display;
+
+/// Returns whether a test found what it looked for. If it didn't, its name is printed to standard error, and so is the
+/// error that it failed with.
+pub(crate) fn passes<E: Display + Drop>(
+    rt: &HostRuntime,
+    test: &impl Display,
+    found: Result<bool, E>,
+) -> bool {
+    match found {
+        Ok(true) => return true,
+        Ok(false) => {
+            let _ = eprintln!(rt; "failed: {test}");
+        }
+        Err(error) => {
+            let _ = eprintln!(rt; "failed: {test}: {error}");
+        }
+    }
+    false
+}
