@@ -2,18 +2,18 @@
 use Rattle.std.proofs.Common.{◌≡◌, ℕ, Bool, true, false, List, [], ◌∷◌, ◌++◌, map, Option, Some, unwrap_or, refl, sym, ap, subst, ◌∙◌, ◌==◌, ◌+◌}
 use Rattle.std.specs.Prelude.{MatchBool, IsSomeAnd, option_map, option_and_then}
 use Rattle.std.specs.List.{list_any, AllByRecursion, enumerate_from}
-use Rattle.msi_pool_places.specs.Pool.{Pool, Place, IsPool, forgotten}
-use Rattle.msi_summary_properties.specs.Properties.{Properties}
+use Rattle.msi_pool.specs.Pool.{Pool, Place, IsPool, forgotten}
+use Rattle.msi_summary.specs.Properties.{Properties}
 use Rattle.msi_summary.specs.Summary.{SpellsSummary}
-use Rattle.msi_table_cells.specs.declared.cell.ValueRef.{ValueRef}
+use Rattle.msi_table.specs.ValueRef.{ValueRef}
 use Rattle.msi_table_values.specs.Columns.{ColumnDef, types_of}
 use Rattle.msi_table.specs.Cells.{rows_in}
-use Rattle.msi_table_cells.specs.CellValues.{row_values}
+use Rattle.msi_table.specs.CellValues.{row_values}
 use Rattle.msi_database_schema.specs.Keys.{table_key, summary_key, string_pool_name, string_data_name}
 use Rattle.msi_database_schema.specs.System.{tables_name, columns_name, validation_name, tables_columns, columns_columns, validation_columns}
 use Rattle.msi_database_schema.specs.Schema.{schema_of}
 use Rattle.msi_table.specs.Census.{numbers_of_rows}
-use Rattle.msi_database_changes.specs.Database.{Database, Tables, named_numbers, has_table}
+use Rattle.msi_database.specs.Database.{Database, Tables, named_numbers, has_table}
 use Rattle.msi_database_storage.specs.Streams.{Streams, stream_at, stored_rows}
 use Rattle.msi_database_storage.specs.StreamNames as databases
 use Rattle.msi_database_storage.specs.Kept.{Kept}

@@ -5,8 +5,8 @@ use Rattle.std.proofs.lemmas.Bool.{true≢false}
 use Rattle.msi_base.specs.declared.errors.ErrorKind.{ErrorKind}
 use Rattle.msi_base.specs.declared.errors.ErrorKind.TheVariants.{OutOfMemory}
 use Rattle.msi_base.specs.Refusals.{AnswersWith, Refusals, IsRefusal, first_refusal, unless, unless_refused}
-use Rattle.msi_database_changes.specs.Changes.{Change}
-use Rattle.msi_database_changes.proofs.RefusedLemmas.{unless_err}
+use Rattle.msi_database.specs.Changes.{Change}
+use Rattle.msi_database.proofs.RefusedLemmas.{unless_err}
 use Rattle.msi.specs.State.{State}
 use Rattle.msi.specs.Calls.{Call, Answer}
 use Rattle.msi.specs.Calls as calls

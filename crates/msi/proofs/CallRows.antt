@@ -2,15 +2,15 @@
 use Rattle.std.specs.Prelude.{◌≡◌, ℕ, true, false, List, [], ◌∷◌, Option, Some, None, refl, codes, map, length, pos, drop, option_map, Result, Ok, Err, slice_get, replicate}
 use Rattle.msi_base.specs.declared.errors.ErrorKind.{ErrorKind}
 use Rattle.msi_base.specs.declared.errors.ErrorKind.TheVariants.{AlreadyExists, InvalidInput}
-use Rattle.msi_pool_places.specs.Pool.{Place, pool_stream}
-use Rattle.msi_pool_places.specs.FirstFit.{taken}
+use Rattle.msi_pool.specs.Pool.{Place, pool_stream}
+use Rattle.msi_pool.specs.FirstFit.{taken}
 use Rattle.msi_table_values.specs.declared.value.Value.{Value}
 use Rattle.msi_table_values.specs.declared.value.Value.TheVariants.{Int, Str}
 use Rattle.msi_table_values.specs.declared.column.ColumnType.TheVariants.{Int16, Int32}
 use Rattle.msi_table_values.specs.declared.column.ColumnType.TheVariants as coltype
 use Rattle.msi_table_values.specs.Columns.{ColumnDef}
 use Rattle.msi_database_schema.specs.Keys.{table_key}
-use Rattle.msi_database_changes.specs.Database.{is_sound}
+use Rattle.msi_database.specs.Database.{is_sound}
 use Rattle.msi_query.specs.Queries.{table}
 use Rattle.msi.specs.declared.kinds.PackageType.TheVariants as kind
 use Rattle.msi_database_schema.specs.System.{plain_column, key, nullable}

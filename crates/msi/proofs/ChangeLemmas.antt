@@ -6,14 +6,14 @@ use Rattle.msi_base.specs.declared.errors.ErrorKind.TheVariants.{InvalidData, In
 use Rattle.msi_table_values.specs.Columns.{ColumnDef}
 use Rattle.msi_query.specs.Queries.{InsertQuery, UpdateQuery, DeleteQuery}
 use Rattle.msi_base.specs.Refusals.{AnswersFirst, Refusals, IsRefusal, unless_refused, ◌>>=◌}
-use Rattle.msi_database_changes.specs.Changes.{Change, sound_refusal}
-use Rattle.msi_database_changes.specs.Create.{create_table}
-use Rattle.msi_database_changes.specs.Database.{Database, is_sound}
-use Rattle.msi_database_changes.specs.Delete.{delete_rows}
-use Rattle.msi_database_changes.specs.Drop.{drop_table}
-use Rattle.msi_database_changes.specs.Insert.{insert_rows}
-use Rattle.msi_database_changes.specs.Laws.{IsChange, IsTableChange, inserted, updated, deleted, created, dropped}
-use Rattle.msi_database_changes.specs.Update.{update_rows}
+use Rattle.msi_database.specs.Changes.{Change, sound_refusal}
+use Rattle.msi_database.specs.Create.{create_table}
+use Rattle.msi_database.specs.Database.{Database, is_sound}
+use Rattle.msi_database.specs.Delete.{delete_rows}
+use Rattle.msi_database.specs.Drop.{drop_table}
+use Rattle.msi_database.specs.Insert.{insert_rows}
+use Rattle.msi_database.specs.Laws.{IsChange, IsTableChange, inserted, updated, deleted, created, dropped}
+use Rattle.msi_database.specs.Update.{update_rows}
 use Rattle.msi_database_storage.specs.Kept.{Kept}
 use Rattle.msi_database.specs.Keeping.{IsKeptDatabase}
 use Rattle.msi_database.specs.Making as databases

@@ -8,23 +8,23 @@ use Rattle.std.proofs.lemmas.List.Folds.{list_any-append}
 use Rattle.std.proofs.lemmas.Option.{option_and_then_some}
 use Rattle.msi_base.specs.Lists.{tabulated, numbers_below}
 use Rattle.msi_base.proofs.ListLemmas.{all_mapped}
-use Rattle.msi_pool_places.specs.Pool.{Pool}
-use Rattle.msi_pool_places.specs.References.{number_of}
+use Rattle.msi_pool.specs.Pool.{Pool}
+use Rattle.msi_pool.specs.References.{number_of}
 use Rattle.msi_table_values.specs.declared.column.ColumnType.{ColumnType}
 use Rattle.msi_table_values.specs.declared.column.ColumnType.TheVariants as coltype
-use Rattle.msi_table_cells.specs.declared.cell.ValueRef.{ValueRef}
-use Rattle.msi_table_cells.specs.declared.cell.ValueRef.TheVariants as cell
+use Rattle.msi_table.specs.ValueRef.{ValueRef}
+use Rattle.msi_table.specs.ValueRef.TheVariants as cell
 use Rattle.msi_table_values.specs.Columns.{ColumnDef, types_of}
 use Rattle.msi_table.specs.Cells.{cell_in, row_count, row_in, rows_in}
-use Rattle.msi_table_cells.specs.TableCells.{TableCells}
+use Rattle.msi_table.specs.TableCells.{TableCells}
 use Rattle.msi_database_schema.specs.Keys.{table_key}
 use Rattle.msi_database_schema.specs.System.{tables_name, columns_name, validation_name, tables_columns, columns_columns, validation_columns}
 use Rattle.msi_database_schema.specs.Schema.{SchemaRows, schema_of}
 use Rattle.msi_database_schema.proofs.SchemaLemmas.{table_of}
 use Rattle.msi_table.specs.Census.{number_of_cell, numbers_of_rows}
-use Rattle.msi_database_changes.specs.Database.{Database, table_at, rows_of}
-use Rattle.msi_database_changes.specs.Database.{named_numbers, columns_by_name}
-use Rattle.msi_database_changes.proofs.SchemaKeptLemmas.{shown_table}
+use Rattle.msi_database.specs.Database.{Database, table_at, rows_of}
+use Rattle.msi_database.specs.Database.{named_numbers, columns_by_name}
+use Rattle.msi_database.proofs.SchemaKeptLemmas.{shown_table}
 use Rattle.msi_database_storage.specs.Streams.{Streams, stream_at, stored_rows}
 use Rattle.msi_database_storage.specs.Agreement.{TablesAre, numbers_stored, is_shown}
 use Rattle.msi_database.proofs.DescribedLemmas.{table_rows}

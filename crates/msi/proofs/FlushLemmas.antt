@@ -4,20 +4,20 @@ use Rattle.std.specs.Prelude.{IsSomeAnd, option_map, option_and_then, if◌then�
 use Rattle.std.specs.List.{AllByRecursion, enumerate_from}
 use Rattle.std.proofs.lemmas.Bool.{eqb-true, true≢false}
 use Rattle.std.proofs.lemmas.Option.{same_Some}
-use Rattle.msi_pool_places.specs.Pool.{Pool, Place, PlacesWritten, forgotten, pool_stream, data_stream, IsPool}
-use Rattle.msi_pool_places.specs.Pool as pools
+use Rattle.msi_pool.specs.Pool.{Pool, Place, PlacesWritten, forgotten, pool_stream, data_stream, IsPool}
+use Rattle.msi_pool.specs.Pool as pools
 use Rattle.msi_pool.specs.PoolWriting as pool_writing
 use Rattle.msi_pool.proofs.PoolReadBackLemmas.{pools_read_back}
 use Rattle.msi_pool.proofs.ForgottenLemmas.{empty_places, none_lost}
-use Rattle.msi_summary_properties.specs.PropertyStream.{property_stream}
-use Rattle.msi_summary_properties.specs.PropertyStream as properties
-use Rattle.msi_summary_properties.specs.PropertyWriting as property_writing
+use Rattle.msi_summary.specs.PropertyStream.{property_stream}
+use Rattle.msi_summary.specs.PropertyStream as properties
+use Rattle.msi_summary.specs.PropertyWriting as property_writing
 use Rattle.msi_summary.specs.Summary.{SpellsSummary}
-use Rattle.msi_summary_properties.proofs.ReadBackLemmas.{sets_read_back}
+use Rattle.msi_summary.proofs.ReadBackLemmas.{sets_read_back}
 use Rattle.msi_container_write.specs.LayoutLaw.{HaveNames}
 use Rattle.msi_database_schema.specs.Keys.{is_table_name, table_key, summary_key, string_pool_name, string_data_name}
 use Rattle.msi_database_schema.specs.System.{tables_name, columns_name, validation_name}
-use Rattle.msi_database_changes.specs.Database.{Database, Tables}
+use Rattle.msi_database.specs.Database.{Database, Tables}
 use Rattle.msi_database_storage.specs.Streams.{Streams, stream_at, with_stream}
 use Rattle.msi_database_storage.specs.Agreement.{is_shown}
 use Rattle.msi_database_schema.proofs.KeyLemmas.{pool_keys_differ, table_key≢summary_key, table_key≢pool, tables_accepted, columns_accepted, validation_accepted}

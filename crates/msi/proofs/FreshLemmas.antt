@@ -5,13 +5,13 @@ use Rattle.std.proofs.lemmas.Bool.{true≢false}
 use Rattle.msi_base.specs.Lists.{has_pair}
 use Rattle.msi_base.proofs.OptionLemmas.{some_there}
 use Rattle.msi_table_values.specs.declared.value.Value.{Value}
-use Rattle.msi_table_cells.specs.CellValues.{row_values}
+use Rattle.msi_table.specs.CellValues.{row_values}
 use Rattle.msi_container_write.specs.LayoutLaw.{IsName}
 use Rattle.msi_database_schema.proofs.RowOrderLemmas.{names_total}
-use Rattle.msi_database_changes.specs.Database.{CountsAreExact, is_sound, rows_of}
-use Rattle.msi_table_cells.specs.KeyOrder.{key_of, same_key}
-use Rattle.msi_database_changes.specs.Laws.{KeysAreDistinct}
-use Rattle.msi_database_changes.proofs.DescribingLemmas.{rows_at_is}
+use Rattle.msi_database.specs.Database.{CountsAreExact, is_sound, rows_of}
+use Rattle.msi_table.specs.KeyOrder.{key_of, same_key}
+use Rattle.msi_database.specs.Laws.{KeysAreDistinct}
+use Rattle.msi_database.proofs.DescribingLemmas.{rows_at_is}
 use Rattle.msi_database.specs.Fresh as databases
 use Rattle.msi_database.proofs.FreshLemmas.{fresh_is_kept}
 use Rattle.msi_database_storage.proofs.MapLemmas as maps

@@ -3,15 +3,15 @@ use Rattle.std.proofs.Common.{◌≡◌, ℕ, Bool, true, false, List, [], Optio
 use Rattle.std.specs.Prelude.{MatchBool}
 use Rattle.std.proofs.lemmas.Bool.{true≢false}
 use Rattle.msi_base.specs.declared.errors.ErrorKind.{ErrorKind}
-use Rattle.msi_database_changes.specs.Changes.{Change}
+use Rattle.msi_database.specs.Changes.{Change}
 use Rattle.msi_database_schema.specs.Keys.{stream_key}
 use Rattle.msi.specs.State.{State, parts_of}
 use Rattle.msi_database_storage.specs.Streams.{with_stream}
-use Rattle.msi_database_changes.specs.Insert.{insert_rows}
-use Rattle.msi_database_changes.specs.Update.{update_rows}
-use Rattle.msi_database_changes.specs.Delete.{delete_rows}
-use Rattle.msi_database_changes.specs.Create.{create_table}
-use Rattle.msi_database_changes.specs.Drop.{drop_table}
+use Rattle.msi_database.specs.Insert.{insert_rows}
+use Rattle.msi_database.specs.Update.{update_rows}
+use Rattle.msi_database.specs.Delete.{delete_rows}
+use Rattle.msi_database.specs.Create.{create_table}
+use Rattle.msi_database.specs.Drop.{drop_table}
 use Rattle.msi_summary.specs.declared.property.SummaryProperty.{SummaryProperty}
 use Rattle.msi.specs.Calls.{Call, Answer}
 use Rattle.msi.specs.Calls as calls

@@ -5,20 +5,20 @@ use Rattle.std.specs.List.{AllByRecursion}
 use Rattle.std.specs.FinMap.{entries}
 use Rattle.std.proofs.lemmas.Option.{same_Some}
 use Rattle.msi_base.proofs.ListLemmas.{same_head, same_tail}
-use Rattle.msi_pool_places.specs.Pool.{Pool}
-use Rattle.msi_pool_places.specs.Pool as pools
+use Rattle.msi_pool.specs.Pool.{Pool}
+use Rattle.msi_pool.specs.Pool as pools
 use Rattle.msi_pool.proofs.ReadStreamLemmas.{one_pool}
-use Rattle.msi_summary_properties.specs.Properties.{Properties}
+use Rattle.msi_summary.specs.Properties.{Properties}
 use Rattle.msi_summary.specs.Summary.{SpellsSummary}
-use Rattle.msi_summary_properties.proofs.ReadBackLemmas.{only_one_set}
-use Rattle.msi_table_cells.specs.declared.cell.ValueRef.{ValueRef}
+use Rattle.msi_summary.proofs.ReadBackLemmas.{only_one_set}
+use Rattle.msi_table.specs.ValueRef.{ValueRef}
 use Rattle.msi_table_values.specs.Columns.{ColumnDef}
-use Rattle.msi_table_cells.specs.TableCells.{TableCells}
+use Rattle.msi_table.specs.TableCells.{TableCells}
 use Rattle.msi_container_format.specs.declared.contents.Contents.{Contents}
 use Rattle.msi_database_schema.specs.Keys.{table_key, summary_key, string_pool_name, string_data_name}
 use Rattle.msi_database_schema.specs.System.{validation_name, validation_columns}
-use Rattle.msi_database_changes.specs.Database.{Database, Tables, has_table, columns_by_name}
-use Rattle.msi_database_changes.proofs.ShownLemmas.{columns_shown}
+use Rattle.msi_database.specs.Database.{Database, Tables, has_table, columns_by_name}
+use Rattle.msi_database.proofs.ShownLemmas.{columns_shown}
 use Rattle.msi_database_storage.specs.Streams.{Streams, stream_at, stored_rows}
 use Rattle.msi_database_storage.specs.Agreement.{TablesAre, UnlistedIs, is_shown, schema_rows, schema_in}
 use Rattle.msi.specs.declared.kinds.PackageType.{PackageType}

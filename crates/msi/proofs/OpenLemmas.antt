@@ -4,7 +4,7 @@ use Rattle.std.specs.List.{AllByRecursion}
 use Rattle.msi_container_format.specs.StreamNames.{is_marked}
 use Rattle.msi_database_schema.specs.Keys.{table_key, stream_key}
 use Rattle.msi_database_schema.specs.System.{columns_name, tables_name, validation_name}
-use Rattle.msi_database_changes.specs.Database.{Database}
+use Rattle.msi_database.specs.Database.{Database}
 use Rattle.msi_database_storage.specs.Kept.{Kept}
 use Rattle.msi_database.specs.Others.{IsOther}
 use Rattle.msi_database_schema.proofs.KeyLemmas.{unmarked≢table_key, stream_key_unmarked}

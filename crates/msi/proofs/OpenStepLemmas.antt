@@ -6,12 +6,12 @@ use Rattle.std.specs.List.{AllByRecursion}
 use Rattle.std.specs.FinMap.{entries, get, get-entries}
 use Rattle.msi_base.specs.declared.errors.ErrorKind.{ErrorKind}
 use Rattle.msi_base.specs.declared.errors.ErrorKind.TheVariants.{InvalidData, NotFound, OutOfMemory}
-use Rattle.msi_pool_places.specs.Pool.{Pool, PoolStream, Entry, IsPool, IsPoolStream, SpellsPool, SpellsTexts, pool_with}
-use Rattle.msi_pool_places.specs.Pool as pools
+use Rattle.msi_pool.specs.Pool.{Pool, PoolStream, Entry, IsPool, IsPoolStream, SpellsPool, SpellsTexts, pool_with}
+use Rattle.msi_pool.specs.Pool as pools
 use Rattle.msi_base.specs.Results.{FailsAs, Gives, IsUnlessMemory}
 use Rattle.msi_base.proofs.OptionLemmas.{is_some_by, none_not, some_of}
 use Rattle.msi_container_device.specs.Held.{Held, all_bytes}
-use Rattle.msi_summary_properties.specs.Properties.{Properties}
+use Rattle.msi_summary.specs.Properties.{Properties}
 use Rattle.msi_summary.specs.Summary.{SpellsSummary}
 use Rattle.msi_container_format.specs.declared.contents.Contents.{Contents}
 use Rattle.msi_container_format.specs.Container.{Holds}

@@ -6,16 +6,16 @@ use Rattle.std.specs.FinMap.{entries, entries_sorted}
 use Rattle.std.proofs.lemmas.Bool.{true≢false}
 use Rattle.std.proofs.lemmas.List.Elements.{All-from_recursion}
 use Rattle.msi_base.specs.declared.codepage.CodePage.{CodePage}
-use Rattle.msi_pool_places.specs.Pool.{Pool, Place, Entry, CountsFit, SpellsEntries, SpellsTexts, IsPool, with_named_texts}
-use Rattle.msi_summary_properties.specs.Properties.{Properties}
+use Rattle.msi_pool.specs.Pool.{Pool, Place, Entry, CountsFit, SpellsEntries, SpellsTexts, IsPool, with_named_texts}
+use Rattle.msi_summary.specs.Properties.{Properties}
 use Rattle.msi_summary.specs.Summary.{SpellsSummary}
-use Rattle.msi_summary_properties.proofs.KeptSetLemmas.{IsKept-spelled}
+use Rattle.msi_summary.proofs.KeptSetLemmas.{IsKept-spelled}
 use Rattle.msi_table_values.specs.Columns.{ColumnDef}
 use Rattle.msi_table.specs.Tables.{TableDef}
 use Rattle.msi_container_format.specs.declared.contents.Contents.{Contents}
 use Rattle.msi_container_format.specs.Container.{Holds}
 use Rattle.msi_database_schema.specs.Keys.{table_key, summary_key, string_pool_name, string_data_name}
-use Rattle.msi_database_changes.specs.Database.{Database, Tables, is_sound}
+use Rattle.msi_database.specs.Database.{Database, Tables, is_sound}
 use Rattle.msi_database_storage.specs.Streams.{Streams, stream_at}
 use Rattle.msi_database_storage.specs.StreamNames.{HoldBytes}
 use Rattle.msi_database_storage.specs.Kept.{AreAsLong, database_kept, schema_listed}

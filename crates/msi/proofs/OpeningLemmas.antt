@@ -5,12 +5,12 @@ use Rattle.std.specs.FinMap.{entries}
 use Rattle.msi_base.specs.declared.errors.ErrorKind.{ErrorKind}
 use Rattle.msi_base.specs.declared.codepage.CodePage.{CodePage}
 use Rattle.msi_base.proofs.OptionLemmas.{is_some_by, some_of}
-use Rattle.msi_pool_places.specs.Pool.{Pool, Entry, IsPool, SpellsPool}
+use Rattle.msi_pool.specs.Pool.{Pool, Entry, IsPool, SpellsPool}
 use Rattle.msi_container_format.specs.declared.contents.Contents.{Contents}
 use Rattle.msi_container_format.proofs.PlanOnceLemmas.{held_once}
 use Rattle.msi_database_schema.specs.Keys.{table_key, summary_key, string_pool_name, string_data_name}
 use Rattle.msi_database_storage.specs.Streams.{stream_at}
-use Rattle.msi_database_changes.specs.Database.{columns_by_name}
+use Rattle.msi_database.specs.Database.{columns_by_name}
 use Rattle.msi_database_storage.specs.Agreement.{schema_in}
 use Rattle.msi.specs.State.{Parts, State, parts_of}
 use Rattle.msi.specs.Meaning.{ContentsMean, OpenStep, Passes, FailsFirst, OpensTo, as_opened, open_steps}

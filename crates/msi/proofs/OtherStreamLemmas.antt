@@ -11,7 +11,7 @@ use Rattle.msi_container_format.proofs.NamesLemmas.{names_total, exact_names}
 use Rattle.msi_container_write.specs.LayoutLaw.{IsName, HaveNames}
 use Rattle.msi_database_schema.specs.Keys.{is_stream_name, table_key, stream_key, summary_key, signature_key, string_pool_name, string_data_name}
 use Rattle.msi_database_schema.specs.System.{validation_name}
-use Rattle.msi_database_changes.specs.Database.{Database}
+use Rattle.msi_database.specs.Database.{Database}
 use Rattle.msi_database_storage.specs.Streams.{Streams, with_stream, without_stream}
 use Rattle.msi_database_schema.proofs.KeyLemmas.{unmarked≢table_key, stream_key_unmarked, stream_key≢summary_key, signature≢summary}
 use Rattle.msi_database_storage.proofs.MapLemmas as maps

@@ -3,27 +3,27 @@ use Rattle.std.proofs.Common.{◌≡◌, ◌≢◌, ℕ, ◌≤◌, true, false,
 use Rattle.std.specs.Str.{IsUtf8}
 use Rattle.std.proofs.lemmas.Bool.{true≢false, or_parts, and_from, lt-ltb, le-leb, leb-true, not-false}
 use Rattle.std.proofs.lemmas.Bool.Decides.{nat_tests}
-use Rattle.msi_pool_places.specs.FirstFit.{most_places}
+use Rattle.msi_pool.specs.FirstFit.{most_places}
 use Rattle.msi_base.specs.declared.codepage.CodePage.{CodePage}
 use Rattle.msi_base.specs.declared.errors.ErrorKind.TheVariants.{InvalidData}
-use Rattle.msi_pool_places.specs.Pool as pools
-use Rattle.msi_summary_properties.specs.Properties.{Properties}
+use Rattle.msi_pool.specs.Pool as pools
+use Rattle.msi_summary.specs.Properties.{Properties}
 use Rattle.msi_container_format.specs.Names.{is_name_length}
 use Rattle.msi_container_format.specs.StreamNames.{is_marked}
 use Rattle.msi_container_write.specs.LayoutLaw.{IsName, HaveNames}
 use Rattle.msi_database_schema.specs.Keys.{is_stream_name, table_key, stream_key, summary_key, signature_key, signature_ex_key, string_pool_name, string_data_name}
 use Rattle.msi_database_schema.specs.System.{validation_name}
-use Rattle.msi_database_changes.specs.Database.{Database, is_sound}
-use Rattle.msi_database_changes.specs.Changes.{Change}
-use Rattle.msi_database_changes.specs.Laws.{IsChange, IsTableChange}
-use Rattle.msi_database_changes.specs.Widening.{widened}
-use Rattle.msi_database_changes.proofs.AtWidthLemmas.{IsChangeAtWidth, IsTableChangeAtWidth, any_change_many, sound_widened, inserted, updated, deleted, created, dropped}
-use Rattle.msi_database_changes.proofs.InsertLemmas.{insert_parts}
-use Rattle.msi_database_changes.proofs.UpdateLemmas.{update_parts}
-use Rattle.msi_database_changes.proofs.DeleteLemmas.{delete_parts}
-use Rattle.msi_database_changes.proofs.RefusedLemmas.{first_fails}
-use Rattle.msi_database_changes.proofs.ShownLemmas as steps
-use Rattle.msi_database_changes.proofs.ShownChangesLemmas.{dropped_parts}
+use Rattle.msi_database.specs.Database.{Database, is_sound}
+use Rattle.msi_database.specs.Changes.{Change}
+use Rattle.msi_database.specs.Laws.{IsChange, IsTableChange}
+use Rattle.msi_database.specs.Widening.{widened}
+use Rattle.msi_database.proofs.AtWidthLemmas.{IsChangeAtWidth, IsTableChangeAtWidth, any_change_many, sound_widened, inserted, updated, deleted, created, dropped}
+use Rattle.msi_database.proofs.InsertLemmas.{insert_parts}
+use Rattle.msi_database.proofs.UpdateLemmas.{update_parts}
+use Rattle.msi_database.proofs.DeleteLemmas.{delete_parts}
+use Rattle.msi_database.proofs.RefusedLemmas.{first_fails}
+use Rattle.msi_database.proofs.ShownLemmas as steps
+use Rattle.msi_database.proofs.ShownChangesLemmas.{dropped_parts}
 use Rattle.msi_database_storage.specs.Kept.{Kept, base_of, kept_widened}
 use Rattle.msi_database_storage.specs.Streams.{Streams, stored_streams, stream_at, with_stream, without_stream}
 use Rattle.msi_database_storage.specs.StreamNames as databases

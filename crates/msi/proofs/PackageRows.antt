@@ -1,8 +1,8 @@
 -- Worked examples, by computation.
 use Rattle.std.specs.Prelude.{◌≡◌, true, [], ◌∷◌, ◌++◌, Some, refl, codes, map, length, sum_by, take, option_map, ◌+◌}
-use Rattle.msi_pool_places.specs.Pool.{pool_stream, data_stream}
+use Rattle.msi_pool.specs.Pool.{pool_stream, data_stream}
 use Rattle.msi_database_schema.specs.Keys.{table_key, summary_key}
-use Rattle.msi_database_changes.specs.Database.{is_sound, columns_by_name}
+use Rattle.msi_database.specs.Database.{is_sound, columns_by_name}
 use Rattle.msi.specs.declared.kinds.PackageType.TheVariants as kind
 use Rattle.msi.specs.State.{State}
 use Rattle.msi_database_storage.specs.Streams.{stream_at}

@@ -3,10 +3,10 @@ use Rattle.std.proofs.Common.{◌≡◌, ℕ, zero, suc, ◌+◌, ◌<◌, ◌�
 use Rattle.std.specs.Prelude.{if◌then◌else◌}
 use Rattle.std.specs.List.{list_any, enumerate_from}
 use Rattle.std.proofs.lemmas.Bool.{leb-true, eqb-true}
-use Rattle.msi_pool_places.specs.FirstFit.{count_of}
-use Rattle.msi_pool_places.specs.Pool.{Pool, Place, forgotten}
-use Rattle.msi_pool_places.specs.Pool as pools
-use Rattle.msi_database_changes.specs.Database.{Database, is_sound, named_numbers, cells_naming}
+use Rattle.msi_pool.specs.FirstFit.{count_of}
+use Rattle.msi_pool.specs.Pool.{Pool, Place, forgotten}
+use Rattle.msi_pool.specs.Pool as pools
+use Rattle.msi_database.specs.Database.{Database, is_sound, named_numbers, cells_naming}
 use Rattle.msi_database_storage.specs.Streams.{Streams}
 use Rattle.msi_database_storage.specs.Agreement.{DatabaseIs, is_shown}
 use Rattle.msi_database.proofs.SoundLemmas.{sound_is}

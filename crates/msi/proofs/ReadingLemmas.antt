@@ -3,12 +3,12 @@ use Rattle.std.proofs.Common.{◌≡◌, ℕ, Bool, false, List, [], ◌∷◌, 
 use Rattle.std.specs.Prelude.{IsSome}
 use Rattle.std.specs.FinMap.{entries}
 use Rattle.std.proofs.lemmas.Bool.{true≢false}
-use Rattle.msi_pool_places.specs.Pool.{Pool}
-use Rattle.msi_summary_properties.specs.Properties.{Properties}
+use Rattle.msi_pool.specs.Pool.{Pool}
+use Rattle.msi_summary.specs.Properties.{Properties}
 use Rattle.msi_table_values.specs.Columns.{ColumnDef}
 use Rattle.msi_table.specs.Tables.{TableDef}
 use Rattle.msi_container_format.specs.declared.contents.Contents.{Contents}
-use Rattle.msi_database_changes.specs.Database.{Database}
+use Rattle.msi_database.specs.Database.{Database}
 use Rattle.msi_database_storage.specs.Streams.{Streams}
 use Rattle.msi_database_storage.specs.Kept.{Kept, database_kept, schema_listed}
 use Rattle.msi_database_storage.specs.Agreement.{DatabaseIs, is_shown, schema_rows, schema_in}

@@ -5,10 +5,10 @@ use Rattle.std.proofs.lemmas.Bool.{or_parts}
 use Rattle.std.proofs.lemmas.Bool.Decides.{nat_tests}
 use Rattle.msi_base.specs.declared.errors.ErrorKind.{ErrorKind}
 use Rattle.msi_base.specs.declared.errors.ErrorKind.TheVariants.{InvalidInput, Io, OutOfMemory}
-use Rattle.msi_pool_places.specs.Pool as pools
+use Rattle.msi_pool.specs.Pool as pools
 use Rattle.msi_base.specs.Refusals.{first_refusal, IsRefusal, unless, unless_refused, ◌>>=◌}
-use Rattle.msi_database_changes.specs.Database.{Database}
-use Rattle.msi_database_changes.specs.Recounting.{counts_changed, recount, recount_refusals}
+use Rattle.msi_database.specs.Database.{Database}
+use Rattle.msi_database.specs.RecountedDatabases.{counts_changed, recount, recount_refusals}
 use Rattle.msi_database_storage.specs.Kept.{Kept}
 use Rattle.msi_database.specs.Recounting as kept
 use Rattle.msi_database.proofs.RecountingLemmas.{recount_exact, recount_kept, recount_unchanged}

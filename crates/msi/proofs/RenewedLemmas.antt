@@ -10,7 +10,7 @@ use Rattle.msi_container_format.proofs.StreamsLemmas.{put_back_same}
 use Rattle.msi_container_format.specs.Names.{named}
 use Rattle.msi_database_schema.specs.Keys.{is_table_name, string_data_name, string_pool_name, summary_key, table_key}
 use Rattle.msi_database_schema.specs.System.{columns_name, tables_name, validation_name}
-use Rattle.msi_database_changes.specs.Database.{Database, Tables, is_sound}
+use Rattle.msi_database.specs.Database.{Database, Tables, is_sound}
 use Rattle.msi_database_storage.specs.Kept.{Kept}
 use Rattle.msi_database_storage.specs.Streams.{Streams, stream_at, with_stream, with_stream_or_none}
 use Rattle.msi_database.specs.Others.{IsOther, with_streams}

@@ -1,7 +1,7 @@
 -- The streams that are written anew: the pool's two behind others.
 use Rattle.std.proofs.Common.{◌≡◌, ℕ, false, List, [], ◌∷◌, ◌++◌, Some, None, refl, sym, ap, ◌∙◌}
 use Rattle.std.specs.Prelude.{if◌then◌else◌, option_and_then, option_map}
-use Rattle.msi_pool_places.specs.Pool.{Pool, data_stream, pool_stream}
+use Rattle.msi_pool.specs.Pool.{Pool, data_stream, pool_stream}
 use Rattle.msi_pool.specs.PoolWriting.{is_refused}
 use Rattle.msi_database_schema.specs.Keys.{string_data_name, string_pool_name, table_key}
 use Rattle.msi_database_storage.specs.Streams.{Streams, with_stream}

@@ -2,13 +2,13 @@
 use Rattle.std.proofs.Common.{◌≡◌, true, [], ◌∷◌, length, Result, sym, ap, subst, ◌∙◌, inl, inr}
 use Rattle.msi_base.specs.declared.codepage.CodePage.{CodePage}
 use Rattle.msi_base.specs.declared.errors.ErrorKind.{ErrorKind}
-use Rattle.msi_pool_places.proofs.TakenLemmas.{taken_takes}
-use Rattle.msi_database_changes.specs.Database.{Database, CountsAreExact, is_sound, is_well_formed}
-use Rattle.msi_database_changes.specs.Changes.{Change}
-use Rattle.msi_database_changes.specs.Laws as databases
-use Rattle.msi_database_changes.specs.Laws.{KeysAreDistinct}
-use Rattle.msi_database_changes.specs.Recounting.{IsRecounted, recounted as recounted_database}
-use Rattle.msi_database_changes.proofs.LawLemmas.{changes_keep, table_changes_keep}
+use Rattle.msi_pool.proofs.TakenLemmas.{taken_takes}
+use Rattle.msi_database.specs.Database.{Database, CountsAreExact, is_sound, is_well_formed}
+use Rattle.msi_database.specs.Changes.{Change}
+use Rattle.msi_database.specs.Laws as databases
+use Rattle.msi_database.specs.Laws.{KeysAreDistinct}
+use Rattle.msi_database.specs.RecountedDatabases.{IsRecounted, recounted as recounted_database}
+use Rattle.msi_database.proofs.LawLemmas.{changes_keep, table_changes_keep}
 use Rattle.msi_database.proofs.GivenBackLemmas.{given_back_gives}
 use Rattle.msi_database.proofs.KeptLawLemmas.{kept_is_well_formed}
 use Rattle.msi_database.proofs.RecountingLemmas.{recount_exact}

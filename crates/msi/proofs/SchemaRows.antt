@@ -10,7 +10,7 @@ use Rattle.msi_table_values.specs.declared.value.Value.TheVariants.{Str}
 use Rattle.msi_table_values.specs.declared.column.ColumnType.TheVariants.{Int16, Int32}
 use Rattle.msi_table_values.specs.declared.column.ColumnType.TheVariants as coltype
 use Rattle.msi_table_values.specs.Columns.{ColumnDef, type_bits}
-use Rattle.msi_database_changes.specs.Database.{has_table, columns_by_name}
+use Rattle.msi_database.specs.Database.{has_table, columns_by_name}
 use Rattle.msi.specs.declared.kinds.PackageType.TheVariants as kind
 use Rattle.msi_database_schema.specs.System.{plain_column, key, nullable, one_of, in_range, of_category}
 use Rattle.msi.specs.State.{State}

@@ -3,12 +3,12 @@ use Rattle.std.proofs.Common.{◌≡◌, ℕ, zero, suc, ◌+◌, ◌-◌, ◌<�
 use Rattle.std.specs.Prelude.{slice_get, option_map, if◌then◌else◌}
 use Rattle.std.specs.Option.{option_map_or}
 use Rattle.std.specs.List.{AllByRecursion, enumerate_from}
-use Rattle.msi_pool_places.specs.Pool.{Pool, Place, forgotten}
-use Rattle.msi_pool_places.specs.FirstFitLaws.{text_at}
-use Rattle.msi_table_cells.specs.declared.cell.ValueRef.{ValueRef}
-use Rattle.msi_table_cells.specs.declared.cell.ValueRef.TheVariants as cell
+use Rattle.msi_pool.specs.Pool.{Pool, Place, forgotten}
+use Rattle.msi_pool.specs.FirstFitLaws.{text_at}
+use Rattle.msi_table.specs.ValueRef.{ValueRef}
+use Rattle.msi_table.specs.ValueRef.TheVariants as cell
 use Rattle.msi_table_values.specs.declared.value.Value.TheVariants as value
-use Rattle.msi_table_cells.specs.CellValues.{value_of_cell, row_values}
+use Rattle.msi_table.specs.CellValues.{value_of_cell, row_values}
 use Rattle.msi_database_schema.specs.System.{tables_name, columns_name, validation_name, tables_columns, columns_columns, validation_columns}
 use Rattle.msi_database_storage.specs.Streams.{Streams, stored_rows}
 use Rattle.msi_database_storage.specs.Agreement.{schema_in}

@@ -9,17 +9,17 @@ use Rattle.msi_base.specs.declared.errors.ErrorKind.{ErrorKind}
 use Rattle.msi_base.specs.declared.errors.ErrorKind.TheVariants.{InvalidInput, InvalidData, NotFound}
 use Rattle.msi_base.specs.Refusals.{Refusals, first_refusal, unless, unless_refused, or_refused}
 use Rattle.msi_database_schema.specs.Keys.{is_stream_name, stream_key}
-use Rattle.msi_database_changes.specs.Database.{Database, is_sound}
-use Rattle.msi_database_changes.specs.Changes.{Change, sound_refusal}
-use Rattle.msi_database_changes.specs.Insert.{insert_rows}
-use Rattle.msi_database_changes.specs.Update.{update_rows}
-use Rattle.msi_database_changes.specs.Delete.{delete_rows}
-use Rattle.msi_database_changes.specs.Create.{create_table}
-use Rattle.msi_database_changes.specs.Drop.{drop_table}
-use Rattle.msi_database_changes.specs.Recounting.{counts_changed, recount, recount_refusals}
-use Rattle.msi_database_changes.specs.Laws.{IsChange, IsTableChange, inserted, updated, deleted, created, dropped}
-use Rattle.msi_database_changes.proofs.RefusedLemmas.{not_refused, value_there}
-use Rattle.msi_database_changes.proofs.ShownLemmas.{ok_first}
+use Rattle.msi_database.specs.Database.{Database, is_sound}
+use Rattle.msi_database.specs.Changes.{Change, sound_refusal}
+use Rattle.msi_database.specs.Insert.{insert_rows}
+use Rattle.msi_database.specs.Update.{update_rows}
+use Rattle.msi_database.specs.Delete.{delete_rows}
+use Rattle.msi_database.specs.Create.{create_table}
+use Rattle.msi_database.specs.Drop.{drop_table}
+use Rattle.msi_database.specs.RecountedDatabases.{counts_changed, recount, recount_refusals}
+use Rattle.msi_database.specs.Laws.{IsChange, IsTableChange, inserted, updated, deleted, created, dropped}
+use Rattle.msi_database.proofs.RefusedLemmas.{not_refused, value_there}
+use Rattle.msi_database.proofs.ShownLemmas.{ok_first}
 use Rattle.msi_database_storage.specs.Streams.{Streams, with_stream, without_stream}
 use Rattle.msi.specs.State.{Parts, State, parts_of}
 use Rattle.msi.specs.Meaning.{IsPackage}

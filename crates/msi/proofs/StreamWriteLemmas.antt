@@ -6,7 +6,7 @@ use Rattle.msi_base.proofs.BoolLemmas.{cond_twice}
 use Rattle.msi_container_format.specs.Names.{name_cmp}
 use Rattle.msi_container_format.proofs.NamesLemmas.{names_total, exact_names}
 use Rattle.msi_database_schema.specs.Keys.{is_stream_name, stream_key}
-use Rattle.msi_database_changes.specs.Database.{Database, is_sound}
+use Rattle.msi_database.specs.Database.{Database, is_sound}
 use Rattle.msi_database_storage.specs.Kept.{Kept}
 use Rattle.msi_database_storage.specs.Streams.{Streams, has_stream_at, with_stream}
 use Rattle.msi_database.specs.Others.{IsOther, with_streams}

@@ -6,12 +6,12 @@ use Rattle.msi_base.specs.declared.codepage.CodePage.{CodePage}
 use Rattle.msi_base.specs.declared.codepage.CodePage.TheVariants as page
 use Rattle.msi_base.specs.declared.errors.ErrorKind.{ErrorKind}
 use Rattle.msi_categories.specs.Spellings.{language_list_text, braced_uuid_text}
-use Rattle.msi_summary_properties.specs.declared.propset.PropertyValue.{PropertyValue}
-use Rattle.msi_summary_properties.specs.declared.propset.PropertyValue.TheVariants.{I4, LpStr, FileTime}
-use Rattle.msi_summary_properties.specs.declared.propset.OperatingSystem.TheVariants as os
-use Rattle.msi_summary_properties.specs.Properties.{Properties, with_value, without_value, with_page, page_value, can_set, new_set}
-use Rattle.msi_summary_properties.specs.PropertyStream.{FitsValue}
-use Rattle.msi_summary_properties.specs.PropertyLaws.{IsKept}
+use Rattle.msi_summary.specs.PropertyValue.{PropertyValue}
+use Rattle.msi_summary.specs.PropertyValue.TheVariants.{I4, LpStr, FileTime}
+use Rattle.msi_summary.specs.OperatingSystem.TheVariants as os
+use Rattle.msi_summary.specs.Properties.{Properties, with_value, without_value, with_page, page_value, can_set, new_set}
+use Rattle.msi_summary.specs.PropertyStream.{FitsValue}
+use Rattle.msi_summary.specs.PropertyLaws.{IsKept}
 use Rattle.msi_summary.specs.declared.property.TextProperty.{TextProperty}
 use Rattle.msi_summary.specs.declared.property.TextProperty.TheVariants.{Title, Subject, Author, Comments, LastSavedBy, CreatingApplication}
 use Rattle.msi_summary.specs.declared.property.NumberProperty.{NumberProperty}
@@ -22,8 +22,8 @@ use Rattle.msi_summary.specs.declared.property.SummaryProperty.{SummaryProperty}
 use Rattle.msi_summary.specs.declared.property.SummaryProperty.TheVariants as property
 use Rattle.msi_summary.specs.Property.{text_id, number_id, time_id, codepage_id, keywords_id, template_id, uuid_id}
 use Rattle.msi_summary.specs.Summary as summary
-use Rattle.msi_summary_properties.proofs.KeptSetLemmas.{IsKept-with_value, IsKept-without_value}
-use Rattle.msi_summary_properties.proofs.PropertiesLemmas.{page_in-page_value}
+use Rattle.msi_summary.proofs.KeptSetLemmas.{IsKept-with_value, IsKept-without_value}
+use Rattle.msi_summary.proofs.PropertiesLemmas.{page_in-page_value}
 use Rattle.msi.specs.Calls.{SummaryCall, SummaryAnswer}
 use Rattle.msi.specs.Calls as calls
 use Rattle.msi.specs.Lent.{RunsTo, Gives, FitsSummaryCall, summary_after, summary_outcome, summary_wants_memory}

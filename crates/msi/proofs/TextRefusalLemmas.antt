@@ -6,10 +6,10 @@ use Rattle.msi_base.specs.declared.errors.ErrorKind.{ErrorKind}
 use Rattle.msi_base.specs.declared.errors.ErrorKind.TheVariants.{InvalidInput}
 use Rattle.msi_base.specs.Refusals.{AnswersFirst, AnswersWith, Refusals, first_refusal}
 use Rattle.msi_base.proofs.RefusalLemmas.{none_answered}
-use Rattle.msi_pool_places.specs.Pool.{Pool, data_stream, pool_stream}
+use Rattle.msi_pool.specs.Pool.{Pool, data_stream, pool_stream}
 use Rattle.msi_pool.specs.PoolWriting as pool_writing
-use Rattle.msi_summary_properties.specs.PropertyStream.{property_stream}
-use Rattle.msi_summary_properties.specs.PropertyWriting as property_writing
+use Rattle.msi_summary.specs.PropertyStream.{property_stream}
+use Rattle.msi_summary.specs.PropertyWriting as property_writing
 use Rattle.msi_database_schema.specs.Keys.{string_data_name, string_pool_name, summary_key, table_key}
 use Rattle.msi_database_storage.specs.Kept.{Kept}
 use Rattle.msi_database_storage.specs.Streams.{Streams, with_stream}

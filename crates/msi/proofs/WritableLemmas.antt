@@ -7,11 +7,11 @@ use Rattle.msi_base.specs.declared.codepage.CodePage.{CodePage}
 use Rattle.msi_base.specs.declared.codepage.CodePage.TheVariants.{Utf8}
 use Rattle.msi_base.specs.Pages.{IsWritable}
 use Rattle.msi_base.proofs.PagesLemmas.{utf8_texts_come_back}
-use Rattle.msi_pool_places.specs.Pool as pools
-use Rattle.msi_summary_properties.specs.declared.propset.PropertyValue.{PropertyValue}
-use Rattle.msi_summary_properties.specs.declared.propset.PropertyValue.TheVariants.{LpStr}
-use Rattle.msi_summary_properties.specs.Properties.{Properties, page_of}
-use Rattle.msi_summary_properties.specs.PropertyStream as properties
+use Rattle.msi_pool.specs.Pool as pools
+use Rattle.msi_summary.specs.PropertyValue.{PropertyValue}
+use Rattle.msi_summary.specs.PropertyValue.TheVariants.{LpStr}
+use Rattle.msi_summary.specs.Properties.{Properties, page_of}
+use Rattle.msi_summary.specs.PropertyStream as properties
 use Rattle.msi.specs.Writable.{Utf8TextsAreWritable}
 
 places_writable : (places : List pools.Place) → pools.HaveUtf8Texts places → AllByRecursion (λ (p : pools.Place). (0 < p.count) → IsWritable Utf8 p.text) places

@@ -20,15 +20,15 @@ pub use Rattle.msi_database_schema.specs.Description
 pub use Rattle.msi_database.specs.Texts
 pub use Rattle.msi_database.specs.KeySets
 pub use Rattle.msi_database.specs.Setting
-pub use Rattle.msi_database_changes.specs.Database
-pub use Rattle.msi_database_changes.specs.Changes
-pub use Rattle.msi_database_changes.specs.Insert
-pub use Rattle.msi_database_changes.specs.Update
-pub use Rattle.msi_database_changes.specs.Delete
-pub use Rattle.msi_database_changes.specs.Create
-pub use Rattle.msi_database_changes.specs.Drop
-pub use Rattle.msi_database_changes.specs.Laws
-pub use Rattle.msi_database_changes.specs.Recounting as RecountedDatabases
+pub use Rattle.msi_database.specs.Database
+pub use Rattle.msi_database.specs.Changes
+pub use Rattle.msi_database.specs.Insert
+pub use Rattle.msi_database.specs.Update
+pub use Rattle.msi_database.specs.Delete
+pub use Rattle.msi_database.specs.Create
+pub use Rattle.msi_database.specs.Drop
+pub use Rattle.msi_database.specs.Laws
+pub use Rattle.msi_database.specs.RecountedDatabases
 pub use Rattle.msi_database_storage.specs.Streams
 pub use Rattle.msi_database_storage.specs.Kept
 pub use Rattle.msi_database_storage.specs.Storing

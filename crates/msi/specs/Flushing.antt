@@ -5,12 +5,12 @@ use Rattle.std.specs.List.{AllByRecursion}
 use Rattle.std.specs.FinMap.{from_sorted}
 use Rattle.msi_base.specs.declared.errors.ErrorKind.{ErrorKind}
 use Rattle.msi_base.specs.declared.errors.ErrorKind.TheVariants.{InvalidInput, Io, OutOfMemory}
-use Rattle.msi_summary_properties.specs.Properties.{Properties}
+use Rattle.msi_summary.specs.Properties.{Properties}
 use Rattle.msi_container_device.specs.Faults.{is_io}
 use Rattle.msi_container_device.specs.Held.{Held, bytes_told}
 use Rattle.msi_container_format.specs.declared.contents.Contents.{Contents}
 use Rattle.msi_container_write.specs.Layout.{layout, refuses}
-use Rattle.msi_database_changes.specs.Database.{Database}
+use Rattle.msi_database.specs.Database.{Database}
 use Rattle.msi_database_storage.specs.Kept.{Kept}
 use Rattle.msi_database_storage.specs.Streams.{Streams}
 use Rattle.msi_database.specs.Others.{IsOther}

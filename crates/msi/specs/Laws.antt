@@ -6,8 +6,8 @@ use Rattle.msi_base.specs.declared.errors.ErrorKind.TheVariants.{Io, OutOfMemory
 use Rattle.msi_base.specs.Refusals.{AnswersWith}
 use Rattle.msi_container_format.specs.declared.contents.Contents.{Contents}
 use Rattle.msi_database_schema.specs.Keys.{is_stream_name, stream_key}
-use Rattle.msi_database_changes.specs.Database.{Database, CountsAreExact, is_sound}
-use Rattle.msi_database_changes.specs.Laws.{KeysAreDistinct}
+use Rattle.msi_database.specs.Database.{Database, CountsAreExact, is_sound}
+use Rattle.msi_database.specs.Laws.{KeysAreDistinct}
 use Rattle.msi_database_storage.specs.Streams.{Streams, with_stream, without_stream}
 use Rattle.msi.specs.declared.kinds.PackageType.{PackageType}
 use Rattle.msi.specs.State.{Parts, State, parts_of}

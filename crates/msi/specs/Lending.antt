@@ -4,7 +4,7 @@ use Rattle.std.specs.Borrow.{Fml, LendsIfOk, MutBor, RattleType}
 use Rattle.msi_base.specs.declared.errors.ErrorKind.{ErrorKind}
 use Rattle.msi_container_device.specs.declared.source.Source.{Ghosts}
 use Rattle.msi_database_schema.specs.Keys.{stream_key}
-use Rattle.msi_summary_properties.specs.Properties.{Properties}
+use Rattle.msi_summary.specs.Properties.{Properties}
 use Rattle.msi_summary.specs.contracts.summary.SummaryInfo as summary
 use Rattle.msi_database_storage.specs.Streams.{with_stream}
 use Rattle.msi.specs.Cursor.{Cursor}

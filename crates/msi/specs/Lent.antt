@@ -5,7 +5,7 @@ use Rattle.std.specs.Int.{w32}
 use Rattle.std.specs.Int.RustNames.{FitsSigned}
 use Rattle.msi_base.specs.declared.errors.ErrorKind.{ErrorKind}
 use Rattle.msi_base.specs.declared.errors.ErrorKind.TheVariants.{InvalidInput, OutOfMemory}
-use Rattle.msi_summary_properties.specs.Properties.{Properties, with_page, page_of}
+use Rattle.msi_summary.specs.Properties.{Properties, with_page, page_of}
 use Rattle.msi_summary.specs.declared.property.SummaryProperty.{SummaryProperty}
 use Rattle.msi_summary.specs.declared.property.SummaryProperty.TheVariants as property
 use Rattle.msi_summary.specs.Property.{text_id, number_id, time_id}

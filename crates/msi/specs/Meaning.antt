@@ -4,17 +4,17 @@ use Rattle.std.specs.FinMap.{entries}
 use Rattle.msi_base.specs.declared.codepage.CodePage.{CodePage}
 use Rattle.msi_base.specs.declared.errors.ErrorKind.{ErrorKind}
 use Rattle.msi_base.specs.declared.errors.ErrorKind.TheVariants.{InvalidData, NotFound}
-use Rattle.msi_pool_places.specs.Pool.{Pool, Entry, IsPool, SpellsPool, with_named_texts}
-use Rattle.msi_pool_places.specs.Pool as pools
-use Rattle.msi_summary_properties.specs.Properties.{Properties}
-use Rattle.msi_summary_properties.specs.PropertyStream as properties
-use Rattle.msi_summary_properties.specs.PropertyLaws.{IsKept}
+use Rattle.msi_pool.specs.Pool.{Pool, Entry, IsPool, SpellsPool, with_named_texts}
+use Rattle.msi_pool.specs.Pool as pools
+use Rattle.msi_summary.specs.Properties.{Properties}
+use Rattle.msi_summary.specs.PropertyStream as properties
+use Rattle.msi_summary.specs.PropertyLaws.{IsKept}
 use Rattle.msi_summary.specs.Summary.{SpellsSummary, summary_format}
 use Rattle.msi_container_format.specs.declared.contents.Contents.{Contents}
 use Rattle.msi_container_format.specs.Container.{Holds}
 use Rattle.msi_container_write.specs.LayoutLaw.{HaveNames}
 use Rattle.msi_database_schema.specs.Keys.{table_key, summary_key, string_pool_name, string_data_name}
-use Rattle.msi_database_changes.specs.Database.{Database, is_sound}
+use Rattle.msi_database.specs.Database.{Database, is_sound}
 use Rattle.msi_database_storage.specs.Streams.{Streams, stream_at}
 use Rattle.msi_database_storage.specs.Agreement.{DatabaseIs, is_shown, schema_in}
 use Rattle.msi_database.specs.Keeping.{IsKeptDatabase}

@@ -3,7 +3,7 @@ use Rattle.std.specs.Prelude.{◌≡◌, ℕ, ◌⊎◌, List, Option, Result, E
 use Rattle.std.specs.FinMap.{entries}
 use Rattle.msi_base.specs.declared.errors.ErrorKind.{ErrorKind}
 use Rattle.msi_base.specs.declared.errors.ErrorKind.TheVariants.{OutOfMemory}
-use Rattle.msi_pool_places.specs.Pool.{PoolStream, IsPoolStream}
+use Rattle.msi_pool.specs.Pool.{PoolStream, IsPoolStream}
 use Rattle.msi_container_format.specs.declared.contents.Contents.{Contents}
 use Rattle.msi_container_device.specs.Held.{Held, all_bytes}
 use Rattle.msi_database_schema.specs.Keys.{table_key, string_pool_name}

@@ -4,11 +4,11 @@ use Rattle.std.specs.Prelude.{◌&&◌, option_and_then, option_map, if◌then�
 use Rattle.msi_base.specs.declared.errors.ErrorKind.{ErrorKind}
 use Rattle.msi_base.specs.declared.errors.ErrorKind.TheVariants.{InvalidInput, OutOfMemory}
 use Rattle.msi_base.specs.Refusals.{Refusals}
-use Rattle.msi_pool_places.specs.Pool.{Pool, pool_stream, data_stream}
+use Rattle.msi_pool.specs.Pool.{Pool, pool_stream, data_stream}
 use Rattle.msi_pool.specs.PoolWriting.{is_refused}
-use Rattle.msi_summary_properties.specs.Properties.{Properties}
-use Rattle.msi_summary_properties.specs.PropertyStream.{property_stream}
-use Rattle.msi_summary_properties.specs.PropertyWriting as properties
+use Rattle.msi_summary.specs.Properties.{Properties}
+use Rattle.msi_summary.specs.PropertyStream.{property_stream}
+use Rattle.msi_summary.specs.PropertyWriting as properties
 use Rattle.msi_database_schema.specs.Keys.{table_key, summary_key, string_pool_name, string_data_name}
 use Rattle.msi_database_storage.specs.Streams.{Streams, with_stream}
 

@@ -6,12 +6,12 @@ use Rattle.std.specs.Str.{IsUtf8}
 use Rattle.msi_base.specs.Refusals.{◌>>=◌}
 use Rattle.msi_base.specs.declared.errors.ErrorKind.{ErrorKind}
 use Rattle.msi_base.specs.declared.errors.ErrorKind.TheVariants.{Io, OutOfMemory}
-use Rattle.msi_pool_places.specs.Pool as pools
+use Rattle.msi_pool.specs.Pool as pools
 use Rattle.msi_summary.specs.Summary.{new_summary}
-use Rattle.msi_summary_properties.specs.PropertyStream as properties
+use Rattle.msi_summary.specs.PropertyStream as properties
 use Rattle.msi_container_write.specs.Layout.{layout}
-use Rattle.msi_database_changes.specs.Database.{CountsAreExact, Database, is_sound}
-use Rattle.msi_database_changes.specs.Laws.{KeysAreDistinct}
+use Rattle.msi_database.specs.Database.{CountsAreExact, Database, is_sound}
+use Rattle.msi_database.specs.Laws.{KeysAreDistinct}
 use Rattle.msi_database.specs.Fresh as databases
 use Rattle.msi.specs.declared.kinds.PackageType.{PackageType}
 use Rattle.msi.specs.Kinds.{title_of}

@@ -1,10 +1,10 @@
 -- What a package is: the parts that its bytes mean, and what it keeps beside them.
 use Rattle.std.specs.Prelude.{ℕ, Bool, not, List, map, filter, ◌||◌, bytes_eq}
 use Rattle.std.specs.List.{list_any}
-use Rattle.msi_summary_properties.specs.Properties.{Properties}
+use Rattle.msi_summary.specs.Properties.{Properties}
 use Rattle.msi_database_schema.specs.Keys.{table_key, summary_key, string_pool_name, string_data_name}
 use Rattle.msi_database_schema.specs.System.{validation_name}
-use Rattle.msi_database_changes.specs.Database.{Database}
+use Rattle.msi_database.specs.Database.{Database}
 use Rattle.msi_database_storage.specs.Streams.{Streams}
 use Rattle.msi_database_storage.specs.Kept.{Kept}
 use Rattle.msi.specs.declared.kinds.PackageType.{PackageType}

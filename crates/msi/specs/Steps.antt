@@ -6,21 +6,21 @@ use Rattle.std.specs.FinMap.{from_sorted}
 use Rattle.msi_base.specs.declared.codepage.CodePage.{CodePage}
 use Rattle.msi_base.specs.declared.errors.ErrorKind.{ErrorKind}
 use Rattle.msi_base.specs.declared.errors.ErrorKind.TheVariants.{InvalidInput, NotFound, Io, OutOfMemory}
-use Rattle.msi_summary_properties.specs.Properties.{Properties}
+use Rattle.msi_summary.specs.Properties.{Properties}
 use Rattle.msi_container_format.specs.declared.contents.Contents.{Contents}
 use Rattle.msi_container_write.specs.Layout.{layout, refuses}
 use Rattle.msi_base.specs.Refusals.{AnswersWith, Refusals, first_refusal, unless_refused, or_refused, ◌>>=◌}
 use Rattle.msi_query.specs.Rows.{columns_read}
 use Rattle.msi_query.specs.Selection.{early_refusal, relation_of}
 use Rattle.msi_database_schema.specs.Keys.{is_stream_name, stream_key, signature_key, signature_ex_key}
-use Rattle.msi_database_changes.specs.Database.{Database, has_table, table_at, values_of}
-use Rattle.msi_database_changes.specs.Changes.{Change, sound_refusal}
-use Rattle.msi_database_changes.specs.Insert.{early_insert_refusals, insert_rows}
-use Rattle.msi_database_changes.specs.Update.{early_update_refusals, update_rows}
-use Rattle.msi_database_changes.specs.Delete.{delete_rows, early_delete_refusals}
-use Rattle.msi_database_changes.specs.Create.{create_table}
-use Rattle.msi_database_changes.specs.Drop.{drop_table, early_drop_refusals}
-use Rattle.msi_database_changes.specs.Recounting.{counts_changed, early_recount_refusals, recount}
+use Rattle.msi_database.specs.Database.{Database, has_table, table_at, values_of}
+use Rattle.msi_database.specs.Changes.{Change, sound_refusal}
+use Rattle.msi_database.specs.Insert.{early_insert_refusals, insert_rows}
+use Rattle.msi_database.specs.Update.{early_update_refusals, update_rows}
+use Rattle.msi_database.specs.Delete.{delete_rows, early_delete_refusals}
+use Rattle.msi_database.specs.Create.{create_table}
+use Rattle.msi_database.specs.Drop.{drop_table, early_drop_refusals}
+use Rattle.msi_database.specs.RecountedDatabases.{counts_changed, early_recount_refusals, recount}
 use Rattle.msi_database_storage.specs.Streams.{Streams, stream_at, has_stream_at, with_stream, without_stream}
 use Rattle.msi_database_storage.specs.Kept as databases
 use Rattle.msi_database.specs.Creating.{create_refusals}

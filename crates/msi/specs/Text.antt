@@ -16,10 +16,10 @@ pub use Rattle.msi_base.specs.Lists
 pub use Rattle.msi_base.specs.PageTables
 pub use Rattle.msi_base.specs.Pages
 pub use Rattle.msi_base.specs.Faults
-pub use Rattle.msi_pool_places.specs.Pool
-pub use Rattle.msi_pool_places.specs.FirstFit
-pub use Rattle.msi_pool_places.specs.FirstFitLaws
+pub use Rattle.msi_pool.specs.Pool
+pub use Rattle.msi_pool.specs.FirstFit
+pub use Rattle.msi_pool.specs.FirstFitLaws
 pub use Rattle.msi_pool.specs.PoolWriting
 pub use Rattle.msi_pool.specs.PoolLaws
-pub use Rattle.msi_pool_places.specs.PoolReading
-pub use Rattle.msi_pool_places.specs.References
+pub use Rattle.msi_pool.specs.PoolReading
+pub use Rattle.msi_pool.specs.References

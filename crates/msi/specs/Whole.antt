@@ -2,10 +2,10 @@
 use Rattle.std.specs.Prelude.{◌≡◌, ℕ, Bool, true, List, Option, Result, Ok, Err, IfSome}
 use Rattle.msi_base.specs.declared.errors.ErrorKind.{ErrorKind}
 use Rattle.msi_container_device.specs.Held.{Held}
-use Rattle.msi_summary_properties.specs.Properties.{Properties}
+use Rattle.msi_summary.specs.Properties.{Properties}
 use Rattle.msi_database_schema.specs.Keys.{is_stream_name, stream_key}
-use Rattle.msi_database_changes.specs.Database.{is_sound}
-use Rattle.msi_database_changes.specs.Changes.{Change}
+use Rattle.msi_database.specs.Database.{is_sound}
+use Rattle.msi_database.specs.Changes.{Change}
 use Rattle.msi_database_storage.specs.Kept.{Kept}
 use Rattle.msi_database_storage.specs.Streams.{has_stream_at}
 use Rattle.msi_database.specs.Others.{with_streams}

@@ -1,9 +1,9 @@
 -- Packages whose texts are UTF-8, and whose pages are.
 use Rattle.std.specs.Prelude.{◌≡◌}
 use Rattle.msi_base.specs.declared.codepage.CodePage.TheVariants.{Utf8}
-use Rattle.msi_pool_places.specs.Pool as pools
-use Rattle.msi_summary_properties.specs.Properties.{page_of}
-use Rattle.msi_summary_properties.specs.PropertyStream as properties
+use Rattle.msi_pool.specs.Pool as pools
+use Rattle.msi_summary.specs.Properties.{page_of}
+use Rattle.msi_summary.specs.PropertyStream as properties
 use Rattle.msi.specs.State.{State}
 use Rattle.msi.specs.Runs.{TextsAreWritable}
 

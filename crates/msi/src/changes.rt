@@ -2,16 +2,16 @@
 
 ghost use Rattle.std.specs.Prelude.{◌≡◌, ◌++◌, IfErr, OnErr, OnOk};
 ghost use Rattle.msi_base.specs.Refusals.{AnswersFirst, IsRefusal, unless_refused};
-ghost use Rattle.msi_database_changes.specs.Changes.{sound_refusal};
-ghost use Rattle.msi_database_changes.specs.Create as creates;
-ghost use Rattle.msi_database_changes.specs.Delete as deletes;
-ghost use Rattle.msi_database_changes.specs.Delete.{early_delete_refusals};
-ghost use Rattle.msi_database_changes.specs.Drop as drops;
-ghost use Rattle.msi_database_changes.specs.Drop.{early_drop_refusals};
-ghost use Rattle.msi_database_changes.specs.Insert as inserts;
-ghost use Rattle.msi_database_changes.specs.Insert.{early_insert_refusals};
-ghost use Rattle.msi_database_changes.specs.Update as updates;
-ghost use Rattle.msi_database_changes.specs.Update.{early_update_refusals};
+ghost use Rattle.msi_database.specs.Changes.{sound_refusal};
+ghost use Rattle.msi_database.specs.Create as creates;
+ghost use Rattle.msi_database.specs.Delete as deletes;
+ghost use Rattle.msi_database.specs.Delete.{early_delete_refusals};
+ghost use Rattle.msi_database.specs.Drop as drops;
+ghost use Rattle.msi_database.specs.Drop.{early_drop_refusals};
+ghost use Rattle.msi_database.specs.Insert as inserts;
+ghost use Rattle.msi_database.specs.Insert.{early_insert_refusals};
+ghost use Rattle.msi_database.specs.Update as updates;
+ghost use Rattle.msi_database.specs.Update.{early_update_refusals};
 ghost use Rattle.msi_database.specs.Creating.{create_refusals};
 ghost use Rattle.msi.specs.State.{parts_of};
 ghost use Rattle.msi.specs.Steps.{changing, storage_refusal, with_page};

@@ -5,7 +5,7 @@ ghost use Rattle.std.specs.Vec.Iter.{into_iter_items};
 ghost use Rattle.msi_base.specs.Refusals.{AnswersFirst};
 ghost use Rattle.msi_container_device.specs.Faults.{is_io};
 ghost use Rattle.msi_container_write.specs.Borrowed.{contents_of};
-ghost use Rattle.msi_database_changes.specs.Database.{is_sound};
+ghost use Rattle.msi_database.specs.Database.{is_sound};
 ghost use Rattle.msi_database.specs.Others.{with_streams};
 ghost use Rattle.msi.specs.Renewing.{with_renewed};
 ghost use Rattle.msi.specs.Flushing.{AreOthers, FlushStep, Overwrites, flush_answer, left_by, over_device};

@@ -32,7 +32,7 @@ pub mod writer;
 pub use files::{open, open_rw};
 pub use kinds::PackageType;
 pub use listing::Tables;
-pub use msi_base::{CodePage, Error, ErrorKind, IntoText, Items, Text};
+pub use msi_base::{CodePage, Error, ErrorKind, IntoText, Items, Reason, Text};
 pub use msi_categories::{Category, LanguageId, Timestamp};
 pub use msi_container_device::{Buffered, Device, Memory, Metered, Source};
 pub use msi_container_format::streamname;

@@ -3,7 +3,7 @@
 ghost use Rattle.std.specs.Prelude.{◌≡◌, ◌⊎◌, ◌∷◌, [], Err, IfErr, IfOk, None, Ok, Some, false};
 ghost use Rattle.std.specs.FinMap.{entries};
 ghost use Rattle.msi_base.specs.declared.errors.ErrorKind.TheVariants.{InvalidData, Io, NotFound, OutOfMemory};
-ghost use Rattle.msi_pool_places.specs.Pool.{Pool, PoolStream};
+ghost use Rattle.msi_pool.specs.Pool.{Pool, PoolStream};
 ghost use Rattle.msi_base.specs.Results.{IsUnlessMemory};
 ghost use Rattle.msi_container_device.specs.Faults.{is_io};
 ghost use Rattle.msi_container_device.specs.Held.{bytes_told};

@@ -6,7 +6,7 @@ ghost use Rattle.std.specs.Option.{option_copied};
 ghost use Rattle.msi_base.specs.Refusals.{AnswersWith, IsRefusal, first_refusal, unless_refused};
 ghost use Rattle.msi_query.specs.Rows.{columns_read};
 ghost use Rattle.msi_query.specs.Selection.{early_refusal, relation_of};
-ghost use Rattle.msi_database_changes.specs.Database.{has_table as has_one, is_sound, table_at, values_of};
+ghost use Rattle.msi_database.specs.Database.{has_table as has_one, is_sound, table_at, values_of};
 ghost use Rattle.msi_database.specs.Keeping.{IsKeptDatabase};
 ghost use Rattle.msi_database.specs.Listed.{table_def_at, tables_listed};
 ghost use Rattle.msi.specs.Lending.{LendsSummary};

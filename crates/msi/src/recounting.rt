@@ -2,7 +2,7 @@
 
 ghost use Rattle.std.specs.Prelude.{◌≡◌, ◌++◌, IfErr, IfOk, Ok, OnErr, OnOk};
 ghost use Rattle.msi_base.specs.Refusals.{AnswersFirst, IsRefusal};
-ghost use Rattle.msi_database_changes.specs.Recounting.{early_recount_refusals};
+ghost use Rattle.msi_database.specs.RecountedDatabases.{early_recount_refusals};
 ghost use Rattle.msi.specs.State.{parts_of};
 ghost use Rattle.msi.specs.Steps.{after_recount, recounting, storage_refusal};
 ghost use Rattle.msi.specs.Whole.{with_state};

@@ -6,7 +6,7 @@ ghost use Rattle.std.specs.Vec.Iter.{into_iter_items};
 ghost use Rattle.msi_base.specs.Results.{OnlyMemory};
 ghost use Rattle.msi_base.specs.declared.errors.ErrorKind.TheVariants.{InvalidInput};
 ghost use Rattle.msi_pool.specs.PoolWriting.{is_refused as is_pool_refused};
-ghost use Rattle.msi_summary_properties.specs.PropertyWriting.{is_refused as is_summary_refused};
+ghost use Rattle.msi_summary.specs.PropertyWriting.{is_refused as is_summary_refused};
 ghost use Rattle.msi_container_write.specs.Borrowed.{contents_of};
 ghost use Rattle.msi_base.specs.Refusals.{AnswersFirst, IsRefusal, or_refused};
 ghost use Rattle.msi_database_storage.specs.Streams.{Streams};

@@ -2,9 +2,9 @@
 
 ghost use Rattle.std.specs.Prelude.{◌≡◌, ◌↔◌, IsTrue};
 ghost use Rattle.msi_base.specs.declared.codepage.CodePage.TheVariants.{Utf8};
-ghost use Rattle.msi_pool_places.specs.Pool as pools;
-ghost use Rattle.msi_summary_properties.specs.Properties.{page_of};
-ghost use Rattle.msi_summary_properties.specs.PropertyStream as properties;
+ghost use Rattle.msi_pool.specs.Pool as pools;
+ghost use Rattle.msi_summary.specs.Properties.{page_of};
+ghost use Rattle.msi_summary.specs.PropertyStream as properties;
 ghost use Rattle.msi.specs.Runs.{TextsAreWritable};
 ghost use Rattle.msi.specs.Writable.{HasUtf8Pages, HasUtf8Texts};
 

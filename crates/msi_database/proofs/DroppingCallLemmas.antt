@@ -4,8 +4,8 @@ use Rattle.std.specs.Option.{option_map_or}
 use Rattle.msi_base.specs.declared.errors.ErrorKind.{ErrorKind}
 use Rattle.msi_base.proofs.OptionLemmas.{map_some}
 use Rattle.std.proofs.lemmas.Bool.{leb-true}
-use Rattle.msi_pool_places.specs.FirstFit.{most_places}
-use Rattle.msi_pool_places.specs.Pool.{Pool}
+use Rattle.msi_pool.specs.FirstFit.{most_places}
+use Rattle.msi_pool.specs.Pool.{Pool}
 use Rattle.msi_table_cells.specs.declared.cell.ValueRef.{ValueRef}
 use Rattle.msi_table.specs.Tables.{TableDef, CanStore}
 use Rattle.msi_table_values.specs.Columns.{types_of}

@@ -4,7 +4,7 @@ use Rattle.std.specs.FinMap.{entries, put}
 use Rattle.msi_container_format.specs.Streams as maps
 use Rattle.msi_base.specs.Lists.{list_cmp}
 use Rattle.msi_base.proofs.OptionLemmas.{none_there}
-use Rattle.msi_pool_places.specs.Pool.{Pool}
+use Rattle.msi_pool.specs.Pool.{Pool}
 use Rattle.msi_table_cells.specs.declared.cell.ValueRef.{ValueRef}
 use Rattle.msi_table_values.specs.Columns.{ColumnDef}
 use Rattle.msi_table.specs.Tables.{TableDef}

@@ -4,7 +4,7 @@ use Rattle.std.specs.FinMap.{empty, entries, len, len-empty, len-entries}
 use Rattle.std.proofs.lemmas.List.{nil_from_length}
 use Rattle.msi_container_format.specs.Names.{name_cmp}
 use Rattle.msi_container_format.specs.Streams as maps
-use Rattle.msi_pool_places.specs.Pool.{Pool}
+use Rattle.msi_pool.specs.Pool.{Pool}
 use Rattle.msi_table.specs.Tables.{TableDef}
 use Rattle.msi_database_changes.specs.Database.{is_sound, columns_by_name}
 use Rattle.msi_database_changes.specs.declared.storing.Stored.{Stored}

@@ -4,8 +4,8 @@ use Rattle.std.specs.List.{list_all}
 use Rattle.std.proofs.lemmas.Bool.{and_parts, ltb-true, eqb-true}
 use Rattle.msi_base.specs.Lists.{numbers_below}
 use Rattle.msi_base.proofs.ListLemmas.{each_number}
-use Rattle.msi_pool_places.specs.FirstFit.{count_of}
-use Rattle.msi_pool_places.specs.Pool.{Place, CountsFit, PlacesWritten}
+use Rattle.msi_pool.specs.FirstFit.{count_of}
+use Rattle.msi_pool.specs.Pool.{Place, CountsFit, PlacesWritten}
 use Rattle.msi_table_values.specs.Columns.{types_of}
 use Rattle.msi_database_schema.specs.System.{validation_columns}
 use Rattle.msi_database_changes.specs.Database.{Database, CountsAreExact, cells_naming, is_sound}

@@ -55,3 +55,14 @@ pub mod LongRowsLemmas
 pub mod FreshCallLemmas
 pub mod FreshMadeLemmas
 pub mod FreshStepLemmas
+-- The lemmas of the crates below, which proofs above cite.
+pub use Rattle.msi_database_changes.proofs.RefusedLemmas
+pub use Rattle.msi_database_changes.proofs.SchemaKeptLemmas
+pub use Rattle.msi_database_changes.proofs.DescribingLemmas
+pub use Rattle.msi_database_changes.proofs.ShownLemmas
+pub use Rattle.msi_database_changes.proofs.AtWidthLemmas
+pub use Rattle.msi_database_changes.proofs.InsertLemmas
+pub use Rattle.msi_database_changes.proofs.UpdateLemmas
+pub use Rattle.msi_database_changes.proofs.DeleteLemmas
+pub use Rattle.msi_database_changes.proofs.ShownChangesLemmas
+pub use Rattle.msi_database_changes.proofs.LawLemmas

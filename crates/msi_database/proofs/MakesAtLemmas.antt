@@ -4,8 +4,8 @@ use Rattle.std.specs.Prelude.{if◌then◌else◌}
 use Rattle.std.proofs.lemmas.Bool.{true≢false}
 use Rattle.std.proofs.lemmas.Bool.Decides.{nat_tests}
 use Rattle.msi_base.specs.declared.errors.ErrorKind.{ErrorKind}
-use Rattle.msi_pool_places.specs.FirstFit.{most_places}
-use Rattle.msi_pool_places.specs.Pool.{Pool}
+use Rattle.msi_pool.specs.FirstFit.{most_places}
+use Rattle.msi_pool.specs.Pool.{Pool}
 use Rattle.msi_table.specs.Tables.{TableDef}
 use Rattle.msi_database_changes.specs.Texts.{UsedPool, settled}
 use Rattle.msi_database_changes.specs.Database.{Database, is_sound}

@@ -7,8 +7,8 @@ use Rattle.std.proofs.lemmas.Bool.{and_parts, leb-true, eqb-false, true≢false}
 use Rattle.std.proofs.lemmas.List.Sums.{length-filter}
 use Rattle.msi_container_format.specs.Names.{name_cmp}
 use Rattle.msi_base.specs.Lists.{numbers_from}
-use Rattle.msi_pool_places.specs.FirstFit.{count_of}
-use Rattle.msi_pool_places.specs.Pool.{Pool, Place, CountsFit, PlacesWritten, forgotten, with_named_texts}
+use Rattle.msi_pool.specs.FirstFit.{count_of}
+use Rattle.msi_pool.specs.Pool.{Pool, Place, CountsFit, PlacesWritten, forgotten, with_named_texts}
 use Rattle.msi_table_cells.specs.declared.cell.ValueRef.{ValueRef}
 use Rattle.msi_table.specs.Tables.{TableDef}
 use Rattle.msi_table_values.specs.Columns.{types_of}

@@ -1,7 +1,7 @@
 -- A database that is kept goes on to be kept under another page.
 use Rattle.std.proofs.Common.{Bool, List}
 use Rattle.msi_base.specs.declared.codepage.CodePage.{CodePage}
-use Rattle.msi_pool_places.specs.Pool.{Pool}
+use Rattle.msi_pool.specs.Pool.{Pool}
 use Rattle.msi_table.specs.Tables.{TableDef}
 use Rattle.msi_database_storage.specs.Streams.{Streams}
 use Rattle.msi_database.specs.Keeping.{AreKept}

@@ -16,7 +16,7 @@ use Rattle.msi_database.proofs.OpenedLemmas.{HaveFittingRows}
 use Rattle.msi_database_storage.specs.Agreement.{schema_in, schema_rows}
 use Rattle.msi_database_schema.specs.Schema.{SchemaRows, schema_of, by_name, is_faulty, listed_names, columns_of, column_rows}
 use Rattle.msi_database_changes.proofs.TurnLemmas.{map_some}
-use Rattle.msi_pool_places.specs.Pool.{Pool}
+use Rattle.msi_pool.specs.Pool.{Pool}
 use Rattle.msi_base.specs.Lists.{numbers_from}
 use Rattle.std.proofs.lemmas.List.{length-map}
 use Rattle.std.proofs.lemmas.Bool.{cases_eq}

@@ -9,7 +9,7 @@ use Rattle.std.proofs.lemmas.List.Folds.{list_any-append}
 use Rattle.std.proofs.lemmas.Option.{same_Some}
 use Rattle.msi_container_format.specs.Names.{name_cmp}
 use Rattle.msi_container_format.specs.Streams as maps
-use Rattle.msi_pool_places.specs.Pool.{CountsFit, Place, Pool, forgotten, with_named_texts}
+use Rattle.msi_pool.specs.Pool.{CountsFit, Place, Pool, forgotten, with_named_texts}
 use Rattle.msi_table_cells.specs.declared.cell.ValueRef.{ValueRef}
 use Rattle.msi_table_values.specs.Columns.{ColumnDef}
 use Rattle.msi_table.specs.Tables.{TableDef}

@@ -5,11 +5,11 @@ use Rattle.std.specs.Option.{option_map_or}
 use Rattle.std.proofs.lemmas.Bool.{eq-eqb, not-false}
 use Rattle.std.proofs.lemmas.Option.{option_and_then_some}
 use Rattle.msi_base.specs.Lists.{list_cmp}
-use Rattle.msi_pool_places.specs.Pool.{Place, PlacesWritten, Pool}
+use Rattle.msi_pool.specs.Pool.{Place, PlacesWritten, Pool}
 use Rattle.msi_base.specs.declared.errors.ErrorKind.{ErrorKind}
 use Rattle.msi_base.specs.declared.errors.ErrorKind.TheVariants.{InvalidData}
-use Rattle.msi_pool_places.specs.Recounting.{with_counts}
-use Rattle.msi_pool_places.proofs.RecountingLemmas.{CountsFit-with_counts}
+use Rattle.msi_pool.specs.Recounting.{with_counts}
+use Rattle.msi_pool.proofs.RecountingLemmas.{CountsFit-with_counts}
 use Rattle.msi_table_cells.specs.declared.cell.ValueRef.{ValueRef}
 use Rattle.msi_table_values.specs.Columns.{ColumnDef}
 use Rattle.msi_table.specs.Tables.{TableDef}

@@ -4,8 +4,8 @@ use Rattle.std.specs.Prelude.{MatchOption}
 use Rattle.std.proofs.lemmas.Option.{same_Some}
 use Rattle.std.proofs.lemmas.Bool.{leb-true}
 use Rattle.msi_base.specs.declared.errors.ErrorKind.{ErrorKind}
-use Rattle.msi_pool_places.specs.FirstFit.{most_places}
-use Rattle.msi_pool_places.specs.Pool.{Place, Pool}
+use Rattle.msi_pool.specs.FirstFit.{most_places}
+use Rattle.msi_pool.specs.Pool.{Place, Pool}
 use Rattle.msi_table_cells.specs.declared.cell.ValueRef.{ValueRef}
 use Rattle.msi_table_values.specs.declared.value.Value.{Value}
 use Rattle.msi_table_values.specs.Columns.{ColumnDef, types_of}

@@ -9,9 +9,9 @@ use Rattle.std.proofs.lemmas.Bool.{eq-eqb, or_left, or_right}
 use Rattle.std.proofs.lemmas.List.Folds.{list_any-append}
 use Rattle.std.proofs.lemmas.Option.{none-some, option_and_then_some, same_Some}
 use Rattle.std.proofs.lemmas.Slice.Eq.{bytes_eq-Decides}
-use Rattle.msi_pool_places.specs.FirstFitLaws.{text_at}
+use Rattle.msi_pool.specs.FirstFitLaws.{text_at}
 use Rattle.msi_base.specs.Lists.{list_cmp}
-use Rattle.msi_pool_places.specs.Pool.{Place, Pool, forgotten, with_named_texts}
+use Rattle.msi_pool.specs.Pool.{Place, Pool, forgotten, with_named_texts}
 use Rattle.msi_table_values.specs.declared.column.ColumnType.{ColumnType}
 use Rattle.msi_table_values.specs.declared.value.Value.TheVariants as value
 use Rattle.msi_table_cells.specs.declared.cell.ValueRef.{ValueRef}

@@ -2,8 +2,8 @@
 use Rattle.std.proofs.Common.{◌≡◌, ◌≤◌, true, ◌&&◌, [], ◌∷◌, length, is_some, arith}
 use Rattle.std.specs.List.{list_all, AllByRecursion}
 use Rattle.std.proofs.lemmas.Bool.{and_parts, leb-true}
-use Rattle.msi_pool_places.specs.FirstFit.{most_places}
-use Rattle.msi_pool_places.proofs.FirstFitLemmas.{most_places-few}
+use Rattle.msi_pool.specs.FirstFit.{most_places}
+use Rattle.msi_pool.proofs.FirstFitLemmas.{most_places-few}
 use Rattle.msi_database_schema.specs.Keys.{is_table_name}
 use Rattle.msi_database_changes.specs.Database.{Database, Tables, is_sound, counts_suffice, names_stay_in_pool, pool_fits_width, tables_are_readable, validation_is_standard}
 

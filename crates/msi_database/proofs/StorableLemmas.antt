@@ -5,10 +5,10 @@ use Rattle.std.specs.List.{list_all}
 use Rattle.std.proofs.lemmas.Bool.Decides.{nat_tests}
 use Rattle.std.proofs.lemmas.Option.{same_Some, none-some, option_and_then_some}
 use Rattle.msi_base.specs.declared.errors.ErrorKind.TheVariants.{InvalidInput, InvalidData}
-use Rattle.msi_pool_places.specs.FirstFit.{most_places}
+use Rattle.msi_pool.specs.FirstFit.{most_places}
 use Rattle.msi_base.specs.Lists.{has_pair}
-use Rattle.msi_pool_places.specs.Pool.{Place}
-use Rattle.msi_pool_places.proofs.TakenLemmas.{taken_takes}
+use Rattle.msi_pool.specs.Pool.{Place}
+use Rattle.msi_pool.proofs.TakenLemmas.{taken_takes}
 use Rattle.msi_table_values.specs.declared.value.Value.{Value}
 use Rattle.msi_table_cells.specs.declared.cell.ValueRef.{ValueRef}
 use Rattle.msi_table_values.specs.Columns.{ColumnDef, types_of}

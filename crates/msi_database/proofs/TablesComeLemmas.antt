@@ -2,7 +2,7 @@
 use Rattle.std.proofs.Common.{◌≡◌, ℕ, List, Some, Ok, sym, ◌∙◌}
 use Rattle.std.proofs.lemmas.Bool.{true≢false}
 use Rattle.msi_base.proofs.OptionLemmas.{none_there}
-use Rattle.msi_pool_places.proofs.TakenLemmas.{taken_takes}
+use Rattle.msi_pool.proofs.TakenLemmas.{taken_takes}
 use Rattle.msi_table_values.specs.Columns.{ColumnDef}
 use Rattle.msi_database_schema.specs.System.{validation_name}
 use Rattle.msi_database_schema.specs.Schema.{schema_of}

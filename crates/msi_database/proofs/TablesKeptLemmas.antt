@@ -2,7 +2,7 @@
 use Rattle.std.proofs.Common.{◌≡◌, ℕ, Bool, true, false, List, [], ◌∷◌, map, Some, None, refl, sym, ap₂, cond, option_map, is_some}
 use Rattle.std.specs.Prelude.{bytes_eq}
 use Rattle.std.proofs.lemmas.Slice.Eq.{bytes_eq-Decides}
-use Rattle.msi_pool_places.specs.Pool.{Pool}
+use Rattle.msi_pool.specs.Pool.{Pool}
 use Rattle.msi_table.specs.Tables.{TableDef}
 use Rattle.msi_database_changes.specs.Database.{has_table}
 use Rattle.msi_database_storage.specs.Streams.{Streams}

@@ -13,7 +13,7 @@ use Rattle.msi_database_schema.specs.Description.{column_rows, tables_row, valid
 use Rattle.msi_database_schema.specs.Keys.{table_key}
 use Rattle.msi_database_schema.specs.System.{tables_name, columns_name, validation_name}
 use Rattle.msi_database_changes.specs.Database.{Database, table_at, rows_of}
-use Rattle.msi_pool_places.specs.Pool.{Pool}
+use Rattle.msi_pool.specs.Pool.{Pool}
 use Rattle.msi_database_changes.specs.Texts.{PoolInUse, UsedPool, settled}
 use Rattle.msi_database_changes.specs.Changes.{sound_refusal}
 use Rattle.msi_database_changes.specs.Create.{SystemRows, table_refusals}

@@ -3,7 +3,7 @@ use Rattle.std.specs.Prelude.{◌≡◌, ◌≤◌, ◌⊎◌, T, Bool, true, Li
 use Rattle.std.specs.List.{AllByRecursion}
 use Rattle.std.specs.FinMap.{is_sorted}
 use Rattle.msi_container_format.specs.Names.{name_cmp}
-use Rattle.msi_pool_places.specs.Pool.{Pool, CountsFit, PlacesWritten, with_named_texts}
+use Rattle.msi_pool.specs.Pool.{Pool, CountsFit, PlacesWritten, with_named_texts}
 use Rattle.msi_table.specs.Tables.{TableDef}
 use Rattle.msi_table_values.specs.Columns.{types_of}
 use Rattle.msi_table_cells.specs.Fitting.{FitsRow, FitsTable}

@@ -44,3 +44,4 @@ pub use Rattle.msi_database_storage.specs.Kept
 pub use Rattle.msi_database_storage.specs.Storing
 pub use Rattle.msi_database_storage.specs.Agreement
 pub use Rattle.msi_database_storage.specs.Reading
+pub use Rattle.msi_database_changes.specs.Widening

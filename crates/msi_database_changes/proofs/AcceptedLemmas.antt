@@ -11,7 +11,7 @@ use Rattle.std.proofs.lemmas.Bool.{or_parts, and_parts, false_from_ne_true, not-
 use Rattle.msi_categories.specs.CategoryRules.{is_identifier}
 use Rattle.msi_base.specs.declared.errors.ErrorKind.TheVariants.{AlreadyExists, InvalidData, InvalidInput}
 use Rattle.msi_base.specs.Lists.{has_pair, list_cmp}
-use Rattle.msi_pool_places.specs.Pool.{Place}
+use Rattle.msi_pool.specs.Pool.{Place}
 use Rattle.msi_table_values.specs.declared.value.Value.{Value}
 use Rattle.msi_table_values.specs.declared.value.Value.TheVariants.{Null, Str}
 use Rattle.msi_table_values.specs.declared.column.ColumnType.{ColumnType}

@@ -5,7 +5,7 @@ use Rattle.std.specs.Prelude.{IsSomeAnd}
 use Rattle.std.proofs.lemmas.Bool.{and_parts, not-true}
 use Rattle.std.proofs.lemmas.Bool.Decides.{nat_tests}
 use Rattle.msi_base.specs.declared.errors.ErrorKind.{ErrorKind}
-use Rattle.msi_pool_places.specs.FirstFit.{most_places}
+use Rattle.msi_pool.specs.FirstFit.{most_places}
 use Rattle.msi_table_cells.specs.declared.cell.ValueRef.{ValueRef}
 use Rattle.msi_table_values.specs.Columns.{ColumnDef, types_of}
 use Rattle.msi_table_cells.specs.Fitting.{FitsTable}

@@ -3,9 +3,9 @@ use Rattle.std.proofs.Common.{◌≡◌, ℕ, ◌<◌, Bool, List, Some, refl, a
 use Rattle.std.specs.Prelude.{⊤, unwrap_or}
 use Rattle.std.proofs.lemmas.Bool.Decides.{nat_tests}
 use Rattle.std.proofs.lemmas.Option.{same_Some}
-use Rattle.msi_pool_places.specs.Pool.{Place}
-use Rattle.msi_pool_places.specs.FirstFit.{most_places, taken, given_back, lowered}
-use Rattle.msi_pool_places.specs.FirstFitLaws.{TakenPlacesHoldTheirText, GivenBackTakesOne}
+use Rattle.msi_pool.specs.Pool.{Place}
+use Rattle.msi_pool.specs.FirstFit.{most_places, taken, given_back, lowered}
+use Rattle.msi_pool.specs.FirstFitLaws.{TakenPlacesHoldTheirText, GivenBackTakesOne}
 use Rattle.msi_table_values.specs.declared.value.Value.{Value}
 use Rattle.msi_table_values.specs.declared.value.Value.TheVariants.{Null, Int, Str, Binary}
 use Rattle.msi_table_cells.specs.declared.cell.ValueRef.{ValueRef}

@@ -6,7 +6,7 @@ use Rattle.std.specs.Cmp.Lexicographic.{nat_list_cmp_total, bytes_decides}
 use Rattle.std.specs.FinMap.{is_sorted}
 use Rattle.std.proofs.lemmas.Bool.{cases_Bool}
 use Rattle.std.proofs.lemmas.Option.{same_Some}
-use Rattle.msi_pool_places.specs.Pool.{Place}
+use Rattle.msi_pool.specs.Pool.{Place}
 use Rattle.msi_base.specs.Lists.{list_cmp, has_pair, stable_sort}
 use Rattle.msi_base.proofs.ListLemmas.{has_pair-map, no_pair_kept}
 use Rattle.msi_table_values.specs.declared.value.Value.{Value}

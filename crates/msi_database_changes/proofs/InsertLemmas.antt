@@ -2,7 +2,7 @@
 use Rattle.std.proofs.Common.{◌≡◌, true, not, [], ◌∷◌, ◌++◌, Ok, sym, subst, IsPermutation}
 use Rattle.std.proofs.lemmas.Bool.{not-false}
 use Rattle.msi_base.specs.declared.errors.ErrorKind.TheVariants.{InvalidData, InvalidInput}
-use Rattle.msi_pool_places.specs.FirstFitLaws.{TakenPlacesHoldTheirText, GivenBackTakesOne}
+use Rattle.msi_pool.specs.FirstFitLaws.{TakenPlacesHoldTheirText, GivenBackTakesOne}
 use Rattle.msi_query.specs.Queries.{InsertQuery}
 use Rattle.msi_base.specs.Refusals.{Refusals, unless_refused}
 use Rattle.msi_database_schema.specs.System.{is_system_table}

@@ -11,7 +11,7 @@ use Rattle.std.proofs.lemmas.List.{get_or-map, length-map}
 use Rattle.std.proofs.lemmas.List.Sorted.{IsPermutation-sym}
 use Rattle.std.proofs.lemmas.Option.{same_Some}
 use Rattle.msi_base.specs.Lists.{list_cmp}
-use Rattle.msi_pool_places.specs.Pool.{Place}
+use Rattle.msi_pool.specs.Pool.{Place}
 use Rattle.msi_table_values.specs.declared.value.Value.{Value}
 use Rattle.msi_table_values.specs.declared.value.Value.TheVariants.{Null}
 use Rattle.msi_table_cells.specs.declared.cell.ValueRef.{ValueRef}
@@ -32,7 +32,7 @@ use Rattle.msi_database_changes.specs.Laws.{rows_at, RowsFit, LeadingNumbersAsce
 use Rattle.msi_database_changes.specs.Widening.{widened}
 use Rattle.msi_database_changes.proofs.AtWidthLemmas.{change_at, fits_widened, sound_widened, IsChangeAtWidth, inserted, updated, deleted}
 use Rattle.msi_database_changes.proofs.FitsKeptLemmas.{change_fits}
-use Rattle.msi_pool_places.specs.FirstFitLaws.{TakenPlacesHoldTheirText, GivenBackTakesOne}
+use Rattle.msi_pool.specs.FirstFitLaws.{TakenPlacesHoldTheirText, GivenBackTakesOne}
 use Rattle.msi_table_cells.proofs.StableSortLemmas.{sort_moves}
 use Rattle.msi_database_changes.proofs.DescribingLemmas.{rows_at_is}
 use Rattle.msi_database_changes.proofs.KindsKeptLemmas.{all_permuted}

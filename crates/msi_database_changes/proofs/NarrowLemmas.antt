@@ -3,9 +3,9 @@ use Rattle.std.proofs.Common.{◌≡◌, ℕ, ◌+◌, ◌-◌, ◌≤◌, Bool,
 use Rattle.std.specs.Prelude.{option_and_then, if◌then◌else◌}
 use Rattle.std.proofs.lemmas.Bool.Decides.{nat_tests}
 use Rattle.std.proofs.lemmas.Option.{none-some, same_Some, option_and_then_some}
-use Rattle.msi_pool_places.specs.Pool.{Place}
-use Rattle.msi_pool_places.specs.FirstFit.{first_fit, given_back, is_long_with, lowered, most_places, taken, with_text_at}
-use Rattle.msi_pool_places.proofs.TakenLemmas.{taken_takes}
+use Rattle.msi_pool.specs.Pool.{Place}
+use Rattle.msi_pool.specs.FirstFit.{first_fit, given_back, is_long_with, lowered, most_places, taken, with_text_at}
+use Rattle.msi_pool.proofs.TakenLemmas.{taken_takes}
 use Rattle.msi_table_values.specs.declared.value.Value.{Value}
 use Rattle.msi_table_values.specs.declared.value.Value.TheVariants.{Null, Int, Str, Binary}
 use Rattle.msi_table_cells.specs.declared.cell.ValueRef.{ValueRef}

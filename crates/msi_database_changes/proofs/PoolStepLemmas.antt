@@ -5,9 +5,9 @@ use Rattle.std.specs.Option.{option_map_or}
 use Rattle.std.specs.List.{AllByRecursion}
 use Rattle.std.proofs.lemmas.Bool.{true≢false}
 use Rattle.std.proofs.lemmas.Option.{same_Some, option_and_then_some}
-use Rattle.msi_pool_places.specs.Pool.{Place, PlacesWritten}
-use Rattle.msi_pool_places.specs.FirstFit.{count_of, taken, given_back}
-use Rattle.msi_pool_places.specs.FirstFitLaws.{TakenPlacesHoldTheirText, GivenBackTakesOne, Takes, GivesBack, count_at, text_at, place_at}
+use Rattle.msi_pool.specs.Pool.{Place, PlacesWritten}
+use Rattle.msi_pool.specs.FirstFit.{count_of, taken, given_back}
+use Rattle.msi_pool.specs.FirstFitLaws.{TakenPlacesHoldTheirText, GivenBackTakesOne, Takes, GivesBack, count_at, text_at, place_at}
 use Rattle.msi_table_values.specs.declared.value.Value.{Value}
 use Rattle.msi_table_values.specs.declared.value.Value.TheVariants.{Null, Int, Str, Binary}
 use Rattle.msi_table_cells.specs.declared.cell.ValueRef.{ValueRef}

@@ -7,11 +7,11 @@ use Rattle.std.proofs.lemmas.Bool.{and_parts, cases_lt, le-leb, leb-true, ne_eqb
 use Rattle.std.proofs.lemmas.Option.{get_or_from_slice_get, slice_get_past}
 use Rattle.msi_base.specs.Lists.{has_pair, list_cmp}
 use Rattle.msi_base.proofs.ListLemmas.{tabulated_at}
-use Rattle.msi_pool_places.specs.Pool.{Place, PlacesWritten}
-use Rattle.msi_pool_places.specs.FirstFit.{count_of, most_places}
-use Rattle.msi_pool_places.specs.FirstFitLaws.{text_at}
-use Rattle.msi_pool_places.specs.Recounting.{many_recounted, with_count, with_counts}
-use Rattle.msi_pool_places.proofs.RecountingLemmas.{length-with_counts, many_recounted-cons}
+use Rattle.msi_pool.specs.Pool.{Place, PlacesWritten}
+use Rattle.msi_pool.specs.FirstFit.{count_of, most_places}
+use Rattle.msi_pool.specs.FirstFitLaws.{text_at}
+use Rattle.msi_pool.specs.Recounting.{many_recounted, with_count, with_counts}
+use Rattle.msi_pool.proofs.RecountingLemmas.{length-with_counts, many_recounted-cons}
 use Rattle.msi_table.proofs.ReadRowsLemmas.{length-tabulated}
 use Rattle.msi_table_cells.specs.KeyOrder.{key_of, same_key}
 use Rattle.msi_base.specs.Refusals.{first_refusal}

@@ -2,9 +2,9 @@
 use Rattle.std.proofs.Common.{◌≡◌, ℕ, zero, suc, ◌+◌, ◌<◌, Bool, List, [], ◌∷◌, map, length, set, Some, refl, sym, ap, ap₂, ◌∙◌, subst, arith, length-set}
 use Rattle.std.specs.List.{AllByRecursion}
 use Rattle.std.proofs.lemmas.Option.{same_Some, option_and_then_some}
-use Rattle.msi_pool_places.specs.Pool.{Place}
-use Rattle.msi_pool_places.specs.FirstFit.{most_places}
-use Rattle.msi_pool_places.specs.FirstFitLaws.{TakenPlacesHoldTheirText, GivenBackTakesOne}
+use Rattle.msi_pool.specs.Pool.{Place}
+use Rattle.msi_pool.specs.FirstFit.{most_places}
+use Rattle.msi_pool.specs.FirstFitLaws.{TakenPlacesHoldTheirText, GivenBackTakesOne}
 use Rattle.msi_table_values.specs.declared.value.Value.{Value}
 use Rattle.msi_table_cells.specs.declared.cell.ValueRef.{ValueRef}
 use Rattle.msi_table_cells.specs.declared.cell.ValueRef.TheVariants as cell

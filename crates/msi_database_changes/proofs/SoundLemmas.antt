@@ -5,8 +5,8 @@ use Rattle.std.proofs.lemmas.Bool.{cases_lt, cases_Bool, and_parts, and_from}
 use Rattle.std.proofs.lemmas.Bool.Decides.{nat_tests}
 use Rattle.std.proofs.lemmas.List.Folds.{list_all-map}
 use Rattle.std.proofs.lemmas.Option.{slice_get_past}
-use Rattle.msi_pool_places.specs.Pool.{Place}
-use Rattle.msi_pool_places.specs.FirstFit.{count_of}
+use Rattle.msi_pool.specs.Pool.{Place}
+use Rattle.msi_pool.specs.FirstFit.{count_of}
 use Rattle.msi_base.specs.Lists.{numbers_from, numbers_below}
 use Rattle.msi_base.proofs.ListLemmas.{each_number}
 use Rattle.msi_database_changes.specs.Database.{Database, named_numbers, cells_naming, CountsAreExact, counts_suffice, names_stay_in_pool}

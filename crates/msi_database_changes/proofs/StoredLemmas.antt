@@ -10,8 +10,8 @@ use Rattle.std.specs.FinMap.Entries.{length-put, is_sorted-put, find-put, find_t
 use Rattle.std.proofs.lemmas.Bool.{cases_Bool, and_parts, and_from}
 use Rattle.std.proofs.lemmas.Bool.Decides.{nat_tests}
 use Rattle.std.proofs.lemmas.Option.{none-some, same_Some}
-use Rattle.msi_pool_places.specs.Pool.{Place}
-use Rattle.msi_pool_places.specs.FirstFit.{most_places}
+use Rattle.msi_pool.specs.Pool.{Place}
+use Rattle.msi_pool.specs.FirstFit.{most_places}
 use Rattle.msi_base.specs.Lists.{list_cmp}
 use Rattle.msi_base.proofs.BoolLemmas.{T_second}
 use Rattle.msi_table_cells.specs.declared.cell.ValueRef.{ValueRef}

@@ -5,9 +5,9 @@ use Rattle.std.specs.Option.{option_map_or}
 use Rattle.std.proofs.lemmas.Bool.{cases_Bool, and_parts}
 use Rattle.std.proofs.lemmas.Bool.Decides.{nat_tests}
 use Rattle.std.proofs.lemmas.List.Sums.{sum_by-cons}
-use Rattle.msi_pool_places.specs.Pool.{Place}
-use Rattle.msi_pool_places.specs.FirstFit.{count_of}
-use Rattle.msi_pool_places.specs.FirstFitLaws.{text_at}
+use Rattle.msi_pool.specs.Pool.{Place}
+use Rattle.msi_pool.specs.FirstFit.{count_of}
+use Rattle.msi_pool.specs.FirstFitLaws.{text_at}
 use Rattle.msi_database_changes.specs.Database.{Database, is_sound, named_numbers, cells_naming, CountsAreExact}
 use Rattle.msi_database_changes.specs.Laws.{CountsOfText}
 use Rattle.msi_database_schema.proofs.AccountLemmas.{Uses, once}

@@ -5,8 +5,8 @@ use Rattle.std.specs.Prelude.{slice_get, map}
 use Rattle.std.specs.List.{flat_map, list_all}
 use Rattle.std.specs.FinMap.{find, put, is_sorted}
 use Rattle.std.specs.Ordering.{eq_by_cmp}
-use Rattle.msi_pool_places.specs.Pool.{Pool, Place}
-use Rattle.msi_pool_places.specs.FirstFit.{most_places, count_of}
+use Rattle.msi_pool.specs.Pool.{Pool, Place}
+use Rattle.msi_pool.specs.FirstFit.{most_places, count_of}
 use Rattle.msi_base.specs.Lists.{list_cmp, tabulated}
 use Rattle.msi_table_cells.specs.declared.cell.ValueRef.{ValueRef}
 use Rattle.msi_table_values.specs.declared.column.ColumnType.{ColumnType}

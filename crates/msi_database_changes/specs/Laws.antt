@@ -5,7 +5,7 @@ use Rattle.std.specs.FinMap.{put}
 use Rattle.std.specs.List.Sorted.{IsSortedByKey}
 use Rattle.std.specs.Ordering.{eq_by_cmp}
 use Rattle.std.specs.List.{sum_by, AllByRecursion}
-use Rattle.msi_pool_places.specs.FirstFitLaws.{text_at}
+use Rattle.msi_pool.specs.FirstFitLaws.{text_at}
 use Rattle.msi_base.specs.Lists.{has_pair, list_cmp}
 use Rattle.msi_table_values.specs.declared.value.Value.{Value}
 use Rattle.msi_table_values.specs.declared.value.Value.TheVariants.{Null}

@@ -4,7 +4,7 @@ use Rattle.std.specs.List.{list_all}
 use Rattle.msi_base.specs.declared.errors.ErrorKind.{ErrorKind}
 use Rattle.msi_base.specs.declared.errors.ErrorKind.TheVariants.{InvalidData}
 use Rattle.msi_base.specs.Lists.{tabulated}
-use Rattle.msi_pool_places.specs.Recounting.{many_recounted, with_counts}
+use Rattle.msi_pool.specs.Recounting.{many_recounted, with_counts}
 use Rattle.msi_base.specs.Refusals.{Refusals, first_refusal, unless_refused}
 use Rattle.msi_database_changes.specs.Database.{Database, CountsAreExact, cells_naming, is_sound, is_well_formed}
 use Rattle.msi_database_changes.specs.Database.{names_stay_in_pool, pool_fits_width, tables_are_readable, values_of}

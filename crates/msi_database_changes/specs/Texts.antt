@@ -2,8 +2,8 @@
 use Rattle.std.specs.Prelude.{Bool, true, not, ◌&&◌, List, [], ◌∷◌, Option, Some, option_map, option_and_then}
 use Rattle.std.specs.Prelude.{unwrap_or}
 use Rattle.std.specs.List.{fold}
-use Rattle.msi_pool_places.specs.FirstFit.{given_back, is_long_with, taken}
-use Rattle.msi_pool_places.specs.Pool.{Pool, Place}
+use Rattle.msi_pool.specs.FirstFit.{given_back, is_long_with, taken}
+use Rattle.msi_pool.specs.Pool.{Pool, Place}
 use Rattle.msi_table_values.specs.declared.value.Value.{Value}
 use Rattle.msi_table_values.specs.declared.value.Value.TheVariants.{Null, Int, Str, Binary}
 use Rattle.msi_table_cells.specs.declared.cell.ValueRef.{ValueRef}

@@ -1,7 +1,7 @@
 -- References to texts widen to three bytes where two don't suffice: how a change is made then.
 use Rattle.std.specs.Prelude.{Bool, true, false, not, length, nat_lt, ◌&&◌, if◌then◌else◌, Result, Ok, Err}
 use Rattle.msi_base.specs.declared.errors.ErrorKind.{ErrorKind}
-use Rattle.msi_pool_places.specs.FirstFit.{most_places}
+use Rattle.msi_pool.specs.FirstFit.{most_places}
 use Rattle.msi_database_changes.specs.Database.{Database, is_sound}
 use Rattle.msi_database_changes.specs.Changes.{Change}
 

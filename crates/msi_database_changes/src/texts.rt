@@ -2,7 +2,7 @@
 
 ghost use Rattle.std.specs.Prelude.{◌≡◌, false, Some, IfOk, IfErr, OnOk, length, true, unwrap_or};
 ghost use Rattle.std.specs.List.{fold};
-ghost use Rattle.msi_pool_places.specs.FirstFit.{given_back};
+ghost use Rattle.msi_pool.specs.FirstFit.{given_back};
 ghost use Rattle.msi_base.specs.Results.{OnlyMemory};
 ghost use Rattle.msi_base.specs.declared.errors.ErrorKind.TheVariants.{InvalidInput};
 ghost use Rattle.msi_base.specs.Refusals.{IsRefusal, or_refused};
@@ -32,7 +32,7 @@ pub struct PoolInUse {
 impl Model for PoolInUse {
     ghost use Rattle.std.specs.Prelude.{◌≡◌};
     ghost use Rattle.msi_database_changes.specs.Texts.{UsedPool};
-    ghost use Rattle.msi_pool_places.specs.FirstFit.{is_long_with};
+    ghost use Rattle.msi_pool.specs.FirstFit.{is_long_with};
 
     ghost Value = { UsedPool };
 

@@ -9,7 +9,7 @@ use Rattle.std.proofs.lemmas.Bool.{and_parts, and_from, or_parts}
 use Rattle.std.proofs.lemmas.Bool.Decides.{Decides-eqb}
 use Rattle.std.proofs.lemmas.Int.{ints}
 use Rattle.std.proofs.lemmas.List.{length-map}
-use Rattle.msi_categories.specs.Numerals.{is_number_within}
+use Rattle.msi_table_values.specs.Numerals.{is_number_within}
 use Rattle.msi_base.proofs.BoolLemmas.{by_test}
 use Rattle.msi_base.proofs.OptionLemmas.{guard_held, guard_passed, map_some}
 use Rattle.msi_table_values.specs.declared.column.ColumnType.{ColumnType}

@@ -12,7 +12,7 @@ use Rattle.std.proofs.lemmas.Bool.{and_parts, or_from}
 use Rattle.std.proofs.lemmas.Bool.Decides.{Decides-and, Decides-at, Decides-ltb, nat_tests}
 use Rattle.std.proofs.lemmas.Fmt.{decimal_is_IsNumeral, parse-decimal, parse-signed_decimal}
 use Rattle.std.proofs.lemmas.Int.{ints}
-use Rattle.msi_categories.specs.Numerals.{is_number_within, is_numeral, u16_in}
+use Rattle.msi_table_values.specs.Numerals.{is_number_within, is_numeral, u16_in}
 use Rattle.msi_base.proofs.BoolLemmas.{by_test}
 use Rattle.msi_idt.specs.Characters.{is_control, swapped}
 use Rattle.msi_idt.specs.Fields.{number_in}

@@ -5,7 +5,7 @@ use Rattle.std.specs.Char.{is_ascii, is_ascii_uppercase, to_ascii_lowercase, to_
 use Rattle.std.specs.List.{list_any}
 use Rattle.std.proofs.lemmas.Bool.{or_from}
 use Rattle.std.proofs.lemmas.Bool.Decides.{Decides-ltb}
-use Rattle.msi_categories.specs.Numerals.{u16_in}
+use Rattle.msi_table_values.specs.Numerals.{u16_in}
 use Rattle.msi_base.specs.Results.{◌>>=◌}
 use Rattle.msi_base.proofs.OptionLemmas.{bind_some, branch, map_some}
 use Rattle.msi_table_values.specs.declared.column.ColumnType.{ColumnType}

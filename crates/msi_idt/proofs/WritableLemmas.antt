@@ -5,7 +5,7 @@ use Rattle.std.proofs.lemmas.Bool.{and_from}
 use Rattle.std.proofs.lemmas.Bool.Decides.{Decides-ltb}
 use Rattle.std.proofs.lemmas.List.{drop_all}
 use Rattle.msi_base.proofs.ListLemmas.{drop_next}
-use Rattle.msi_categories.specs.Numerals.{u16_in}
+use Rattle.msi_table_values.specs.Numerals.{u16_in}
 use Rattle.msi_table_values.specs.declared.value.Value.{Value}
 use Rattle.msi_idt.specs.Archives.{ArchiveColumnDef, ArchiveDef}
 use Rattle.msi_idt.specs.Fields.{fields, header_fields, text_in}

@@ -6,7 +6,7 @@ use Rattle.std.specs.Str.Lines.{lines}
 use Rattle.std.proofs.lemmas.Bool.{and_parts}
 use Rattle.std.proofs.lemmas.List.{append-nil}
 use Rattle.std.proofs.lemmas.Bool.Decides.{Decides-ltb}
-use Rattle.msi_categories.specs.Numerals.{u16_in}
+use Rattle.msi_table_values.specs.Numerals.{u16_in}
 use Rattle.msi_table_values.specs.declared.value.Value.{Value}
 use Rattle.msi_idt.specs.Archives.{ArchiveColumnDef, ArchiveDef, KeysDef}
 use Rattle.msi_idt.specs.ArchiveLaws.{LinesBehind, WrittenByRows}

@@ -1,7 +1,7 @@
 -- The archive that a text means, computed.
 use Rattle.std.specs.Prelude.{ℕ, List, [], ◌∷◌, Option, Some, None}
 use Rattle.std.specs.Str.Lines.{lines}
-use Rattle.msi_categories.specs.Numerals.{u16_in}
+use Rattle.msi_table_values.specs.Numerals.{u16_in}
 use Rattle.msi_base.specs.Results.{◌>>=◌}
 use Rattle.msi_table_values.specs.declared.value.Value.{Value}
 use Rattle.msi_idt.specs.Archives.{ArchiveColumnDef, ArchiveDef, KeysDef}

@@ -2,7 +2,7 @@
 use Rattle.std.specs.Prelude.{◌≡◌, ℕ, ⊤, List, [], ◌∷◌, ◌++◌, Option, Some, None}
 use Rattle.std.specs.List.{AllZip}
 use Rattle.std.specs.Str.Lines.{lines}
-use Rattle.msi_categories.specs.Numerals.{u16_in}
+use Rattle.msi_table_values.specs.Numerals.{u16_in}
 use Rattle.msi_table_values.specs.declared.value.Value.{Value}
 use Rattle.msi_idt.specs.Archives.{ArchiveColumnDef, ArchiveDef, KeysDef}
 use Rattle.msi_idt.specs.Fields.{fields, header_fields, text_in, value_in}

@@ -3,7 +3,7 @@ use Rattle.std.specs.Prelude.{ℕ, ◌+◌, ◌==◌, not, List, [], ◌∷◌, 
 use Rattle.std.specs.Prelude.{if◌then◌else◌}
 use Rattle.std.specs.Option.{option_or}
 use Rattle.std.specs.Str.Lines.{lines}
-use Rattle.msi_categories.specs.Numerals.{u16_in}
+use Rattle.msi_table_values.specs.Numerals.{u16_in}
 use Rattle.msi_table_values.specs.declared.value.Value.{Value}
 use Rattle.msi_idt.specs.declared.errors.Place.{Place}
 use Rattle.msi_idt.specs.Archives.{ArchiveColumnDef, ArchiveDef, KeysDef}

@@ -1,7 +1,7 @@
 //! Fields with the types of columns.
 
 ghost use Rattle.std.specs.Prelude.{◌≡◌};
-ghost use Rattle.msi_categories.specs.Numerals.{u16_in};
+ghost use Rattle.msi_table_values.specs.Numerals.{u16_in};
 ghost use Rattle.msi_base.specs.Results.{Gives};
 ghost use Rattle.msi_idt.specs.TypeFields.{number_type as number_type_of, stream_type as stream_type_of};
 ghost use Rattle.msi_idt.specs.TypeFields.{type_in, type_of_letter as type_of_letter_in, type_with};

@@ -7,3 +7,7 @@ pub mod PoolPiecesLemmas
 pub mod ReadTextsLemmas
 pub mod ReadStreamLemmas
 pub mod ReadFaultLemmas
+-- The lemmas of the crates below, which proofs above cite.
+pub use Rattle.msi_pool_places.proofs.TakenLemmas
+pub use Rattle.msi_pool_places.proofs.RecountingLemmas
+pub use Rattle.msi_pool_places.proofs.FirstFitLemmas

@@ -8,3 +8,4 @@ pub use Rattle.msi_pool_places.specs.PoolReading
 pub use Rattle.msi_pool_places.specs.FirstFit
 pub use Rattle.msi_pool_places.specs.FirstFitLaws
 pub use Rattle.msi_pool_places.specs.References
+pub use Rattle.msi_pool_places.specs.Recounting

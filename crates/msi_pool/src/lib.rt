@@ -7,4 +7,5 @@ pub mod pool_streams;
 pub mod reasons;
 pub mod stringpool;
 
+pub use msi_pool_places::encoded_len;
 pub use stringpool::{IndexedPool, Operations, StringPool, StringPoolBuilder, StringRef};

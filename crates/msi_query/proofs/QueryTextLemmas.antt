@@ -4,7 +4,7 @@ use Rattle.std.specs.Fmt.{DisplaysOnOk, ◌++?◌}
 use Rattle.std.specs.declared.fmt.Error.{Error}
 use Rattle.std.specs.declared.fmt.Formatter.{Formatter}
 use Rattle.std.proofs.Output.{displays_on_IsOk_append, displays_on_ok_of_all, displays_on_ok_of_eq}
-use Rattle.msi_table_values.specs.declared.value.Value.{Value}
+use Rattle.msi_table.specs.Value.{Value}
 use Rattle.msi_query.specs.Queries.{Query}
 use Rattle.msi_query_expressions.specs.Assignments.{set_text}
 use Rattle.msi_query.specs.QueryTexts.{bare_name, listed, or_bracketed, row_text, rows_text, sets_text, side_text}

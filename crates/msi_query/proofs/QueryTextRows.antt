@@ -1,6 +1,6 @@
 -- Worked texts of queries.
 use Rattle.std.proofs.Common.{◌≡◌, ℕ, pos, List, [], ◌∷◌, Some, None, codes, refl}
-use Rattle.msi_table_values.specs.declared.value.Value.TheVariants.{Null, Int, Str}
+use Rattle.msi_table.specs.Value.TheVariants.{Null, Int, Str}
 use Rattle.msi_query_expressions.specs.declared.operators.BinaryOp.TheVariants as two
 use Rattle.msi_query_expressions.specs.declared.joins.JoinKind.TheVariants.{Inner, Left}
 use Rattle.msi_query_expressions.specs.Expressions.{Expression, literal, column, binary, either}

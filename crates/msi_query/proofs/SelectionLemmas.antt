@@ -7,13 +7,13 @@ use Rattle.std.proofs.lemmas.List.Elements.{filter_map-append}
 use Rattle.std.proofs.lemmas.Option.{slice_get-map}
 use Rattle.std.proofs.lemmas.Bool.{eqb-true, true≢false}
 use Rattle.msi_base.specs.declared.errors.ErrorKind.{ErrorKind}
-use Rattle.msi_pool_places.specs.Pool.{Place}
-use Rattle.msi_table_cells.specs.declared.cell.ValueRef.{ValueRef}
-use Rattle.msi_table_cells.specs.declared.cell.ValueRef.TheVariants as cell
-use Rattle.msi_table_values.specs.declared.value.Value.{Value}
-use Rattle.msi_table_values.specs.declared.value.Value.TheVariants as value
-use Rattle.msi_table_cells.specs.CellValues.{value_of_cell, row_values}
-use Rattle.msi_table_values.specs.Columns.{ColumnDef, column_index, column_named}
+use Rattle.msi_table.specs.Pool.{Place}
+use Rattle.msi_table.specs.ValueRef.{ValueRef}
+use Rattle.msi_table.specs.ValueRef.TheVariants as cell
+use Rattle.msi_table.specs.Value.{Value}
+use Rattle.msi_table.specs.Value.TheVariants as value
+use Rattle.msi_table.specs.CellValues.{value_of_cell, row_values}
+use Rattle.msi_table.specs.Columns.{ColumnDef, column_index, column_named}
 use Rattle.msi_query_expressions.specs.declared.joins.JoinKind.{JoinKind}
 use Rattle.msi_query_expressions.specs.declared.joins.JoinKind.TheVariants.{Inner, Left}
 use Rattle.msi_query_expressions.specs.Joins.{is_left}

@@ -9,8 +9,8 @@ pub mod Rows
 pub mod Selected
 -- The words of the crates below, which public clauses cite.
 pub use Rattle.msi_base.specs.declared.errors.ErrorKind
-pub use Rattle.msi_table_values.specs.declared.value.Value
-pub use Rattle.msi_table_cells.specs.CellValues
+pub use Rattle.msi_table.specs.Value
+pub use Rattle.msi_table.specs.CellValues
 pub use Rattle.msi_query_expressions.specs.declared.joins.JoinKind
 pub use Rattle.msi_query_expressions.specs.Joins
 pub use Rattle.msi_query_expressions.specs.declared.operators.UnaryOp
@@ -30,4 +30,4 @@ pub use Rattle.msi_query_expressions.specs.Printing
 pub use Rattle.msi_query_expressions.specs.Vocabulary
 pub use Rattle.msi_query_expressions.specs.Utf8Expressions
 pub use Rattle.msi_query_expressions.specs.Assignments
-pub use Rattle.msi_table_values.specs.Utf8Texts
+pub use Rattle.msi_table.specs.Utf8Texts

@@ -1,6 +1,6 @@
 -- Queries as values.
 use Rattle.std.specs.Prelude.{ℕ, List, [], Option, Some, None}
-use Rattle.msi_table_values.specs.declared.value.Value.{Value}
+use Rattle.msi_table.specs.Value.{Value}
 use Rattle.msi_query_expressions.specs.declared.joins.JoinKind.{JoinKind}
 use Rattle.msi_query_expressions.specs.Expressions.{Expression, both}
 

@@ -4,8 +4,8 @@ use Rattle.std.specs.Prelude.{if◌then◌else◌, codes}
 use Rattle.std.specs.List.{join_by}
 use Rattle.std.specs.Fmt.{◌++?◌}
 use Rattle.msi_base.specs.Lists.{all_present}
-use Rattle.msi_table_values.specs.declared.value.Value.{Value}
-use Rattle.msi_table_values.specs.Values.{value_text}
+use Rattle.msi_table.specs.Value.{Value}
+use Rattle.msi_table.specs.Values.{value_text}
 use Rattle.msi_query_tokens.specs.Names.{name_text}
 use Rattle.msi_query_expressions.specs.declared.joins.JoinKind.{JoinKind}
 use Rattle.msi_query_expressions.specs.declared.joins.JoinKind.TheVariants.{Inner, Left}

@@ -3,14 +3,14 @@ use Rattle.std.specs.Prelude.{ℕ, List, [], map, Option, option_map, option_and
 use Rattle.std.specs.List.{filter_map}
 use Rattle.msi_base.specs.declared.errors.ErrorKind.{ErrorKind}
 use Rattle.msi_base.specs.declared.errors.ErrorKind.TheVariants.{InvalidData, NotFound}
-use Rattle.msi_pool_places.specs.Pool.{Place}
-use Rattle.msi_table_cells.specs.declared.cell.ValueRef.{ValueRef}
-use Rattle.msi_table_cells.specs.declared.cell.ValueRef.TheVariants as cell
-use Rattle.msi_table_values.specs.declared.value.Value.{Value}
-use Rattle.msi_table_values.specs.Columns.{ColumnDef, column_index}
-use Rattle.msi_table_cells.specs.CellValues.{row_values}
+use Rattle.msi_table.specs.Pool.{Place}
+use Rattle.msi_table.specs.ValueRef.{ValueRef}
+use Rattle.msi_table.specs.ValueRef.TheVariants as cell
+use Rattle.msi_table.specs.Value.{Value}
+use Rattle.msi_table.specs.Columns.{ColumnDef, column_index}
+use Rattle.msi_table.specs.CellValues.{row_values}
 use Rattle.msi_base.specs.Refusals.{or_refused, ◌>>=◌}
-use Rattle.msi_table_cells.specs.TableCells.{TableCells}
+use Rattle.msi_table.specs.TableCells.{TableCells}
 use Rattle.msi_table.specs.Rows.{TableRows, cells_at}
 use Rattle.msi_query.specs.Selection.{Relation, TableValues}
 

@@ -4,9 +4,9 @@ use Rattle.std.specs.Prelude.{Some, None, ◌==◌, if◌then◌else◌, Result}
 use Rattle.std.specs.List.{flat_map, list_all, filter_map}
 use Rattle.msi_base.specs.declared.errors.ErrorKind.{ErrorKind}
 use Rattle.msi_base.specs.declared.errors.ErrorKind.TheVariants.{InvalidData, InvalidInput, NotFound}
-use Rattle.msi_table_values.specs.declared.value.Value.{Value}
-use Rattle.msi_table_values.specs.declared.value.Value.TheVariants.{Null}
-use Rattle.msi_table_values.specs.Columns.{ColumnDef, column_named, has_column}
+use Rattle.msi_table.specs.Value.{Value}
+use Rattle.msi_table.specs.Value.TheVariants.{Null}
+use Rattle.msi_table.specs.Columns.{ColumnDef, column_named, has_column}
 use Rattle.msi_query_expressions.specs.declared.joins.JoinKind.{JoinKind}
 use Rattle.msi_query_expressions.specs.declared.joins.JoinKind.TheVariants.{Left}
 use Rattle.msi_query_expressions.specs.Joins.{is_left}

@@ -1,7 +1,7 @@
 -- Queries whose texts are UTF-8, as every `Text` is.
 use Rattle.std.specs.Prelude.{⊤, Option, Some, None, IsUtf8}
 use Rattle.std.specs.List.{AllByRecursion}
-use Rattle.msi_table_values.specs.Utf8Texts.{AreUtf8Texts, AreUtf8Values, IsUtf8Value}
+use Rattle.msi_table.specs.Utf8Texts.{AreUtf8Texts, AreUtf8Values, IsUtf8Value}
 use Rattle.msi_query_expressions.specs.Expressions.{Expression}
 use Rattle.msi_query_expressions.specs.Utf8Expressions.{IsUtf8Expression}
 use Rattle.msi_query.specs.Queries.{Clauses, Query, table, join, InsertQuery, UpdateQuery, DeleteQuery}

@@ -3,7 +3,7 @@
 -- by where it stands. A name in back quotes ends at one behind which there is no other.
 use Rattle.std.proofs.Common.{ℕ, suc, ◌+◌, ◌-◌, ◌*◌, Bool, true, false, not, List, [], ◌∷◌, ◌++◌, drop, nat_lt, ◌==◌, if◌then◌else◌, codes, bytes_eq, pos, negsuc}
 use Rattle.std.specs.Char.{is_ascii_digit}
-use Rattle.msi_categories.specs.CategoryRules.{starts_name, continues_name}
+use Rattle.msi_table_values.specs.CategoryRules.{starts_name, continues_name}
 use Rattle.msi_table_values.specs.declared.value.Value.TheVariants.{Null, Int, Str}
 use Rattle.msi_query_expressions.specs.declared.operators.UnaryOp.{UnaryOp}
 use Rattle.msi_query_expressions.specs.declared.operators.UnaryOp.TheVariants as one

@@ -6,7 +6,7 @@ use Rattle.std.specs.Fmt.{decimal, debug_escape}
 use Rattle.std.proofs.lemmas.Fmt.{decimal_by_steps}
 use Rattle.std.proofs.lemmas.Bool.{and_parts, ltb-true, not-true, cond-true, cond-false}
 use Rattle.std.proofs.lemmas.Bool.Decides.{nat_tests}
-use Rattle.msi_categories.specs.CategoryRules.{starts_name, continues_name, is_identifier}
+use Rattle.msi_table_values.specs.CategoryRules.{starts_name, continues_name, is_identifier}
 use Rattle.msi_table_values.specs.declared.value.Value.TheVariants.{Str}
 use Rattle.msi_query_tokens.specs.Names.{doubled, doubled_byte}
 use Rattle.msi_query_expressions.specs.declared.operators.BinaryOp.TheVariants as two

@@ -5,7 +5,7 @@ use Rattle.std.specs.Char.{is_ascii}
 use Rattle.std.specs.Fmt.{decimal, debug_escape, ◌++?◌}
 use Rattle.std.proofs.lemmas.Bool.{and_parts, lt-ltb, le-ltb, leb-true, not-true, cond-true, cond-false, ltb-false, not_from_false}
 use Rattle.std.proofs.lemmas.Slice.Eq.{bytes_eq-Decides}
-use Rattle.msi_categories.specs.CategoryRules.{is_identifier}
+use Rattle.msi_table_values.specs.CategoryRules.{is_identifier}
 use Rattle.msi_query_tokens.specs.declared.token.Kind.TheVariants as k
 use Rattle.msi_query_tokens.specs.Tokens.{kind_of_word, same_kind}
 use Rattle.msi_query_tokens.specs.Names.{is_plain_name, doubled, name_text}

@@ -1,7 +1,7 @@
 -- A flush, and the image of a package, as steps of its session.
 use Rattle.std.proofs.Common.{◌≡◌, ℕ, List, Result, Ok, Err, refl, sym, subst, ◌∙◌}
-use Rattle.msi_base.specs.declared.errors.ErrorKind.{ErrorKind}
-use Rattle.msi_base.specs.Refusals.{AnswersWith, IsRefusal}
+use Rattle.msi.specs.Text.ErrorKind.{ErrorKind}
+use Rattle.msi.specs.Query.Refusals.{AnswersWith, IsRefusal}
 use Rattle.msi.specs.Calls.{Answer}
 use Rattle.msi.specs.Calls as calls
 use Rattle.msi.specs.Steps.{Step, image_of, refused_early}

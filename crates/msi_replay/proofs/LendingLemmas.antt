@@ -1,9 +1,9 @@
 -- What calls on what a package lends, and what it selects, are to the package.
 use Rattle.std.proofs.Common.{◌≡◌, None, List, map, Result, Ok, refl, ap, subst}
-use Rattle.msi_base.specs.declared.errors.ErrorKind.{ErrorKind}
-use Rattle.msi_summary_properties.specs.Properties.{Properties}
-use Rattle.msi_summary.specs.declared.property.SummaryProperty.{SummaryProperty}
-use Rattle.msi_base.specs.Refusals.{first_refusal}
+use Rattle.msi.specs.Text.ErrorKind.{ErrorKind}
+use Rattle.msi.specs.Summary.Properties.{Properties}
+use Rattle.msi.specs.Summary.SummaryProperty.{SummaryProperty}
+use Rattle.msi.specs.Query.Refusals.{first_refusal}
 use Rattle.msi.specs.State.{parts_of}
 use Rattle.msi.specs.Calls.{SummaryAnswer, SummaryCall}
 use Rattle.msi.specs.Calls as calls

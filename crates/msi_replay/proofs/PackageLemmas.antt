@@ -2,17 +2,17 @@
 use Rattle.std.proofs.Common.{◌≡◌, ℕ, true, List, Option, Some, None, refl, sym, ap, subst, ◌∙◌}
 use Rattle.std.specs.Prelude.{IsSomeAnd, is_some}
 use Rattle.std.specs.FinMap.{entries, get, get-entries}
-use Rattle.msi_base.specs.declared.codepage.CodePage.TheVariants as page
-use Rattle.msi_pool_places.specs.Pool.{Pool, IsPool}
-use Rattle.msi_summary_properties.specs.Properties.{Properties}
-use Rattle.msi_summary.specs.Summary.{SpellsSummary}
-use Rattle.msi_container_format.specs.declared.contents.Contents.{Contents}
-use Rattle.msi_container_format.specs.Streams as maps
-use Rattle.msi_container_format.proofs.PlanOnceLemmas.{held_once}
-use Rattle.msi_database_schema.specs.Keys.{table_key, summary_key, string_pool_name, string_data_name}
-use Rattle.msi_database_changes.specs.Database.{Database}
-use Rattle.msi_database_storage.specs.Streams.{Streams, stream_at}
-use Rattle.msi_database_storage.specs.Agreement.{DatabaseIs, is_shown}
+use Rattle.msi.specs.Text.CodePage.TheVariants as page
+use Rattle.msi.specs.Text.Pool.{Pool, IsPool}
+use Rattle.msi.specs.Summary.Properties.{Properties}
+use Rattle.msi.specs.Summary.Summary.{SpellsSummary}
+use Rattle.msi.specs.Container.Contents.{Contents}
+use Rattle.msi.specs.Container.Streams as maps
+use Rattle.msi.proofs.PlanOnceLemmas.{held_once}
+use Rattle.msi.specs.Database.Keys.{table_key, summary_key, string_pool_name, string_data_name}
+use Rattle.msi.specs.Database.Database.{Database}
+use Rattle.msi.specs.Database.Streams.{Streams, stream_at}
+use Rattle.msi.specs.Database.Agreement.{DatabaseIs, is_shown}
 use Rattle.msi.specs.Meaning.{SummaryIs, RawPoolIs, PoolIs, ContentsMean, shown_pool}
 use Rattle.msi.specs.State.{Parts, others_among}
 use Rattle.msi.proofs.AgreementLemmas.{database_same, raw_from, shown_pool_alike, shown_same}

@@ -1,20 +1,20 @@
 -- A recoded package means what the old one means in its pages.
 use Rattle.std.proofs.Common.{◌≡◌, ℕ, List, [], Option, Some, sym, ap, subst, ◌∙◌, unwrap_or}
 use Rattle.std.specs.FinMap.{entries}
-use Rattle.msi_base.specs.declared.codepage.CodePage.TheVariants as page
-use Rattle.msi_base.proofs.ListLemmas.{all_weaker}
-use Rattle.msi_pool_places.specs.Pool.{Pool}
-use Rattle.msi_summary_properties.specs.Properties.{Properties}
-use Rattle.msi_summary_properties.specs.PropertyStream.{Spells}
-use Rattle.msi_summary_properties.proofs.KeptSetLemmas.{IsKept-spelled}
-use Rattle.msi_summary_properties.proofs.ReadBackLemmas.{only_one_set}
-use Rattle.msi_summary.specs.Summary.{SpellsSummary}
-use Rattle.msi_container_format.specs.declared.contents.Contents.{Contents}
-use Rattle.msi_container_format.proofs.PlanOnceLemmas.{held_once}
-use Rattle.msi_database_schema.specs.Keys.{table_key, summary_key, string_pool_name, string_data_name}
-use Rattle.msi_database_changes.specs.Database.{Database}
-use Rattle.msi_database_storage.specs.Streams.{Streams, stream_at}
-use Rattle.msi_database_storage.specs.Agreement.{DatabaseIs, is_shown}
+use Rattle.msi.specs.Text.CodePage.TheVariants as page
+use Rattle.msi.proofs.ListLemmas.{all_weaker}
+use Rattle.msi.specs.Text.Pool.{Pool}
+use Rattle.msi.specs.Summary.Properties.{Properties}
+use Rattle.msi.specs.Summary.PropertyStream.{Spells}
+use Rattle.msi.proofs.KeptSetLemmas.{IsKept-spelled}
+use Rattle.msi.proofs.ReadBackLemmas.{only_one_set}
+use Rattle.msi.specs.Summary.Summary.{SpellsSummary}
+use Rattle.msi.specs.Container.Contents.{Contents}
+use Rattle.msi.proofs.PlanOnceLemmas.{held_once}
+use Rattle.msi.specs.Database.Keys.{table_key, summary_key, string_pool_name, string_data_name}
+use Rattle.msi.specs.Database.Database.{Database}
+use Rattle.msi.specs.Database.Streams.{Streams, stream_at}
+use Rattle.msi.specs.Database.Agreement.{DatabaseIs, is_shown}
 use Rattle.msi.specs.Laws.{AreBytes}
 use Rattle.msi.specs.Meaning.{ContentsMean, PoolIs, SummaryIs, shown_pool}
 use Rattle.msi.specs.State.{Parts, others_among}

@@ -1,8 +1,8 @@
 -- What a recount ensures is what its call takes.
 use Rattle.std.proofs.Common.{◌≡◌, ℕ, Result, Ok, Err, refl, sym, ap, subst, ◌∙◌, inl, inr}
 use Rattle.std.specs.Prelude.{IfErr, IfOk, OnErr, OnOk}
-use Rattle.msi_base.specs.declared.errors.ErrorKind.{ErrorKind}
-use Rattle.msi_base.specs.Refusals.{AnswersWith, IsRefusal}
+use Rattle.msi.specs.Text.ErrorKind.{ErrorKind}
+use Rattle.msi.specs.Query.Refusals.{AnswersWith, IsRefusal}
 use Rattle.msi.specs.State.{State, parts_of}
 use Rattle.msi.specs.Calls.{Answer}
 use Rattle.msi.specs.Calls as calls

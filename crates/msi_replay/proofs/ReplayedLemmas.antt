@@ -2,11 +2,11 @@
 use Rattle.std.proofs.Common.{◌≡◌, ℕ, suc, ◌<◌, Bool, true, false, List, [], ◌∷◌, length, Option, Some, None, Result, Ok, Err, refl, sym, ap, subst, ◌∙◌, inl, inr}
 use Rattle.std.specs.Prelude.{◌↔◌, IfErr, IfOk, IfSome, IsTrue, is_some, slice_index, unwrap_or, if◌then◌else◌, ◌⊎◌}
 use Rattle.std.specs.List.{AllByRecursion}
-use Rattle.msi_base.specs.declared.errors.ErrorKind.{ErrorKind}
-use Rattle.msi_base.specs.declared.errors.ErrorKind.TheVariants.{Io, OutOfMemory}
-use Rattle.msi_container_device.specs.Held.{Held, all_bytes, bytes_told, from_first}
-use Rattle.msi_database_changes.proofs.RefusedLemmas.{same_Ok}
-use Rattle.msi_database_storage.specs.Streams.{Streams}
+use Rattle.msi.specs.Text.ErrorKind.{ErrorKind}
+use Rattle.msi.specs.Text.ErrorKind.TheVariants.{Io, OutOfMemory}
+use Rattle.msi.specs.Container.Held.{Held, all_bytes, bytes_told, from_first}
+use Rattle.msi.proofs.RefusedLemmas.{same_Ok}
+use Rattle.msi.specs.Database.Streams.{Streams}
 use Rattle.msi.specs.declared.kinds.PackageType.{PackageType}
 use Rattle.msi.specs.State.{State}
 use Rattle.msi.specs.Calls.{Call, Answer}

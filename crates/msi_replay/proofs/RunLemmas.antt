@@ -2,8 +2,8 @@
 use Rattle.std.proofs.Common.{◌≡◌, false, List, [], ◌∷◌, ◌++◌, map, length, Option, Result, Ok, Err, refl, sym, ap, subst, ◌∙◌}
 use Rattle.std.proofs.lemmas.List.{map-append}
 use Rattle.std.specs.Prelude.{IfOk, OnOk, is_some, unwrap_or}
-use Rattle.msi_base.specs.declared.errors.ErrorKind.{ErrorKind}
-use Rattle.msi_container_device.specs.Held.{Held, bytes_told}
+use Rattle.msi.specs.Text.ErrorKind.{ErrorKind}
+use Rattle.msi.specs.Container.Held.{Held, bytes_told}
 use Rattle.msi.specs.Calls.{Call, Answer}
 use Rattle.msi.specs.Runs.{FitsCall, Run, Session, SessionStep}
 use Rattle.msi.specs.Whole.{Whole}

@@ -2,7 +2,7 @@
 use Rattle.std.proofs.Common.{Bool, List, [], ◌∷◌, ◌++◌, map, Result, refl, sym, subst}
 use Rattle.std.proofs.lemmas.List.{map-append}
 use Rattle.std.specs.List.{AllByRecursion}
-use Rattle.msi_base.specs.declared.errors.ErrorKind.{ErrorKind}
+use Rattle.msi.specs.Text.ErrorKind.{ErrorKind}
 use Rattle.msi.specs.Lent.{Gives, RunsTo}
 use Rattle.msi_replay.specs.Told.{told}
 

@@ -2,7 +2,7 @@
 use Rattle.std.proofs.Common.{◌≡◌, ℕ, Bool, true, false, cond, Result, refl, sym, ap, ◌∙◌}
 use Rattle.std.specs.declared.io.SeekFrom.{SeekFrom}
 use Rattle.std.specs.declared.io.SeekFrom.TheVariants.{Start, End, Current}
-use Rattle.msi_base.specs.declared.errors.ErrorKind.{ErrorKind}
+use Rattle.msi.specs.Text.ErrorKind.{ErrorKind}
 use Rattle.msi.specs.Cursor as streams
 use Rattle.msi.specs.Calls.{StreamAnswer}
 use Rattle.msi.specs.Calls as calls

@@ -5,13 +5,13 @@ use Rattle.std.specs.declared.cmp.Ordering.{Ordering}
 use Rattle.std.specs.declared.cmp.Ordering.TheVariants.{Less, Equal, Greater}
 use Rattle.std.specs.Ordering.{ordering_reverse}
 use Rattle.std.specs.FinMap.Entries.{by_order}
-use Rattle.msi_base.specs.declared.errors.ErrorKind.{ErrorKind}
-use Rattle.msi_base.specs.declared.errors.ErrorKind.TheVariants.{InvalidInput, NotFound, OutOfMemory}
-use Rattle.msi_base.specs.Refusals.{AnswersWith, Refusals, first_refusal}
-use Rattle.msi_container_format.specs.Names.{name_cmp}
-use Rattle.msi_container_format.proofs.NamesLemmas.{names_total}
-use Rattle.msi_database_schema.specs.Keys.{is_stream_name, stream_key}
-use Rattle.msi_database_storage.specs.Streams.{Streams, with_stream}
+use Rattle.msi.specs.Text.ErrorKind.{ErrorKind}
+use Rattle.msi.specs.Text.ErrorKind.TheVariants.{InvalidInput, NotFound, OutOfMemory}
+use Rattle.msi.specs.Query.Refusals.{AnswersWith, Refusals, first_refusal}
+use Rattle.msi.specs.Container.Names.{name_cmp}
+use Rattle.msi.proofs.NamesLemmas.{names_total}
+use Rattle.msi.specs.Database.Keys.{is_stream_name, stream_key}
+use Rattle.msi.specs.Database.Streams.{Streams, with_stream}
 use Rattle.msi.specs.Cursor as streams
 use Rattle.msi.specs.State.{State, parts_of}
 use Rattle.msi.specs.Calls.{Answer, StreamAnswer, ReaderCall, WriterCall}

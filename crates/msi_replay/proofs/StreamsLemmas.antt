@@ -2,14 +2,14 @@
 use Rattle.std.proofs.Common.{◌≡◌, ◌≢◌, ℕ, true, List, [], ◌∷◌, Some, refl, sym, ap, ◌∙◌}
 use Rattle.std.specs.List.{AllByRecursion}
 use Rattle.std.specs.FinMap.{entries, entries-insert, insert}
-use Rattle.msi_container_format.specs.Streams as maps
-use Rattle.msi_container_format.proofs.NamesLemmas.{names_total}
-use Rattle.msi_database_schema.specs.Keys.{is_table_name, table_key, summary_key, string_pool_name, string_data_name}
-use Rattle.msi_database_schema.specs.System.{tables_name, columns_name, validation_name}
-use Rattle.msi_database_changes.specs.Database.{Database, Tables}
-use Rattle.msi_database_storage.specs.Streams.{Streams, stream_at, with_stream}
-use Rattle.msi_database_schema.proofs.KeyLemmas.{pool_keys_differ, table_key≢summary_key, table_key≢pool, tables_accepted, columns_accepted, validation_accepted}
-use Rattle.msi_database_storage.proofs.StreamLemmas.{stream_at_put, stream_at_other_put}
+use Rattle.msi.specs.Container.Streams as maps
+use Rattle.msi.proofs.NamesLemmas.{names_total}
+use Rattle.msi.specs.Database.Keys.{is_table_name, table_key, summary_key, string_pool_name, string_data_name}
+use Rattle.msi.specs.Database.System.{tables_name, columns_name, validation_name}
+use Rattle.msi.specs.Database.Database.{Database, Tables}
+use Rattle.msi.specs.Database.Streams.{Streams, stream_at, with_stream}
+use Rattle.msi.proofs.KeyLemmas.{pool_keys_differ, table_key≢summary_key, table_key≢pool, tables_accepted, columns_accepted, validation_accepted}
+use Rattle.msi.proofs.StreamLemmas.{stream_at_put, stream_at_other_put}
 use Rattle.msi.specs.State.{names_of, others_among}
 use Rattle.msi.proofs.AgreementLemmas.{SameStream, SameTables}
 use Rattle.msi.proofs.OtherStreamLemmas.{others_put, owned_by_summary, owned_by_pool, owned_by_texts}

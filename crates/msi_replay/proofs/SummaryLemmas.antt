@@ -1,11 +1,11 @@
 -- What a summary's functions leave is what calls on it give.
 use Rattle.std.proofs.Common.{◌≡◌, Result, Ok, Err, refl, sym, ap, ◌∙◌, inl, inr}
 use Rattle.std.specs.Prelude.{IfErr, IfOk, IsTrue, OnErr, OnOk}
-use Rattle.msi_base.specs.declared.errors.ErrorKind.{ErrorKind}
-use Rattle.msi_base.specs.declared.errors.ErrorKind.TheVariants.{OutOfMemory}
-use Rattle.msi_summary_properties.specs.Properties.{Properties}
-use Rattle.msi_summary.specs.declared.property.SummaryProperty.{SummaryProperty}
-use Rattle.msi_summary.specs.Summary.{cleared, is_set_empty}
+use Rattle.msi.specs.Text.ErrorKind.{ErrorKind}
+use Rattle.msi.specs.Text.ErrorKind.TheVariants.{OutOfMemory}
+use Rattle.msi.specs.Summary.Properties.{Properties}
+use Rattle.msi.specs.Summary.SummaryProperty.{SummaryProperty}
+use Rattle.msi.specs.Summary.Summary.{cleared, is_set_empty}
 use Rattle.msi.specs.Calls.{SummaryAnswer, SummaryCall}
 use Rattle.msi.specs.Calls as calls
 use Rattle.msi.specs.Lent.{Gives, question_wants_memory, said_of, summary_after, summary_outcome, summary_wants_memory}

@@ -1,12 +1,12 @@
 -- What a package's calls ensure is what a call takes.
 use Rattle.std.proofs.Common.{◌≡◌, ℕ, true, false, Option, None, Result, Ok, Err, refl, sym, ap, subst, ◌∙◌}
 use Rattle.std.specs.Prelude.{IfErr, IsTrue, OnErr, OnOk}
-use Rattle.msi_base.specs.declared.errors.ErrorKind.{ErrorKind}
-use Rattle.msi_base.specs.Refusals.{AnswersWith, Refusals, IsRefusal, first_refusal, unless_refused}
-use Rattle.msi_query.specs.Queries.{Query}
-use Rattle.msi_query.specs.Selection.{Relation, relation_of}
-use Rattle.msi_database_changes.specs.Changes.{Change}
-use Rattle.msi_database_changes.specs.Database.{values_of}
+use Rattle.msi.specs.Text.ErrorKind.{ErrorKind}
+use Rattle.msi.specs.Query.Refusals.{AnswersWith, Refusals, IsRefusal, first_refusal, unless_refused}
+use Rattle.msi.specs.Query.Queries.{Query}
+use Rattle.msi.specs.Query.Selection.{Relation, relation_of}
+use Rattle.msi.specs.Database.Changes.{Change}
+use Rattle.msi.specs.Database.Database.{values_of}
 use Rattle.msi.specs.State.{State}
 use Rattle.msi.specs.Calls.{Call, Answer}
 use Rattle.msi.specs.Calls as calls

@@ -3,15 +3,15 @@
 use Rattle.std.specs.Prelude.{◌≡◌, ◌↔◌, ℕ, true, List, Option, None}
 use Rattle.std.specs.FinMap.{entries}
 use Rattle.std.specs.List.{AllByRecursion}
-use Rattle.msi_base.specs.declared.codepage.CodePage.TheVariants as page
-use Rattle.msi_pool_places.specs.Pool.{Place, Pool}
-use Rattle.msi_summary_properties.specs.PropertyLaws.{Ascending}
-use Rattle.msi_summary.specs.Summary.{summary_format}
-use Rattle.msi_container_format.specs.declared.contents.Contents.{Contents}
-use Rattle.msi_container_format.specs.Container.{Holds}
-use Rattle.msi_database_schema.specs.Keys.{is_table_name}
-use Rattle.msi_database_changes.specs.Database.{Database}
-use Rattle.msi_database_storage.specs.Agreement.{DatabaseIs, is_shown}
+use Rattle.msi.specs.Text.CodePage.TheVariants as page
+use Rattle.msi.specs.Text.Pool.{Place, Pool}
+use Rattle.msi.specs.Summary.PropertyLaws.{Ascending}
+use Rattle.msi.specs.Summary.Summary.{summary_format}
+use Rattle.msi.specs.Container.Contents.{Contents}
+use Rattle.msi.specs.Container.Container.{Holds}
+use Rattle.msi.specs.Database.Keys.{is_table_name}
+use Rattle.msi.specs.Database.Database.{Database}
+use Rattle.msi.specs.Database.Agreement.{DatabaseIs, is_shown}
 use Rattle.msi.specs.Kinds.{clsid_of}
 use Rattle.msi.specs.Laws.{AreBytes}
 use Rattle.msi.specs.Meaning.{Means, Passes, knows_kind, has_summary, has_pool, reads_pool, has_texts, reads_texts}

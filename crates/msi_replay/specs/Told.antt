@@ -1,7 +1,7 @@
 -- The answers that values stand for.
 use Rattle.std.specs.Prelude.{map, string_bytes, Result, Ok, Err}
-use Rattle.msi_base.specs.declared.errors.ErrorKind.{ErrorKind}
-use Rattle.msi_table_values.specs.Row.{RowDef}
+use Rattle.msi.specs.Text.ErrorKind.{ErrorKind}
+use Rattle.msi.specs.Table.Row.{RowDef}
 use Rattle.msi.specs.Calls as calls
 use Rattle.msi_replay.specs.declared.answer.SummaryAnswer.{SummaryAnswer}
 use Rattle.msi_replay.specs.declared.answer.SummaryAnswer.TheVariants as said

@@ -1,11 +1,8 @@
 //! The results of calls, as values.
 
-use msi::{LanguageId, PackageType, Timestamp};
-use msi_base::codepage::CodePage;
-use msi_base::errors::ErrorKind;
-use msi_base::text::{Items, Text};
-use msi_table::{Row, Table};
-use msi_table_values::column::Column;
+use msi::{
+    CodePage, Column, ErrorKind, Items, LanguageId, PackageType, Row, Table, Text, Timestamp,
+};
 use uuid::Uuid;
 
 /// The result of a call on a summary.

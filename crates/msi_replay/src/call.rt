@@ -1,11 +1,9 @@
 //! Calls on a package, and on its borrowed summary and streams, as values.
 
-use msi::{LanguageId, Timestamp};
-use msi_base::codepage::CodePage;
-use msi_base::text::{Items, Text};
-use msi_query::{Delete, Insert, Select, Update};
-use msi_summary::{NumberProperty, SummaryProperty, TextProperty, TimeProperty};
-use msi_table_values::column::Column;
+use msi::{
+    CodePage, Column, Delete, Insert, Items, LanguageId, NumberProperty, Select, SummaryProperty,
+    Text, TextProperty, TimeProperty, Timestamp, Update,
+};
 use std::io::SeekFrom;
 use uuid::Uuid;
 

@@ -2,7 +2,7 @@
 
 ghost use Rattle.std.specs.Prelude.{◌≡◌, IfOk, OnOk, map};
 ghost use Rattle.std.specs.List.{AllByRecursion};
-ghost use Rattle.msi_base.specs.Results.{OnlyMemory};
+ghost use Rattle.msi.specs.Text.Results.{OnlyMemory};
 ghost use Rattle.msi.specs.Calls as calls;
 ghost use Rattle.msi.specs.Lent.{FitsSummaryCall};
 ghost use Rattle.msi_replay.specs.Sent.{change_sent, summary_call_sent};
@@ -12,10 +12,7 @@ ghost use Rattle.msi_replay.specs.Told.{answer_told, told};
 use crate::answer::Answer;
 use crate::call::{Change, SummaryCall};
 use crate::summary::{carry_out_all, discard_all};
-use msi::Package;
-use msi_base::errors::{Error, ErrorKind};
-use msi_base::text::Items;
-use msi_container_device::Memory;
+use msi::{Error, ErrorKind, Items, Memory, Package};
 use std::alloc::Global;
 
 pub(crate) fn done(outcome: Result<(), Error>) -> Result<Answer, ErrorKind>

@@ -7,10 +7,7 @@ ghost use Rattle.msi_replay.specs.Told.{answer_told, told};
 
 use crate::answer::Answer;
 use crate::changing::done;
-use msi::Package;
-use msi_base::errors::ErrorKind;
-use msi_base::text::Items;
-use msi_container_device::Memory;
+use msi::{ErrorKind, Items, Memory, Package};
 
 pub(crate) fn flush(target: &mut Package<Memory>) -> Result<Answer, ErrorKind>
     requires { Tells target.old }

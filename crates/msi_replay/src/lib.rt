@@ -15,5 +15,5 @@ mod summary;
 
 pub use answer::{Answer, StreamAnswer, SummaryAnswer};
 pub use call::{Call, Change, LookUp, ReaderCall, Setting, SummaryCall, WriterCall};
-pub use msi_summary::{NumberProperty, SummaryProperty, TextProperty, TimeProperty};
+pub use msi::{NumberProperty, SummaryProperty, TextProperty, TimeProperty};
 pub use replaying::{Replayed, replay, replay_over};

@@ -2,9 +2,9 @@
 
 ghost use Rattle.std.specs.Prelude.{◌≡◌, IfOk, map};
 ghost use Rattle.std.specs.Option.{option_copied};
-ghost use Rattle.msi_base.specs.Results.{OnlyMemory};
-ghost use Rattle.msi_table_values.specs.Row.{RowDef};
-ghost use Rattle.msi_query.specs.Rows.{rows_values};
+ghost use Rattle.msi.specs.Text.Results.{OnlyMemory};
+ghost use Rattle.msi.specs.Table.Row.{RowDef};
+ghost use Rattle.msi.specs.Query.Rows.{rows_values};
 ghost use Rattle.msi.specs.Calls as calls;
 ghost use Rattle.msi_replay.specs.Sent.{look_up_sent};
 ghost use Rattle.msi_replay.specs.Taken.{Takes};
@@ -14,14 +14,9 @@ use crate::answer::Answer;
 use crate::call::LookUp;
 use crate::streaming::all_names;
 use crate::summary::ask_all;
-use msi::Package;
-use msi_base::errors::{Error, ErrorKind};
-use msi_base::text::Items;
-use msi_container_device::Memory;
-use msi_query::Select;
-use msi_summary::SummaryProperty;
-use msi_table::{Row, Rows, Table};
-use msi_table_values::column::Column;
+use msi::{
+    Column, Error, ErrorKind, Items, Memory, Package, Row, Rows, Select, SummaryProperty, Table,
+};
 use std::alloc::Global;
 
 fn copied_table(alloc: Global, table: Option<&Table>) -> Result<Option<Table>, Error>

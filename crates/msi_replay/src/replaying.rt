@@ -2,8 +2,8 @@
 
 ghost use Rattle.std.specs.Prelude.{◌≡◌, [], IfErr, IfOk, Ok, OnOk, Some, map};
 ghost use Rattle.std.specs.List.{AllByRecursion};
-ghost use Rattle.msi_base.specs.Results.{OnlyMemory};
-ghost use Rattle.msi_container_device.specs.Held.{bytes_told};
+ghost use Rattle.msi.specs.Text.Results.{OnlyMemory};
+ghost use Rattle.msi.specs.Container.Held.{bytes_told};
 ghost use Rattle.msi.specs.Laws.{AreBytes};
 ghost use Rattle.msi.specs.Runs.{FitsCall, IsReplay, IsReplayOver, IsReplayOverRefused, IsReplayRefused, Run};
 ghost use Rattle.msi.specs.Meaning.{OpensTo};
@@ -19,10 +19,7 @@ use crate::changing::{change, change_summary, recount};
 use crate::device::{flush, image};
 use crate::looking::{ask_summary, look_up, select};
 use crate::streaming::{read_stream, write_stream};
-use msi::{Package, PackageType};
-use msi_base::errors::{Error, ErrorKind};
-use msi_base::text::Items;
-use msi_container_device::Memory;
+use msi::{Error, ErrorKind, Items, Memory, Package, PackageType};
 use std::alloc::Global;
 
 /// The results of calls, the bytes that the package was written as in the end, and whether its texts read back.

@@ -1,7 +1,7 @@
 //! Calls on the reader and the writer of a stream, carried out in turn.
 
 ghost use Rattle.std.specs.Prelude.{◌≡◌, IfOk, Ok, OnOk, map, true};
-ghost use Rattle.msi_base.specs.Results.{OnlyMemory};
+ghost use Rattle.msi.specs.Text.Results.{OnlyMemory};
 ghost use Rattle.msi.specs.Cursor.{after_read, piece_read};
 ghost use Rattle.msi.specs.Refusals as faults;
 ghost use Rattle.msi.specs.Calls as calls;
@@ -13,9 +13,7 @@ ghost use Rattle.msi_replay.specs.Told.{stream_answer, told};
 use crate::answer::StreamAnswer;
 use crate::call::{ReaderCall, WriterCall};
 use msi::faults::kind_of;
-use msi::{StreamReader, StreamWriter};
-use msi_base::errors::{Error, ErrorKind};
-use msi_base::text::Items;
+use msi::{Error, ErrorKind, Items, StreamReader, StreamWriter};
 use std::alloc::Global;
 use std::io;
 use std::io::{Read, Seek, SeekFrom, Write};

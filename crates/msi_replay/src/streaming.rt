@@ -2,7 +2,7 @@
 
 ghost use Rattle.std.specs.Prelude.{◌≡◌, IfOk, OnOk, map};
 ghost use Rattle.std.specs.Str.{IsUtf8};
-ghost use Rattle.msi_base.specs.Results.{OnlyMemory};
+ghost use Rattle.msi.specs.Text.Results.{OnlyMemory};
 ghost use Rattle.msi.specs.Calls as calls;
 ghost use Rattle.msi_replay.specs.Sent.{reader_call_sent, writer_call_sent};
 ghost use Rattle.msi_replay.specs.Taken.{Takes};
@@ -11,10 +11,7 @@ ghost use Rattle.msi_replay.specs.Told.{answer_told, told};
 use crate::answer::Answer;
 use crate::call::{ReaderCall, WriterCall};
 use crate::stream::{read_all, write_all};
-use msi::{Package, Streams};
-use msi_base::errors::{Error, ErrorKind};
-use msi_base::text::{Items, Text};
-use msi_container_device::Memory;
+use msi::{Error, ErrorKind, Items, Memory, Package, Streams, Text};
 use std::alloc::Global;
 
 pub(crate) fn all_names(alloc: Global, names: Streams<'_>) -> Result<Items<Text>, Error>

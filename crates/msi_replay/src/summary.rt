@@ -3,9 +3,9 @@
 ghost use Rattle.std.specs.Prelude.{◌≡◌, IfErr, IfOk, IsTrue, OnErr, OnOk, map};
 ghost use Rattle.std.specs.List.{AllByRecursion};
 ghost use Rattle.std.specs.Option.{option_copied};
-ghost use Rattle.msi_base.specs.Results.{OnlyMemory};
-ghost use Rattle.msi_base.specs.declared.errors.ErrorKind.TheVariants.{OutOfMemory};
-ghost use Rattle.msi_summary.specs.declared.property.SummaryProperty.TheVariants.{Keywords, Languages};
+ghost use Rattle.msi.specs.Text.Results.{OnlyMemory};
+ghost use Rattle.msi.specs.Text.ErrorKind.TheVariants.{OutOfMemory};
+ghost use Rattle.msi.specs.Summary.SummaryProperty.TheVariants.{Keywords, Languages};
 ghost use Rattle.msi.specs.Calls as calls;
 ghost use Rattle.msi.specs.Lent.{FitsSummaryCall, Gives, RunsTo, question_wants_memory, said_of};
 ghost use Rattle.msi.specs.Lent.{summary_after, summary_outcome, summary_wants_memory};
@@ -14,10 +14,7 @@ ghost use Rattle.msi_replay.specs.Told.{summary_answer, told};
 
 use crate::answer::SummaryAnswer;
 use crate::call::{Setting, SummaryCall};
-use msi::HasUuid;
-use msi_base::errors::{Error, ErrorKind};
-use msi_base::text::{IntoText, Items, Text};
-use msi_summary::{SummaryInfo, SummaryProperty};
+use msi::{Error, ErrorKind, HasUuid, IntoText, Items, SummaryInfo, SummaryProperty, Text};
 use std::alloc::Global;
 
 fn copied(alloc: Global, text: Option<&str>) -> Result<Option<Text>, Error>

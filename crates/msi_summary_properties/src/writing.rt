@@ -27,7 +27,7 @@ use msi_base::codepage::CodePage;
 use msi_base::errors::{Error, ErrorKind};
 use msi_base::fields::{push_u16, push_u32};
 use msi_base::reasons::PAGE_CHARACTER;
-use msi_pool_places::encoded_len;
+use msi_pool::encoded_len;
 use std::alloc::AllocError;
 use std::collections::BTreeMap;
 use std::io::{self, Write};

@@ -31,3 +31,5 @@ pub use Rattle.msi_table_values.specs.Row
 pub use Rattle.msi_table_cells.specs.StoredOrder
 pub use Rattle.msi_table_cells.specs.KeyOrder
 pub use Rattle.msi_table_cells.specs.SortedRows
+pub use Rattle.msi_pool.specs.Pool
+pub use Rattle.msi_table_cells.specs.TableCells

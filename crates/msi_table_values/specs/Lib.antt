@@ -9,3 +9,5 @@ pub mod Utf8Texts
 pub mod OrderLaws
 pub use Rattle.msi_categories.specs.declared.category.Category
 pub use Rattle.msi_categories.specs.Spellings
+pub use Rattle.msi_categories.specs.Numerals
+pub use Rattle.msi_categories.specs.CategoryRules

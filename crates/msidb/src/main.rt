@@ -1,7 +1,7 @@
 //! The program `msidb`: inspects and creates Windows Installer packages from a command line.
 #![tactic(auto)]
 
-use msi_base::Error;
+use msidb_commands::Error;
 use std::process::ExitCode;
 use std::rt::Env;
 use std::{env, io};

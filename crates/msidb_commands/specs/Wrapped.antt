@@ -1,7 +1,7 @@
 -- What a wrapped file holds.
 use Rattle.std.specs.Prelude.{ℕ, false, List, [], ◌∷◌}
 use Rattle.std.specs.FinMap.{empty, insert}
-use Rattle.msi_container_format.specs.declared.contents.Contents.{Contents}
+use Rattle.msi.specs.Container.Contents.{Contents}
 
 -- 000C1084-0000-0000-C000-000000000046, as the root stores it
 abbrev pub installer_clsid : List ℕ

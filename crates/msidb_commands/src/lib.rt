@@ -16,7 +16,7 @@ mod tables;
 mod wrap;
 
 use command::Command;
-use msi_base::errors::Error;
+pub use msi::Error;
 use std::io::{Read, Write};
 
 /// The message for arguments that match no command.

@@ -1,6 +1,6 @@
 //! Lines on their way to a writer.
 
-use msi_base::errors::Error;
+use msi::Error;
 use std::alloc::{AllocError, Global};
 use std::fmt::Display;
 use std::io::Write;

@@ -1,8 +1,6 @@
 //! Packages in files: `new FILE`, and whether the file of `put` can be opened.
 
-use msi::{Package, PackageType};
-use msi_base::errors::Error;
-use msi_container_device::Buffered;
+use msi::{Buffered, Error, Package, PackageType};
 use std::fs::{self, OpenOptions};
 use std::io;
 

@@ -2,8 +2,7 @@
 
 use crate::lines::Lines;
 use msi::compound::{self, Name};
-use msi::streamname;
-use msi_base::errors::Error;
+use msi::{Error, streamname};
 use std::alloc::Global;
 use std::fs::{self, OpenFile};
 use std::io::{Read, Write};

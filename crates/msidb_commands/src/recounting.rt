@@ -1,6 +1,6 @@
 //! `recount FILE`.
 
-use msi_base::errors::Error;
+use msi::Error;
 use std::io::Write;
 
 pub(crate) fn recount<O: Write>(rt: &HostRuntime, file: &str, output: &mut O) -> Result<(), Error> {

@@ -2,9 +2,7 @@
 
 use crate::lines::Lines;
 use crate::packages;
-use msi::{Package, StreamReader, Streams};
-use msi_base::errors::Error;
-use msi_container_device::{Device, Source};
+use msi::{Device, Error, Package, Source, StreamReader, Streams};
 use std::alloc::Global;
 use std::io::{self, Read, Write};
 

@@ -1,9 +1,7 @@
 //! `summary FILE`.
 
 use crate::lines::Lines;
-use msi::{HasUuid, LanguageId, Timestamp};
-use msi_base::errors::Error;
-use msi_summary::{SummaryInfo, SummaryProperty};
+use msi::{Error, HasUuid, LanguageId, SummaryInfo, SummaryProperty, Timestamp};
 use std::alloc::Global;
 use std::fmt::Display;
 use std::io::Write;

@@ -1,12 +1,7 @@
 //! `tables FILE` and `rows FILE TABLE`.
 
 use crate::lines::Lines;
-use msi::{Package, Tables};
-use msi_base::errors::Error;
-use msi_container_device::Source;
-use msi_query::Select;
-use msi_table::{Row, Rows};
-use msi_table_values::column::Column;
+use msi::{Column, Error, Package, Row, Rows, Select, Source, Tables};
 use std::alloc::Global;
 use std::io::Write;
 

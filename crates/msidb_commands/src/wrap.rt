@@ -1,18 +1,17 @@
 //! `wrap OUT NAME`: a container with standard input as its one stream.
 
 ghost use Rattle.std.specs.Prelude.{◌≡◌, ◌↔◌, ◌⊎◌, false, chars, option_map, IfOk, IfErr, IsErr, IsErrOf, IsTrue, OnOk};
-ghost use Rattle.msi_base.specs.declared.errors.ErrorKind.TheVariants.{InvalidInput, Io, OutOfMemory};
-ghost use Rattle.msi_container_format.specs.Container.{Holds};
-ghost use Rattle.msi_container_device.specs.Held.{with_piece};
-ghost use Rattle.msi_container_write.specs.Layout.{layout, refuses};
-ghost use Rattle.msi_container_format.specs.Names.{utf16_units};
-ghost use Rattle.msi_container_format.specs.StreamNames.{encoded_name, is_valid_name};
+ghost use Rattle.msi.specs.Text.ErrorKind.TheVariants.{InvalidInput, Io, OutOfMemory};
+ghost use Rattle.msi.specs.Container.Container.{Holds};
+ghost use Rattle.msi.specs.Container.Held.{with_piece};
+ghost use Rattle.msi.specs.Container.Layout.{layout, refuses};
+ghost use Rattle.msi.specs.Container.Names.{utf16_units};
+ghost use Rattle.msi.specs.Container.StreamNames.{encoded_name, is_valid_name};
 ghost use Rattle.msidb_commands.specs.Wrapped.{wrapped};
 
 use msi::compound::{self, Buffered, Bytes, Contents, Device, Name, StreamMap};
-use msi::streamname;
-use msi_base::errors::{Error, ErrorKind, Reason};
-use msi_container_device::parts::fault;
+use msi::parts::fault;
+use msi::{Error, ErrorKind, Reason, streamname};
 use std::alloc::Global;
 use std::fs;
 use std::io::{Read, Write};

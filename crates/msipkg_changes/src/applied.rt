@@ -2,7 +2,7 @@
 
 use crate::definition::Definition;
 use crate::outcome::Carried;
-use msi_query::parts::{delete_parts, insert_parts, update_parts};
+use msipkg_packages::msi::parts::{delete_parts, insert_parts, update_parts};
 use msipkg_packages::msi::{Error, Expr, Package, Select, Statement};
 use msipkg_packages::output::{Failure, Opened};
 use std::alloc::Global;

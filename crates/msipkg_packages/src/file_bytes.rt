@@ -2,8 +2,8 @@
 
 ghost use Rattle.std.specs.Prelude.{◌≡◌, ◌⊎◌, ◌++◌, ◌||◌, Err, IfErr, IfOk, IfSome, IsErrOf, IsOk, Ok, OnOk};
 ghost use Rattle.std.specs.Prelude.{false, is_some, true};
-ghost use Rattle.msi_base.specs.Refusals.{AnswersFirst, IsRefusal};
-ghost use Rattle.msi_base.specs.declared.errors.ErrorKind.TheVariants.{InvalidInput, OutOfMemory};
+ghost use Rattle.msi.specs.Query.Refusals.{AnswersFirst, IsRefusal};
+ghost use Rattle.msi.specs.Text.ErrorKind.TheVariants.{InvalidInput, OutOfMemory};
 ghost use Rattle.msi.specs.Meaning.{OpensTo};
 ghost use Rattle.msi.specs.Runs.{TextsAreWritable};
 ghost use Rattle.msi.specs.State.{State, parts_of};

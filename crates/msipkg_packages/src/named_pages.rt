@@ -1,8 +1,7 @@
 //! The pages that a package names for its texts.
 
 use msi::compound::{Name, StreamMap};
-use msi::{SummaryProperty, streamname};
-use msi_base::Error;
+use msi::{Error, SummaryProperty, streamname};
 use msi_recode::TextPage;
 use msipkg_format::Pages;
 use std::alloc::Global;

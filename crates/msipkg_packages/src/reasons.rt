@@ -1,6 +1,6 @@
 //! Why no bytes are written: a sentence for each rule.
 
-use msi_base::errors::Reason;
+use msi::Reason;
 
 pub(crate) const LOST_TEXT: Reason = Reason("a text has a character that its code page hasn't");
 

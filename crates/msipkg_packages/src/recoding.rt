@@ -2,8 +2,8 @@
 
 use crate::kinds::check_kind;
 use crate::named_pages::{NamedPages, database_page, has_utf8_texts};
+use msi::Error;
 use msi::compound::{self, Contents, StreamMap};
-use msi_base::Error;
 use msi_recode::{TextPage, recode_contents};
 use msipkg_format::{Cause, Failure, Output, Pages, Shown, System};
 use std::alloc::Global;

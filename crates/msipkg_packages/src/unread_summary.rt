@@ -2,8 +2,7 @@
 
 use crate::recoding::{PackageFile, Recoded, recoded_or_plain};
 use msi::compound::{self, Bytes, Name, StreamMap};
-use msi::streamname;
-use msi_base::Error;
+use msi::{Error, streamname};
 use msipkg_format::{Failure, Output, Shown, System};
 use std::alloc::Global;
 use std::rc::Rc;

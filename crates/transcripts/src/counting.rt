@@ -2,7 +2,7 @@
 
 ghost use Rattle.std.specs.Prelude.{◌≡◌, OnErr, OnOk, Some, false, true};
 
-use msi_container_device::{Device, Memory, Source};
+use msi::{Device, Memory, Source};
 use std::io;
 
 /// Over memory: it takes and gives at most so many bytes a call, and one call fails, or all from one on.

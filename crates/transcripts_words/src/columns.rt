@@ -4,7 +4,7 @@ use crate::answers::Answer;
 use crate::texts::category;
 use crate::words::Words;
 use msi_base::errors::Error;
-use msi_table_values::column::{Column, ColumnBuilder};
+use msi_table::{Column, ColumnBuilder};
 
 /// Reads the columns of a table: `(Number key int16, Word nullable string 50)`. Fails if memory runs out.
 pub fn columns(words: &mut Words) -> Result<Vec<Column>, Error> {

@@ -5,8 +5,7 @@ use crate::failure::Failure;
 use msi_base::errors::Error;
 use msi_query_expressions::expr::Expr;
 use msi_query_expressions::parts::knows_names;
-use msi_table::{Row, Rows};
-use msi_table_values::column::Column;
+use msi_table::{Column, Row, Rows};
 use std::alloc::Global;
 
 /// The failure where there are other rows than their number says, or rows behind one that can't be made.

@@ -8,7 +8,7 @@ use crate::tokens::Token;
 use crate::words::Words;
 use msi_base::errors::Error;
 use msi_categories::LanguageId;
-use msi_table_values::value::Value;
+use msi_table::Value;
 use std::alloc::{AllocError, Global};
 
 /// Reads a value of the row of a number: `NULL`, `BINARY_STREAM`, a number, a text; or `number`, which is the row's

@@ -11,7 +11,7 @@ use super::texts::look_at_rows;
 use msi_base::errors::Error;
 use msi_base::laws::texts_are_utf8;
 use msi_base::text::{IntoText, Items, Text};
-use msi_table_values::value::Value;
+use msi_table::Value;
 use std::alloc::Global;
 use std::fmt;
 use std::marker::Model;
@@ -24,7 +24,7 @@ pub struct NewRow {
 
 impl Model for NewRow {
     ghost use Rattle.std.specs.Prelude.{List};
-    ghost use Rattle.msi_table_values.specs.declared.value.Value.{Value as ValueOf};
+    ghost use Rattle.msi_table.specs.Value.{Value as ValueOf};
 
     ghost Value = { List ValueOf };
 

@@ -16,7 +16,7 @@ use msi_base::errors::Error;
 use msi_base::text::{IntoText, Text};
 use msi_query_expressions::Expr;
 use msi_query_tokens::names::write_name;
-use msi_table_values::parts::copied_list;
+use msi_table::parts::copied_list;
 use std::alloc::Global;
 use std::fmt;
 use std::marker::Model;

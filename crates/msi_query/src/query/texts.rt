@@ -3,7 +3,7 @@
 ghost use Rattle.std.specs.Prelude.{IsUtf8};
 ghost use Rattle.std.specs.List.{AllByRecursion};
 ghost use Rattle.std.specs.Option.{option_copied};
-ghost use Rattle.msi_table_values.specs.Utf8Texts.{AreUtf8Values, IsUtf8Value};
+ghost use Rattle.msi_table.specs.Utf8Texts.{AreUtf8Values, IsUtf8Value};
 ghost use Rattle.msi_query.specs.QueryTrees.{query_of};
 ghost use Rattle.msi_query.specs.Utf8Queries.{IsUtf8Clauses, IsUtf8Condition, IsUtf8Query};
 
@@ -14,7 +14,7 @@ use msi_base::laws::texts_are_utf8;
 use msi_query_expressions::Expr;
 use msi_query_expressions::laws::expression_texts_are_utf8;
 use msi_query_expressions::parts::Assignment;
-use msi_table_values::laws::{listed_texts_are_utf8, listed_values_are_utf8, value_texts_are_utf8};
+use msi_table::laws::{listed_texts_are_utf8, listed_values_are_utf8, value_texts_are_utf8};
 
 pub(crate) fn look_at_condition(condition: Option<&Expr>)
     ensures { IsUtf8Condition (option_copied condition.entry) }

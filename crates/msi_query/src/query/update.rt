@@ -15,7 +15,7 @@ use msi_base::laws::texts_are_utf8;
 use msi_base::text::{IntoText, Items, Text};
 use msi_query_expressions::Expr;
 use msi_query_expressions::parts::Assignment;
-use msi_table_values::value::Value;
+use msi_table::Value;
 use std::alloc::Global;
 use std::fmt;
 use std::marker::Model;

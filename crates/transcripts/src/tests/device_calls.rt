@@ -1,9 +1,7 @@
 //! Calls of a device as rows of a table: what each is passed, what it returns, and how it ends.
 
-use msi::{Error, ErrorKind};
-use msi_container_device::faults::fault;
-use msi_container_device::parts::{read_all, write_all};
-use msi_container_device::{Device, Memory, Source};
+use msi::parts::{fault, read_all, write_all};
+use msi::{Device, Error, ErrorKind, Memory, Source};
 use std::alloc::Global;
 
 /// A call of a device, or of a function over one, with what it returns.

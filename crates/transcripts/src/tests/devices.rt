@@ -4,8 +4,7 @@ use crate::tests::device_calls::Call::{Flush, Length, Read, ReadAll, Rewind, Wri
 use crate::tests::device_calls::End::{Flagged, Refused, Well};
 use crate::tests::device_calls::{DIGITS, Step, digits, gone};
 use crate::tests::outcome::passes;
-use msi::Error;
-use msi_container_device::{Buffered, Metered};
+use msi::{Buffered, Error, Metered};
 use std::alloc::Global;
 use std::io::{self, Cursor, Seek, SeekFrom};
 

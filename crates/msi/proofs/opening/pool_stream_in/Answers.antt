@@ -1,7 +1,7 @@
 use Rattle.std.proofs.Common.{◌≡◌, ◌∙◌, ap, sym, Some, [], ◌∷◌, None}
 use Rattle.std.specs.FinMap.{entries}
 use Rattle.msi_base.proofs.OptionLemmas.{none_not}
-use Rattle.msi_pool_places.specs.Pool.{IsPoolStream}
+use Rattle.msi_pool.specs.Pool.{IsPoolStream}
 use Rattle.msi_database_schema.specs.Keys.{string_pool_name, table_key}
 use Rattle.msi_database_storage.specs.Streams.{stream_at}
 use Rattle.msi.specs.Meaning.{has_pool, reads_pool}

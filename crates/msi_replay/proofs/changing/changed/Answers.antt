@@ -1,17 +1,17 @@
 use Rattle.std.proofs.Common.{◌≡◌, ◌∙◌, ℕ, List, Result, ap, refl, subst, sym}
-use Rattle.msi_base.specs.declared.errors.ErrorKind.{ErrorKind}
-use Rattle.msi_table_values.specs.Columns.{ColumnDef}
-use Rattle.msi_database_changes.specs.Changes.{Change, sound_refusal}
-use Rattle.msi_database_changes.specs.Create as creates
-use Rattle.msi_database_changes.specs.Delete as deletes
-use Rattle.msi_database_changes.specs.Drop as drops
-use Rattle.msi_database_changes.specs.Insert as inserts
-use Rattle.msi_database_changes.specs.Update as updates
+use Rattle.msi.specs.Text.ErrorKind.{ErrorKind}
+use Rattle.msi.specs.Table.Columns.{ColumnDef}
+use Rattle.msi.specs.Database.Changes.{Change, sound_refusal}
+use Rattle.msi.specs.Database.Create as creates
+use Rattle.msi.specs.Database.Delete as deletes
+use Rattle.msi.specs.Database.Drop as drops
+use Rattle.msi.specs.Database.Insert as inserts
+use Rattle.msi.specs.Database.Update as updates
 use Rattle.std.specs.Prelude.{◌++◌, [], ◌∷◌, not, string_bytes}
-use Rattle.msi_base.specs.declared.errors.ErrorKind.TheVariants.{NotFound}
-use Rattle.msi_base.specs.Refusals.{AnswersWith, Refusals}
-use Rattle.msi_database_schema.specs.Keys.{stream_key}
-use Rattle.msi_database_storage.specs.Streams.{without_stream}
+use Rattle.msi.specs.Text.ErrorKind.TheVariants.{NotFound}
+use Rattle.msi.specs.Query.Refusals.{AnswersWith, Refusals}
+use Rattle.msi.specs.Database.Keys.{stream_key}
+use Rattle.msi.specs.Database.Streams.{without_stream}
 use Rattle.msi.specs.State.{State, parts_of}
 use Rattle.msi.specs.Calls as calls
 use Rattle.msi.specs.Steps.{changed, changing, has_stream, leaving, name_refusals, refused_early, storage_refusal, with_page, with_streams, without_signature}

@@ -1,6 +1,6 @@
 use Rattle.std.proofs.Common.{◌≡◌, ◌++◌, map}
-use Rattle.msi_table_values.specs.Row.{RowDef}
-use Rattle.msi_query.specs.Rows.{rows_values}
+use Rattle.msi.specs.Table.Row.{RowDef}
+use Rattle.msi.specs.Query.Rows.{rows_values}
 use Rattle.msi_replay.proofs.looking.all_rows.Given as goal
 
 -- those that were given, and those that are left

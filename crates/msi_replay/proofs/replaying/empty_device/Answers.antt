@@ -1,5 +1,5 @@
 use Rattle.std.proofs.Common.{◌∙◌, List, Some, ap, ℕ}
-use Rattle.msi_container_device.specs.Held.{Held, bytes_told, from_first}
+use Rattle.msi.specs.Container.Held.{Held, bytes_told, from_first}
 use Rattle.msi_replay.proofs.replaying.empty_device.Goals as goal
 
 pub returns : goal.returns

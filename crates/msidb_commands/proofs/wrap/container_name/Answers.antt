@@ -1,6 +1,6 @@
 use Rattle.std.proofs.Common.{◌≡◌, ◌∙◌, ap, sym, length, chars, true, false, is_ok, IsErrOf, Result, Ok, Err}
-use Rattle.msi_container_format.specs.Names.{is_name_length, utf16_units}
-use Rattle.msi_container_format.specs.StreamNames.{is_valid_name}
+use Rattle.msi.specs.Container.Names.{is_name_length, utf16_units}
+use Rattle.msi.specs.Container.StreamNames.{is_valid_name}
 use Rattle.msidb_commands.proofs.wrap.container_name.Goals as goal
 
 -- what is Ok is no error

@@ -1,7 +1,7 @@
 use Rattle.std.proofs.Common.{◌≡◌, ◌∙◌, List, ℕ, ap, false}
 use Rattle.std.specs.FinMap.{FinMap, empty, insert}
-use Rattle.msi_container_format.specs.declared.contents.Contents.{Contents}
-use Rattle.msi_container_format.specs.Names.{name_cmp}
+use Rattle.msi.specs.Container.Contents.{Contents}
+use Rattle.msi.specs.Container.Names.{name_cmp}
 use Rattle.msidb_commands.specs.Wrapped.{installer_clsid}
 use Rattle.msidb_commands.proofs.wrap.contents_of.Goals as goal
 

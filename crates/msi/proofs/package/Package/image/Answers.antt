@@ -1,7 +1,7 @@
 use Rattle.std.proofs.Common.{◌≡◌, ◌∙◌, Some, ap, inr, rules, subst, sym}
 use Rattle.std.specs.Prelude.{IfErr, IfOk, Ok}
 use Rattle.msi_base.specs.declared.errors.ErrorKind.TheVariants.{InvalidInput}
-use Rattle.msi_pool_places.specs.Pool.{Pool}
+use Rattle.msi_pool.specs.Pool.{Pool}
 use Rattle.msi_container_write.specs.Borrowed.{contents_of}
 use Rattle.msi_base.specs.Refusals.{AnswersFirst, IsRefusal, or_refused}
 use Rattle.msi_base.proofs.RefusalLemmas.{accepted_first, first_passed}

@@ -1,7 +1,7 @@
 use Rattle.msi_base.proofs.RefusalLemmas.{accepted_first, err_passed, first_passed}
 use Rattle.std.proofs.Common.{true, refl, sym, subst}
-use Rattle.msi_database_changes.specs.Create.{create_table}
-use Rattle.msi_database_changes.specs.Database.{Database}
+use Rattle.msi_database.specs.Create.{create_table}
+use Rattle.msi_database.specs.Database.{Database}
 use Rattle.msi.specs.State.{parts_of}
 use Rattle.msi.specs.Steps.{changing}
 use Rattle.msi.specs.Whole.{Leaves}

@@ -1,5 +1,5 @@
 use Rattle.std.proofs.Common.{◌∙◌, ap}
-use Rattle.msi_database_changes.specs.Database.{is_sound}
+use Rattle.msi_database.specs.Database.{is_sound}
 use Rattle.msi.specs.Whole.{Whole}
 use Rattle.msi.proofs.ChangeLemmas.{noted_sound}
 use Rattle.msi.proofs.package.Package.note_change.Goals as goal

@@ -1,6 +1,6 @@
 use Rattle.std.proofs.Common.{◌∙◌}
 use Rattle.msi_base.proofs.RefusalLemmas.{accepted_first, err_passed, first_passed}
-use Rattle.msi_database_changes.specs.Recounting.{early_recount_refusals}
+use Rattle.msi_database.specs.RecountedDatabases.{early_recount_refusals}
 use Rattle.msi.proofs.ChangeLemmas.{answered_behind, held_sound}
 use Rattle.msi.proofs.RecountingLemmas.{recount_answered, recount_left, recount_refused}
 use Rattle.msi.proofs.package.Package.recount.Goals as goal

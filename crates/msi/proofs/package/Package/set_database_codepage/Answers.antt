@@ -1,5 +1,5 @@
 use Rattle.std.proofs.Common.{ap}
-use Rattle.msi_database_changes.specs.Database.{is_sound}
+use Rattle.msi_database.specs.Database.{is_sound}
 use Rattle.msi_database_storage.specs.Kept.{Kept}
 use Rattle.msi.proofs.ChangeLemmas.{after_check}
 use Rattle.std.proofs.lemmas.Result.{err_from_is_err_and}

@@ -1,5 +1,5 @@
 use Rattle.std.proofs.Common.{◌∙◌, ap}
-use Rattle.msi_database_changes.specs.Database.{is_sound}
+use Rattle.msi_database.specs.Database.{is_sound}
 use Rattle.msi_database_storage.specs.Kept.{Kept}
 use Rattle.msi_base.proofs.RefusalLemmas.{none_answered}
 use Rattle.msi.specs.State.{parts_of}

@@ -1,8 +1,8 @@
 use Rattle.std.proofs.Common.{ℕ, List, take}
 use Rattle.std.specs.List.{AllByRecursion}
 use Rattle.std.specs.Str.{IsUtf8}
-use Rattle.msi_table_values.specs.declared.value.Value.{Value}
-use Rattle.msi_table_values.specs.Utf8Texts.{IsUtf8Value}
+use Rattle.msi_table.specs.Value.{Value}
+use Rattle.msi_table.specs.Utf8Texts.{IsUtf8Value}
 use Rattle.msi_query.proofs.query.texts.look_at_sets.Given as goal
 
 abbrev pub invariant-loop-set : goal.invariant-loop-set

@@ -1,8 +1,8 @@
 use Rattle.std.proofs.Common.{◌≡◌, ◌∙◌, ℕ, List, Ok, Err, true, false, inl, inr, refl, subst, true≢false}
 use Rattle.std.specs.Prelude.{◌⊎◌}
 use Rattle.std.proofs.lemmas.Result.{err_from_is_err_and}
-use Rattle.msi_base.specs.declared.errors.ErrorKind.{ErrorKind}
-use Rattle.msi_base.specs.declared.errors.ErrorKind.TheVariants.{Io, OutOfMemory}
+use Rattle.msi.specs.Text.ErrorKind.{ErrorKind}
+use Rattle.msi.specs.Text.ErrorKind.TheVariants.{Io, OutOfMemory}
 use Rattle.msi.specs.Meaning.{OpensTo}
 use Rattle.msipkg_packages.proofs.file_bytes.FileBytes.opened_again.Goals as goal
 

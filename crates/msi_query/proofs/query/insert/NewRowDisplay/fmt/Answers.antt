@@ -1,5 +1,5 @@
 use Rattle.std.proofs.Common.{map, Some, codes, refl}
-use Rattle.msi_table_values.specs.Values.{value_text}
+use Rattle.msi_table.specs.Values.{value_text}
 use Rattle.msi_query.specs.QueryTexts.{listed}
 use Rattle.msi_query.proofs.QueryTextLemmas.{failed_write, three_writes}
 use Rattle.msi_query.proofs.query.insert.NewRowDisplay.fmt.Goals as goal
