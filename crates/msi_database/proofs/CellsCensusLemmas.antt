@@ -11,7 +11,7 @@ use Rattle.msi_database_schema.specs.Schema.{table_with}
 use Rattle.msi_database_schema.specs.System.{validation_columns, validation_name}
 use Rattle.msi_database_changes.specs.Database.{Database, named_numbers}
 use Rattle.msi_database_changes.specs.Recounting.{cell_counts, counts_fit}
-use Rattle.msi_database_changes.proofs.RecountingLemmas.{cells_at, many_counts}
+use Rattle.msi_database_changes.proofs.text_counts.RecountingLemmas.{cells_at, many_counts}
 use Rattle.msi_database_storage.specs.Kept.{table_kept_at, unlisted_kept}
 use Rattle.msi_database_storage.specs.Streams.{Streams, stored_rows, stream_at}
 

@@ -1,6 +1,6 @@
 -- First rows of tables, one after the other: what the calls of a new database make is `fresh`.
-use Rattle.msi_database_changes.proofs.TurnLemmas.{map_some as some_mapped}
-use Rattle.msi_database_changes.proofs.NarrowLemmas.{rows_put_extends}
+use Rattle.msi_database_changes.proofs.steps.TurnLemmas.{map_some as some_mapped}
+use Rattle.msi_database_changes.proofs.text_counts.NarrowLemmas.{rows_put_extends}
 use Rattle.std.proofs.Common.{◌≡◌, ℕ, Bool, true, false, ◌&&◌, List, [], ◌∷◌, ◌++◌, length, Option, Some, None, is_some, Result, Ok, Err, IfErr, refl, sym, ap, ap₂, subst, ◌∙◌, option_map, inl, inr, arith, nat_lt, nat_le}
 use Rattle.std.specs.Prelude.{IfOk, IsSomeAnd, option_and_then, unwrap_or}
 use Rattle.std.specs.List.{list_all}
@@ -28,7 +28,7 @@ use Rattle.msi_database_changes.specs.Texts.{PoolInUse, UsedPool, in_use, rows_p
 use Rattle.msi_database_changes.specs.Create.{added_to, described_by_rows}
 use Rattle.msi_database_changes.specs.Insert.{cells_added, rows_added}
 use Rattle.msi_table_cells.specs.KeyOrder.{in_key_order}
-use Rattle.msi_database_changes.proofs.FitTestLemmas.{cells_fit, each_fits}
+use Rattle.msi_database_changes.proofs.soundness.FitTestLemmas.{cells_fit, each_fits}
 use Rattle.msi_database_storage.specs.Streams.{stream_of_rows}
 use Rattle.msi_database_changes.specs.declared.storing.Stored.{Stored}
 use Rattle.msi_database_changes.specs.Storing.{HaveOwnNames}

@@ -21,7 +21,7 @@ use Rattle.msi_table.proofs.PlacesLemmas.{tabulated_more}
 use Rattle.msi_table_cells.specs.TableCells.{TableCells}
 use Rattle.msi_database_schema.specs.System.{validation_columns, validation_name}
 use Rattle.msi_database_changes.specs.Database.{Database, are_alike, counts_suffice, is_readable_table, is_sound, names_stay_in_pool, pool_fits_width, tables_are_readable, validation_is_standard}
-use Rattle.msi_database_changes.proofs.SoundLemmas.{numbers_all}
+use Rattle.msi_database_changes.proofs.soundness.SoundLemmas.{numbers_all}
 use Rattle.msi_database_storage.specs.Streams.{Streams}
 use Rattle.msi_database_storage.specs.Kept.{AreAsLong, database_kept, table_kept, table_kept_at}
 use Rattle.msi_database_storage.specs.Naming.{all_suffice, suffices}

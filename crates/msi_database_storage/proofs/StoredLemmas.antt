@@ -15,7 +15,7 @@ use Rattle.msi_table.proofs.ReadBackLemmas.{rows_in-table_bytes}
 use Rattle.msi_table_cells.specs.TableCells.{TableCells}
 use Rattle.msi_database_schema.specs.Keys.{is_table_name, table_key, summary_key, string_pool_name, string_data_name}
 use Rattle.msi_database_changes.specs.Database.{Database, Tables, table_at}
-use Rattle.msi_database_changes.proofs.TracksLemmas.{TableFits}
+use Rattle.msi_database_changes.proofs.steps.TracksLemmas.{TableFits}
 use Rattle.msi_database_storage.specs.Streams.{Streams, stream_at, with_stream_or_none, stored_rows, stored_stream, stored_streams}
 use Rattle.msi_database_storage.specs.Agreement.{TablesAre}
 use Rattle.msi_database_schema.proofs.KeyLemmas.{table_keys_tell_names, table_key≢summary_key, table_key≢pool}

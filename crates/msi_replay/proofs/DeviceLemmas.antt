@@ -8,8 +8,8 @@ use Rattle.msi.specs.Steps.{Step, image_of, refused_early}
 use Rattle.msi.specs.Runs.{SessionStep}
 use Rattle.msi.specs.Whole.{Whole}
 use Rattle.msi.specs.Flushing.{FlushStep, flush_answer}
-use Rattle.msi.proofs.CallLemmas.{answered, unanswered}
-use Rattle.msi.proofs.FlushStepLemmas.{answers_as}
+use Rattle.msi.proofs.calls_in_turn.CallLemmas.{answered, unanswered}
+use Rattle.msi.proofs.writing.FlushStepLemmas.{answers_as}
 use Rattle.msi_replay.specs.Taken.{Takes, Tells, session_at}
 use Rattle.msi_replay.specs.Told.{told}
 use Rattle.msi_replay.proofs.ReplayedLemmas.{flush_step, flush_tells}

@@ -10,7 +10,7 @@ use Rattle.msi.specs.Calls as calls
 use Rattle.msi.specs.Lent.{RunsTo, summary_outcome, summary_wants_memory}
 use Rattle.msi.specs.Steps.{storage_refusal, with_lent_summary, with_summary_calls}
 use Rattle.msi.specs.Whole.{Whole, with_state}
-use Rattle.msi.proofs.CallLemmas.{lent}
+use Rattle.msi.proofs.calls_in_turn.CallLemmas.{lent}
 use Rattle.msi_replay.specs.Taken.{Takes}
 use Rattle.msi_replay.proofs.TakenLemmas.{lent_takes}
 

@@ -15,7 +15,7 @@ use Rattle.msi.specs.Database.Streams.{Streams, stream_at}
 use Rattle.msi.specs.Database.Agreement.{DatabaseIs, is_shown}
 use Rattle.msi.specs.Meaning.{SummaryIs, RawPoolIs, PoolIs, ContentsMean, shown_pool}
 use Rattle.msi.specs.State.{Parts, others_among}
-use Rattle.msi.proofs.AgreementLemmas.{database_same, raw_from, shown_pool_alike, shown_same}
+use Rattle.msi.proofs.meaning.AgreementLemmas.{database_same, raw_from, shown_pool_alike, shown_same}
 use Rattle.msi_recode.specs.Recoding.{TextStreams, HaveTextStreams, AreTextsRecoded, IsRecoded}
 use Rattle.msi_recode.specs.RecodingLaws.{naming_utf8}
 use Rattle.msi_recode.specs.SummaryRecoding.{IsSummaryRecoded}

@@ -18,9 +18,9 @@ use Rattle.msi.specs.Database.Agreement.{DatabaseIs, is_shown}
 use Rattle.msi.specs.Laws.{AreBytes}
 use Rattle.msi.specs.Meaning.{ContentsMean, PoolIs, SummaryIs, shown_pool}
 use Rattle.msi.specs.State.{Parts, others_among}
-use Rattle.msi.proofs.AgreementLemmas.{SameStream, SameTables, database_same, shown_pool_alike, shown_same}
-use Rattle.msi.proofs.HeldLemmas.{held_small}
-use Rattle.msi.proofs.OneMeaningLemmas.{one_raw}
+use Rattle.msi.proofs.meaning.AgreementLemmas.{SameStream, SameTables, database_same, shown_pool_alike, shown_same}
+use Rattle.msi.proofs.reading.HeldStreamsLemmas.{held_small}
+use Rattle.msi.proofs.meaning.OneMeaningLemmas.{one_raw}
 use Rattle.msi_recode.specs.declared.page.TextPage.{TextPage}
 use Rattle.msi_recode.specs.PoolRecoding.{AreRecoded}
 use Rattle.msi_recode.specs.Recoding.{IsRecoded, TextStreams}

@@ -8,7 +8,7 @@ use Rattle.msi.specs.Calls.{Answer}
 use Rattle.msi.specs.Calls as calls
 use Rattle.msi.specs.Steps.{after_recount, recounted, recounting, refused_early}
 use Rattle.msi.specs.Whole.{Whole, with_state}
-use Rattle.msi.proofs.FlushStepLemmas.{answers_as}
+use Rattle.msi.proofs.writing.FlushStepLemmas.{answers_as}
 use Rattle.msi_replay.specs.Taken.{Takes}
 use Rattle.msi_replay.specs.Told.{told}
 

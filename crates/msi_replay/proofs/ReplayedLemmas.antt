@@ -19,10 +19,10 @@ use Rattle.msi.specs.Runs.{FitsCall, IsReplay, IsReplayOver, IsReplayOverRefused
 use Rattle.msi.specs.Writable.{HasUtf8Pages}
 use Rattle.msi.specs.Whole.{Whole}
 use Rattle.msi.specs.Flushing.{FlushStep, IsCreateRefused, IsCreated, session_of, told}
-use Rattle.msi.proofs.FlushStepLemmas.{flush_session}
-use Rattle.msi.proofs.ReplayLemmas.{created_is_session, created_over_nothing, replays_mean, replays_over_mean}
-use Rattle.msi.proofs.OpenedLemmas.{opened_is_session}
-use Rattle.msi.proofs.SessionLemmas.{flushed_is_held, runs_keep_sessions}
+use Rattle.msi.proofs.writing.FlushStepLemmas.{flush_session}
+use Rattle.msi.proofs.calls_in_turn.ReplayLemmas.{created_is_session, created_over_nothing, replays_mean, replays_over_mean}
+use Rattle.msi.proofs.reading.OpenedLemmas.{opened_is_session}
+use Rattle.msi.proofs.calls_in_turn.SessionLemmas.{flushed_is_held, runs_keep_sessions}
 use Rattle.msi_replay.specs.Taken.{Ends, HoldsIfWritable, IsEndRefused, Tells, session_at}
 
 -- THE DEVICE TELLS ITS BYTES

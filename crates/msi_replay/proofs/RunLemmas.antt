@@ -7,8 +7,8 @@ use Rattle.msi.specs.Container.Held.{Held, bytes_told}
 use Rattle.msi.specs.Calls.{Call, Answer}
 use Rattle.msi.specs.Runs.{FitsCall, Run, Session, SessionStep}
 use Rattle.msi.specs.Whole.{Whole}
-use Rattle.msi.proofs.CallLemmas.{asks_device, session_is}
-use Rattle.msi.proofs.LeavingLemmas.{is_flush}
+use Rattle.msi.proofs.calls_in_turn.CallLemmas.{asks_device, session_is}
+use Rattle.msi.proofs.packages.LeavingLemmas.{is_flush}
 use Rattle.msi_replay.specs.Taken.{Takes, Tells, session_at}
 use Rattle.msi_replay.specs.Told.{told}
 

@@ -19,8 +19,8 @@ use Rattle.msi.specs.Calls as calls
 use Rattle.msi.specs.Lent.{RunsTo, reader_outcome, reader_wants_memory, writer_outcome, writer_wants_memory}
 use Rattle.msi.specs.Steps.{LendsOrRefuses, Step, bytes_of_stream, has_stream, leaving_or, name_refusals, with_streams}
 use Rattle.msi.specs.Whole.{Whole, with_state}
-use Rattle.msi.proofs.CallLemmas.{step_unfed}
-use Rattle.msi.proofs.FlushStepLemmas.{answers_as}
+use Rattle.msi.proofs.calls_in_turn.CallLemmas.{step_unfed}
+use Rattle.msi.proofs.writing.FlushStepLemmas.{answers_as}
 use Rattle.msi_replay.specs.Sent.{lent_cursor}
 use Rattle.msi_replay.specs.Taken.{Takes}
 use Rattle.msi_replay.proofs.TakenLemmas.{lent_takes}

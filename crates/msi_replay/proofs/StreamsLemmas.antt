@@ -11,8 +11,8 @@ use Rattle.msi.specs.Database.Streams.{Streams, stream_at, with_stream}
 use Rattle.msi.proofs.KeyLemmas.{pool_keys_differ, table_key≢summary_key, table_key≢pool, tables_accepted, columns_accepted, validation_accepted}
 use Rattle.msi.proofs.StreamLemmas.{stream_at_put, stream_at_other_put}
 use Rattle.msi.specs.State.{names_of, others_among}
-use Rattle.msi.proofs.AgreementLemmas.{SameStream, SameTables}
-use Rattle.msi.proofs.OtherStreamLemmas.{others_put, owned_by_summary, owned_by_pool, owned_by_texts}
+use Rattle.msi.proofs.meaning.AgreementLemmas.{SameStream, SameTables}
+use Rattle.msi.proofs.named_streams.OtherStreamLemmas.{others_put, owned_by_summary, owned_by_pool, owned_by_texts}
 use Rattle.msi_recode.specs.Recoding.{TextStreams, with_text_streams}
 use Rattle.msi_replay.specs.PackageLaws.{HaveTableNames}
 

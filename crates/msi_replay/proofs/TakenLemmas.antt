@@ -12,8 +12,8 @@ use Rattle.msi.specs.Calls.{Call, Answer}
 use Rattle.msi.specs.Calls as calls
 use Rattle.msi.specs.Steps.{Lends, Step, changed, is_lending, leaving, leaving_or, may_want_memory, outcome, refused_early}
 use Rattle.msi.specs.Whole.{Leaves, Whole, with_state}
-use Rattle.msi.proofs.FlushStepLemmas.{answers_as}
-use Rattle.msi.proofs.CallLemmas.{change_done, change_refused, left_done, left_refused, lent, unanswered}
+use Rattle.msi.proofs.writing.FlushStepLemmas.{answers_as}
+use Rattle.msi.proofs.calls_in_turn.CallLemmas.{change_done, change_refused, left_done, left_refused, lent, unanswered}
 use Rattle.msi_replay.specs.Taken.{Takes}
 use Rattle.msi_replay.specs.Told.{told}
 

@@ -2,9 +2,9 @@ use Rattle.std.proofs.Common.{◌∙◌, rules}
 use Rattle.std.specs.Vec.Iter.{into_iter_items}
 use Rattle.msi.specs.Renewing.{with_renewed}
 use Rattle.msi.specs.Flushing.{root_contents, told}
-use Rattle.msi.proofs.FaultLemmas.{memory_faultless}
-use Rattle.msi.proofs.OverwritingLemmas.{memory_early}
-use Rattle.msi.proofs.RenewedLemmas.{restored}
+use Rattle.msi.proofs.reading.FaultLemmas.{memory_faultless}
+use Rattle.msi.proofs.writing.OverwritingLemmas.{memory_early}
+use Rattle.msi.proofs.writing.RenewedLemmas.{restored}
 use Rattle.msi.proofs.flushing.+write_with.Goals as goal
 
 pub returns-in_err-before-clause-device : goal.returns-in_err-before-clause-device

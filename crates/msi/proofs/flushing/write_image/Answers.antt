@@ -1,7 +1,7 @@
 use Rattle.std.proofs.Common.{rules}
 use Rattle.msi_container_write.specs.Borrowed.{contents_of}
 use Rattle.msi.specs.Flushing.{told}
-use Rattle.msi.proofs.OverwritingLemmas.{fault_early, image_handed, image_refused}
+use Rattle.msi.proofs.writing.OverwritingLemmas.{fault_early, image_handed, image_refused}
 use Rattle.msi.proofs.flushing.write_image.Goals as goal
 
 pub returns-in_err-earlier_len-clause-device : goal.returns-in_err-earlier_len-clause-device

@@ -7,9 +7,9 @@ use Rattle.msi_base.proofs.RefusalLemmas.{accepted_first, first_passed}
 use Rattle.msi_database_storage.specs.Streams.{Streams}
 use Rattle.msi.specs.Renewing.{renewed_over, text_refusals, with_renewed}
 use Rattle.msi.specs.Flushing.{Overwrites, root_contents, told, unwritten_of}
-use Rattle.msi.proofs.FaultLemmas.{passed_faultless, unwritten_faultless}
-use Rattle.msi.proofs.FlushStepLemmas.{flush_refused_as, flush_written, left_streams, over_cleared}
-use Rattle.msi.proofs.RenewedLemmas.{renewed_are_others}
+use Rattle.msi.proofs.reading.FaultLemmas.{passed_faultless, unwritten_faultless}
+use Rattle.msi.proofs.writing.FlushStepLemmas.{flush_refused_as, flush_written, left_streams, over_cleared}
+use Rattle.msi.proofs.writing.RenewedLemmas.{renewed_are_others}
 use Rattle.msi.proofs.flushing.write_parts.Goals as goal
 
 pub write_with-requires : goal.write_with-requires

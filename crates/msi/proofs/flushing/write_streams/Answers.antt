@@ -1,7 +1,7 @@
 use Rattle.std.proofs.Common.{◌∙◌, subst}
 use Rattle.msi_container_format.specs.declared.contents.Contents.{Contents}
 use Rattle.msi.specs.Flushing.{Overwrites, told}
-use Rattle.msi.proofs.RenewedLemmas.{root_contents_are}
+use Rattle.msi.proofs.writing.RenewedLemmas.{root_contents_are}
 use Rattle.msi.proofs.flushing.write_streams.Goals as goal
 
 pub returns-clause-device : goal.returns-clause-device

@@ -1,4 +1,4 @@
-use Rattle.msi.proofs.OpeningLemmas as lemmas
+use Rattle.msi.proofs.reading.OpeningLemmas as lemmas
 use Rattle.msi.proofs.laws.bytes_mean_one.Goals as goal
 
 pub returns : goal.returns

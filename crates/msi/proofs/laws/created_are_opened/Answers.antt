@@ -1,4 +1,4 @@
-use Rattle.msi.proofs.OpenedAgainLemmas as lemmas
+use Rattle.msi.proofs.reading.OpenedAgainLemmas as lemmas
 use Rattle.msi.proofs.laws.created_are_opened.Goals as goal
 
 pub returns : goal.returns

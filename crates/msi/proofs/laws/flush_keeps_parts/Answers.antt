@@ -1,4 +1,4 @@
-use Rattle.msi.proofs.LawLemmas as lemmas
+use Rattle.msi.proofs.calls_in_turn.LawLemmas as lemmas
 use Rattle.msi.proofs.laws.flush_keeps_parts.Goals as goal
 
 pub returns : goal.returns

@@ -1,4 +1,4 @@
-use Rattle.msi.proofs.OpenedLemmas as lemmas
+use Rattle.msi.proofs.reading.OpenedLemmas as lemmas
 use Rattle.msi.proofs.laws.opened_are_packages.Goals as goal
 
 pub returns : goal.returns

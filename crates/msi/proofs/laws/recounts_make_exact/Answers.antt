@@ -1,4 +1,4 @@
-use Rattle.msi.proofs.RecountingLemmas.{recounts_make_exact}
+use Rattle.msi.proofs.packages.RecountingLemmas.{recounts_make_exact}
 use Rattle.msi.proofs.laws.recounts_make_exact.Goals as goal
 
 pub returns : goal.returns

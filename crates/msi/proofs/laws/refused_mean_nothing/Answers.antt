@@ -1,4 +1,4 @@
-use Rattle.msi.proofs.OpeningLemmas as lemmas
+use Rattle.msi.proofs.reading.OpeningLemmas as lemmas
 use Rattle.msi.proofs.laws.refused_mean_nothing.Goals as goal
 
 pub returns : goal.returns

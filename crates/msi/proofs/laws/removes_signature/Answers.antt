@@ -1,4 +1,4 @@
-use Rattle.msi.proofs.LawLemmas as lemmas
+use Rattle.msi.proofs.calls_in_turn.LawLemmas as lemmas
 use Rattle.msi.proofs.laws.removes_signature.Goals as goal
 
 pub returns : goal.returns

@@ -1,4 +1,4 @@
-use Rattle.msi.proofs.ReplayLemmas as lemmas
+use Rattle.msi.proofs.calls_in_turn.ReplayLemmas as lemmas
 use Rattle.msi.proofs.laws.replays_mean.Goals as goal
 
 pub returns : goal.returns

@@ -1,4 +1,4 @@
-use Rattle.msi.proofs.RunLemmas.{runs_keep}
+use Rattle.msi.proofs.calls_in_turn.RunLemmas.{runs_keep}
 use Rattle.msi.proofs.laws.runs_keep_packages.Goals as goal
 
 pub returns : goal.returns

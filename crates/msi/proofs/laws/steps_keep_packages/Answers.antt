@@ -1,4 +1,4 @@
-use Rattle.msi.proofs.RunLemmas.{steps_keep}
+use Rattle.msi.proofs.calls_in_turn.RunLemmas.{steps_keep}
 use Rattle.msi.proofs.laws.steps_keep_packages.Goals as goal
 
 pub returns : goal.returns

@@ -1,6 +1,6 @@
 use Rattle.std.proofs.Common.{◌∙◌, ap}
 use Rattle.msi_container_format.specs.Names.{units_of}
-use Rattle.msi.proofs.NameLemmas.{text_is}
+use Rattle.msi.proofs.named_streams.NameLemmas.{text_is}
 use Rattle.msi.proofs.names.text_of.Goals as goal
 
 pub returns-clause-ok : goal.returns-clause-ok

@@ -1,5 +1,5 @@
 use Rattle.std.proofs.Common.{Some, None}
-use Rattle.msi.proofs.OpenStepLemmas.{stream_got}
+use Rattle.msi.proofs.reading.OpenStepLemmas.{stream_got}
 use Rattle.msi.proofs.opening.bytes_at.Goals as goal
 
 pub returns-in-Some-clause-ok : goal.returns-in-Some-clause-ok

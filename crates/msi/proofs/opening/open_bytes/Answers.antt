@@ -2,7 +2,7 @@ use Rattle.std.proofs.Common.{List, ℕ, Ok, Vec, Global, ap, subst}
 use Rattle.std.specs.Prelude.{IfErr, IfOk}
 use Rattle.msi.specs.Meaning.{OpensTo}
 use Rattle.msi.specs.Opening.{IsOpenRefusal}
-use Rattle.msi.proofs.OpenStepLemmas.{contents_stop, nothing_held, opens_to, passed_on}
+use Rattle.msi.proofs.reading.OpenStepLemmas.{contents_stop, nothing_held, opens_to, passed_on}
 use Rattle.msi.proofs.opening.open_bytes.Goals as goal
 
 -- what a vector holds

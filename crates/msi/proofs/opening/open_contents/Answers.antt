@@ -1,7 +1,7 @@
 use Rattle.std.proofs.Common.{ap}
 use Rattle.msi.specs.Meaning.{open_steps}
 use Rattle.msi.specs.Opening.{StopsAmong}
-use Rattle.msi.proofs.OpenStepLemmas.{database_stops, passed_on, pool_stops}
+use Rattle.msi.proofs.reading.OpenStepLemmas.{database_stops, passed_on, pool_stops}
 use Rattle.std.proofs.lemmas.Result.{err_from_is_err_and}
 use Rattle.msi.proofs.opening.open_contents.Goals as goal
 

@@ -4,7 +4,7 @@ use Rattle.msi_database_schema.specs.Keys.{string_data_name, table_key}
 use Rattle.msi_database_storage.specs.Streams.{stream_at}
 use Rattle.msi.specs.Meaning.{has_pool, has_texts, reads_pool, reads_texts}
 use Rattle.msi.specs.Opening.{StopsAmong}
-use Rattle.msi.proofs.OpenStepLemmas.{memory_passed, no_pool_stream, no_pool_texts, no_texts_stops, passed_on, pool_found, pool_only, texts_stop}
+use Rattle.msi.proofs.reading.OpenStepLemmas.{memory_passed, no_pool_stream, no_pool_texts, no_texts_stops, passed_on, pool_found, pool_only, texts_stop}
 use Rattle.msi.proofs.opening.pool_in.Goals as goal
 
 pub returns-in_err-stream-clause-only : goal.returns-in_err-stream-clause-only

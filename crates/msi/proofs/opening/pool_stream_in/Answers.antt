@@ -6,7 +6,7 @@ use Rattle.msi_database_schema.specs.Keys.{string_pool_name, table_key}
 use Rattle.msi_database_storage.specs.Streams.{stream_at}
 use Rattle.msi.specs.Meaning.{has_pool, reads_pool}
 use Rattle.msi.specs.Opening.{StopsAmong}
-use Rattle.msi.proofs.OpenStepLemmas.{missing_stops, no_bytes, of_bytes, passed_on, pool_stream_found, pool_stream_stops}
+use Rattle.msi.proofs.reading.OpenStepLemmas.{missing_stops, no_bytes, of_bytes, passed_on, pool_stream_found, pool_stream_stops}
 use Rattle.msi.proofs.opening.pool_stream_in.Goals as goal
 
 pub returns-in_err-bytes-clause-only : goal.returns-in_err-bytes-clause-only

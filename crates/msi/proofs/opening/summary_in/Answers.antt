@@ -1,7 +1,7 @@
 use Rattle.std.proofs.Common.{◌∙◌, ap, sym, Some}
 use Rattle.std.specs.FinMap.{entries}
 use Rattle.msi_database_storage.specs.Streams.{stream_at}
-use Rattle.msi.proofs.OpenStepLemmas.{summary_stops}
+use Rattle.msi.proofs.reading.OpenStepLemmas.{summary_stops}
 use Rattle.msi.proofs.opening.summary_in.Goals as goal
 
 pub returns-clause-kind : goal.returns-clause-kind

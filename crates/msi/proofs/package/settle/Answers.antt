@@ -1,5 +1,5 @@
 use Rattle.std.proofs.Common.{sym}
-use Rattle.msi.proofs.OpenLemmas.{open_is_other, open_there}
+use Rattle.msi.proofs.named_streams.OpenStreamLemmas.{open_is_other, open_there}
 use Rattle.msi.proofs.package.settle.Goals as goal
 
 pub put_back_stream-requires-clause-other : goal.put_back_stream-requires-clause-other

@@ -1,7 +1,7 @@
 use Rattle.std.proofs.Common.{rules}
-use Rattle.msi_container_write.proofs.LayoutLemmas.{not_true}
+use Rattle.msi_container_write.proofs.placing.LayoutLemmas.{not_true}
 use Rattle.msi_pool.specs.PoolWriting.{is_refused}
-use Rattle.msi.proofs.RenewingLemmas.{pool_added, pool_keys_added}
+use Rattle.msi.proofs.writing.RenewingLemmas.{pool_added, pool_keys_added}
 use Rattle.msi.proofs.renewing.add_pool.Goals as goal
 
 pub returns-clause-ok : goal.returns-clause-ok

@@ -2,7 +2,7 @@ use Rattle.std.proofs.Common.{rules}
 use Rattle.std.specs.FinMap.{entries}
 use Rattle.std.specs.Vec.Iter.{into_iter_items}
 use Rattle.msi.specs.Renewing.{with_renewed}
-use Rattle.msi.proofs.CopyingLemmas.{put_more}
+use Rattle.msi.proofs.writing.CopyingLemmas.{put_more}
 use Rattle.msi.proofs.renewing.put_all.Goals as goal
 
 pub loop-name-preserved : goal.loop-name-preserved

@@ -1,6 +1,6 @@
 use Rattle.std.proofs.Common.{◌∙◌, ap, rules}
 use Rattle.std.specs.FinMap.{entries}
-use Rattle.msi.proofs.CopyingLemmas.{settled_none, settled_some}
+use Rattle.msi.proofs.writing.CopyingLemmas.{settled_none, settled_some}
 use Rattle.msi.proofs.renewing.settled_copy.Goals.{in-Some+in_ok-copied_bytes+in_ok-insert, in_default}
 use Rattle.msi.proofs.renewing.settled_copy.Goals as goal
 

@@ -1,4 +1,4 @@
-use Rattle.msi.proofs.WritableLemmas.{both_pass, pool_writable, set_writable}
+use Rattle.msi.proofs.writing.WritableLemmas.{both_pass, pool_writable, set_writable}
 use Rattle.msi.proofs.writable.all_read_back.Goals as goal
 
 pub returns-clause-exact : goal.returns-clause-exact

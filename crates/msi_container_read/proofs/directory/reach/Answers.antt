@@ -2,9 +2,9 @@ use Rattle.std.proofs.Common.{◌≡◌, [], ◌∷◌, ◌<◌, ◌++◌, ◌�
 use Rattle.std.proofs.lemmas.Result.{err_from_is_err_and}
 use Rattle.msi_container_format.specs.Container.{left, right, entry_count}
 use Rattle.msi_container_format.specs.Format.{NO_ENTRY}
-use Rattle.msi_container_read.proofs.ClaimLemmas.{claim_lacked_memory}
-use Rattle.msi_container_read.proofs.TreeLemmas.{completes_start, remains_start, completes_skip, remains_skip, completes_step, remains_step, completes_end, free_link}
-use Rattle.msi_container_read.proofs.RoomLemmas.{fewer_left}
+use Rattle.msi_container_read.proofs.chains.ClaimLemmas.{claim_lacked_memory}
+use Rattle.msi_container_read.proofs.plans.TreeLemmas.{completes_start, remains_start, completes_skip, remains_skip, completes_step, remains_step, completes_end, free_link}
+use Rattle.msi_container_read.proofs.chains.RoomLemmas.{fewer_left}
 use Rattle.msi_container_read.proofs.directory.reach.Goals as goal
 
 pub loop-link-init : goal.loop-link-init

@@ -1,6 +1,6 @@
 use Rattle.std.proofs.Common.{◌≡◌, ◌+◌, ◌-◌, ◌*◌, vec_len}
 use Rattle.msi_container_format.specs.Container.{left, right, entry_count}
-use Rattle.msi_container_read.proofs.TreeLemmas.{Completes, Remains}
+use Rattle.msi_container_read.proofs.plans.TreeLemmas.{Completes, Remains}
 use Rattle.msi_container_read.proofs.directory.reach.Given as goal
 
 abbrev pub invariant-loop-link : goal.invariant-loop-link

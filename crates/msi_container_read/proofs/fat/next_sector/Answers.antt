@@ -1,6 +1,6 @@
 use Rattle.std.proofs.Common.{◌∙◌, sym, ap, Some}
 use Rattle.msi_container_format.specs.Container.{next_difat, difat_start}
-use Rattle.msi_container_read.proofs.ChainStepLemmas.{follower_last}
+use Rattle.msi_container_read.proofs.chains.ChainStepLemmas.{follower_last}
 use Rattle.msi_container_read.proofs.fat.next_sector.Goals as goal
 
 pub returns-in-Some : goal.returns-in-Some

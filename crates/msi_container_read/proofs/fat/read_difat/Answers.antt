@@ -6,11 +6,11 @@ use Rattle.msi_container_format.specs.Bytes.{number32}
 use Rattle.msi_container_read.specs.Claims.{IsFree}
 use Rattle.msi_container_read.specs.Walks.{follower}
 use Rattle.msi_container_format.specs.Container.{next_difat, fat_count, sector_size}
-use Rattle.msi_container_read.proofs.ClaimLemmas.{claim_lacked_memory}
-use Rattle.msi_container_read.proofs.ChainLemmas.{chain_push, same_push, next_is, free_at}
+use Rattle.msi_container_read.proofs.chains.ClaimLemmas.{claim_lacked_memory}
+use Rattle.msi_container_read.proofs.chains.ChainLemmas.{chain_push, same_push, next_is, free_at}
 use Rattle.msi_base.specs.declared.errors.ErrorKind.TheVariants.{OutOfMemory}
-use Rattle.msi_container_read.proofs.ChainPassedLemmas.{kind_passed, memory_viewed}
-use Rattle.msi_container_read.proofs.FatLemmas.{difat_count_is}
+use Rattle.msi_container_read.proofs.chains.ChainPassedLemmas.{kind_passed, memory_viewed}
+use Rattle.msi_container_read.proofs.chains.FatLemmas.{difat_count_is}
 use Rattle.msi_container_read.proofs.fat.read_difat.Goals as goal
 
 pub returns-in_err-claim-clause-only : goal.returns-in_err-claim-clause-only

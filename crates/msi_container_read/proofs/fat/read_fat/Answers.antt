@@ -6,9 +6,9 @@ use Rattle.std.proofs.lemmas.List.FromFn.{map-range_with_len_more}
 use Rattle.msi_base.specs.declared.errors.ErrorKind.TheVariants.{OutOfMemory}
 use Rattle.msi_container_read.specs.Claims.{IsFree}
 use Rattle.msi_container_format.specs.Container.{listed, fat_count}
-use Rattle.msi_container_read.proofs.ClaimLemmas.{claim_lacked_memory}
-use Rattle.msi_container_read.proofs.FatLemmas.{fat_sector_free}
-use Rattle.msi_container_read.proofs.ChainPassedLemmas.{kind_passed, memory_viewed}
+use Rattle.msi_container_read.proofs.chains.ClaimLemmas.{claim_lacked_memory}
+use Rattle.msi_container_read.proofs.chains.FatLemmas.{fat_sector_free}
+use Rattle.msi_container_read.proofs.chains.ChainPassedLemmas.{kind_passed, memory_viewed}
 use Rattle.msi_container_read.proofs.fat.read_fat.Goals as goal
 
 pub returns-in_err-claim-clause-only : goal.returns-in_err-claim-clause-only

@@ -5,9 +5,9 @@ use Rattle.msi_container_format.specs.Trees.{members}
 use Rattle.msi_container_format.proofs.PlanOnceLemmas.{held_once}
 use Rattle.msi_container_read.specs.Listings.{listing_of, sizes_of}
 use Rattle.msi_container_read.specs.Reading.{HaveNamesApart, storages_among}
-use Rattle.msi_container_read.proofs.NamedSizesLemmas.{plan_sizes}
-use Rattle.msi_container_read.proofs.PlanPartsLemmas.{memory_left}
-use Rattle.msi_container_read.proofs.SharedNamesLemmas.{plan_names}
+use Rattle.msi_container_read.proofs.entry_names.NamedSizesLemmas.{plan_sizes}
+use Rattle.msi_container_read.proofs.plans.PlanPartsLemmas.{memory_left}
+use Rattle.msi_container_read.proofs.entry_names.SharedNamesLemmas.{plan_names}
 use Rattle.msi_container_read.proofs.listing.list.Goals as goal
 
 pub returns-in_err-outline-clause-only : goal.returns-in_err-outline-clause-only

@@ -2,9 +2,9 @@ use Rattle.std.proofs.Common.{sym, ◌∙◌, arith, below_more, refl, inl, inr}
 use Rattle.std.proofs.lemmas.Result.{IfOk-from_err}
 use Rattle.std.proofs.lemmas.Bool.{not-true, not-false}
 use Rattle.msi_container_format.specs.Container.{name}
-use Rattle.msi_container_read.proofs.OwnNameLemmas.{known_more, known_has_place, own_more, known_all}
+use Rattle.msi_container_read.proofs.entry_names.OwnNameLemmas.{known_more, known_has_place, own_more, known_all}
 use Rattle.msi_base.specs.declared.errors.ErrorKind.TheVariants.{OutOfMemory}
-use Rattle.msi_container_read.proofs.PassedLemmas.{kind_passed, memory_is_valid, kind_of}
+use Rattle.msi_container_read.proofs.plans.PassedLemmas.{kind_passed, memory_is_valid, kind_of}
 use Rattle.msi_container_read.proofs.names.names_of.Goals as goal
 
 -- the set has the name, so an entry before this one has it too

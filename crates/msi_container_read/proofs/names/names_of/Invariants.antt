@@ -2,7 +2,7 @@ use Rattle.std.proofs.Common.{◌≡◌, ℕ, ◌<◌, List, slice_index}
 use Rattle.std.specs.BTreeSet.{contains}
 use Rattle.msi_container_format.specs.Names.{name_cmp}
 use Rattle.msi_container_format.specs.Container.{name, HasName}
-use Rattle.msi_container_read.proofs.OwnNameLemmas.{is_known, AreOwn}
+use Rattle.msi_container_read.proofs.entry_names.OwnNameLemmas.{is_known, AreOwn}
 use Rattle.msi_container_read.proofs.names.names_of.Given as goal
 
 abbrev pub invariant-loop-entry : goal.invariant-loop-entry

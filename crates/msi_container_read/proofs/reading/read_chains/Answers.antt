@@ -3,9 +3,9 @@ use Rattle.std.specs.List.{AllZip}
 use Rattle.msi_container_format.specs.Container.{sector_size, all_sectors, all_mini_sectors, IsMembers}
 use Rattle.msi_container_read.specs.Claims.{CanClaim}
 use Rattle.msi_container_read.specs.Reading.{views, mini_limit}
-use Rattle.msi_container_read.proofs.ListingLemmas.{if_ok_map3, gives_not_invalid}
-use Rattle.msi_container_read.proofs.PlanPartsLemmas.{claimed_room, few_claimed}
-use Rattle.msi_container_read.proofs.RoomLemmas.{unmoved_within}
+use Rattle.msi_container_read.proofs.plans.ListingLemmas.{if_ok_map3, gives_not_invalid}
+use Rattle.msi_container_read.proofs.plans.PlanPartsLemmas.{claimed_room, few_claimed}
+use Rattle.msi_container_read.proofs.chains.RoomLemmas.{unmoved_within}
 use Rattle.msi_container_read.proofs.reading.read_chains.Goals as goal
 
 -- how many mini sectors lie in the mini stream

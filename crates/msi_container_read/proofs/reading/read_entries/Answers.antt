@@ -2,8 +2,8 @@ use Rattle.std.proofs.Common.{refl, inr, sym}
 use Rattle.std.proofs.lemmas.Result.{IfOk-from_err}
 use Rattle.msi_container_format.specs.Container.{has_storage, streams_among}
 use Rattle.msi_container_read.specs.Reading.{storages_among}
-use Rattle.msi_container_read.proofs.PassedLemmas.{kind_passed, memory_viewed, kind_of}
-use Rattle.msi_container_read.proofs.OutlineLemmas.{made_of, both_are}
+use Rattle.msi_container_read.proofs.plans.PassedLemmas.{kind_passed, memory_viewed, kind_of}
+use Rattle.msi_container_read.proofs.plans.OutlineLemmas.{made_of, both_are}
 use Rattle.msi_container_read.proofs.reading.read_entries.Goals as goal
 
 pub returns-in_err-entries-clause-found : goal.returns-in_err-entries-clause-found

@@ -5,10 +5,10 @@ use Rattle.msi_container_format.specs.Trees.{members}
 use Rattle.msi_container_format.proofs.PlanOnceLemmas.{held_once, plan_once}
 use Rattle.msi_container_read.specs.Reading.{HaveNamesApart, storages_among}
 use Rattle.msi_container_read.specs.Steps.{steps_of}
-use Rattle.msi_container_read.proofs.KeptLemmas.{kept}
-use Rattle.msi_container_read.proofs.PlanPartsLemmas.{memory_left}
-use Rattle.msi_container_read.proofs.SharedNamesLemmas.{plan_names}
-use Rattle.msi_container_read.proofs.StepLemmas.{within_from_none}
+use Rattle.msi_container_read.proofs.plans.KeptBytesLemmas.{kept}
+use Rattle.msi_container_read.proofs.plans.PlanPartsLemmas.{memory_left}
+use Rattle.msi_container_read.proofs.entry_names.SharedNamesLemmas.{plan_names}
+use Rattle.msi_container_read.proofs.chains.StepLemmas.{within_from_none}
 use Rattle.msi_container_read.proofs.reading.read_from.Goals as goal
 
 pub returns-in_err-outline-clause-only : goal.returns-in_err-outline-clause-only

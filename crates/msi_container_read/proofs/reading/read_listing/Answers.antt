@@ -1,4 +1,4 @@
-use Rattle.msi_container_read.proofs.OutlineLemmas.{listing_found}
+use Rattle.msi_container_read.proofs.plans.OutlineLemmas.{listing_found}
 use Rattle.msi_container_read.proofs.reading.read_listing.Goals as goal
 
 pub check_kinds-requires : goal.check_kinds-requires

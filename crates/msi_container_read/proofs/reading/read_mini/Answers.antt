@@ -5,10 +5,10 @@ use Rattle.std.proofs.lemmas.Result.{err_from_is_err_and}
 use Rattle.msi_container_read.specs.Claims.{CanClaim}
 use Rattle.msi_container_format.specs.Chains.{IsChain}
 use Rattle.msi_container_format.specs.Container.{successor, sector_size, size, IsMiniFat}
-use Rattle.msi_container_read.proofs.PlanPartsLemmas.{claim_front, claim_back, claimed_room}
+use Rattle.msi_container_read.proofs.plans.PlanPartsLemmas.{claim_front, claim_back, claimed_room}
 use Rattle.msi_container_read.specs.Counts.{links}
-use Rattle.msi_container_read.proofs.OutlineLemmas.{grown, steps_twice}
-use Rattle.msi_container_read.proofs.RoomLemmas.{few_taken}
+use Rattle.msi_container_read.proofs.plans.OutlineLemmas.{grown, steps_twice}
+use Rattle.msi_container_read.proofs.chains.RoomLemmas.{few_taken}
 use Rattle.msi_container_read.proofs.reading.read_mini.Goals as goal
 
 pub returns-in_err-mini_fat-clause-only : goal.returns-in_err-mini_fat-clause-only

@@ -3,9 +3,9 @@ use Rattle.std.proofs.lemmas.Result.{IfOk-from_err, err_from_is_err_and}
 use Rattle.msi_container_read.specs.Claims.{CanClaim}
 use Rattle.msi_container_format.specs.Container.{IsWholeChain, successor, fat_of}
 use Rattle.msi_container_read.specs.Reading.{IsStart}
-use Rattle.msi_container_read.proofs.PlanPartsLemmas.{claim_front, claim_back, claimed_room, few_claimed}
-use Rattle.msi_container_read.proofs.RoomLemmas.{bounded_from_none, unmoved_from_none}
-use Rattle.msi_container_read.proofs.PassedLemmas.{kind_passed}
+use Rattle.msi_container_read.proofs.plans.PlanPartsLemmas.{claim_front, claim_back, claimed_room, few_claimed}
+use Rattle.msi_container_read.proofs.chains.RoomLemmas.{bounded_from_none, unmoved_from_none}
+use Rattle.msi_container_read.proofs.plans.PassedLemmas.{kind_passed}
 use Rattle.msi_container_read.proofs.reading.read_start.Goals as goal
 
 -- what each part of a start can claim

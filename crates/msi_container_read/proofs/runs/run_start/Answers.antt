@@ -1,5 +1,5 @@
 use Rattle.std.proofs.Common.{◌+◌, ◌*◌, ap}
-use Rattle.msi_container_read.proofs.RunLemmas.{run_bytes}
+use Rattle.msi_container_read.proofs.chains.RunLemmas.{run_bytes}
 use Rattle.msi_container_read.proofs.runs.run_start.Goals as goal
 
 pub returns-then-count-bytes-clause-same : goal.returns-then-count-bytes-clause-same

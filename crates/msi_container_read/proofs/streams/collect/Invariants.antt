@@ -4,7 +4,7 @@ use Rattle.std.specs.FinMap.{from_entries, contains_key}
 use Rattle.msi_container_format.specs.Names.{name_cmp}
 use Rattle.msi_container_format.specs.Container.{named_bytes}
 use Rattle.msi_container_read.specs.Reading.{views}
-use Rattle.msi_container_read.proofs.MapNamesLemmas.{Begun}
+use Rattle.msi_container_read.proofs.entry_names.MapNamesLemmas.{Begun}
 use Rattle.msi_container_read.proofs.streams.collect.Given as goal
 
 abbrev pub invariant-loop-entry : goal.invariant-loop-entry

@@ -2,7 +2,7 @@ use Rattle.std.proofs.Common.{◌≡◌, ◌-◌, ◌*◌, ℕ, List, length, ge
 use Rattle.std.proofs.lemmas.List.FromFn.{length-map-range_with_len}
 use Rattle.msi_container_format.specs.Bytes.{place}
 use Rattle.msi_container_format.specs.Container.{sector_size}
-use Rattle.msi_container_read.proofs.SectorBytesLemmas.{mini_sector_bytes_more}
+use Rattle.msi_container_read.proofs.chains.SectorBytesLemmas.{mini_sector_bytes_more}
 use Rattle.msi_container_read.proofs.streams.mini_sector_bytes.Goals as goal
 
 pub overflow_sub-count : goal.overflow_sub-count

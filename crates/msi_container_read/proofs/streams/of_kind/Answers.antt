@@ -4,10 +4,10 @@ use Rattle.std.proofs.lemmas.Bool.{eq-eqb, ne_eqb, false≢true}
 use Rattle.std.proofs.lemmas.List.{take_all}
 use Rattle.std.proofs.lemmas.List.Elements.{All-filter, All-from_get_or, All-same, All-take}
 use Rattle.msi_container_format.specs.Container as container
-use Rattle.msi_container_read.proofs.KindLemmas.{kept_one, kept_none}
+use Rattle.msi_container_read.proofs.plans.KindLemmas.{kept_one, kept_none}
 use Rattle.msi_container_read.proofs.streams.of_kind.Goals.{then-kind+in_ok-push, else-kind}
 use Rattle.msi_base.specs.declared.errors.ErrorKind.TheVariants.{OutOfMemory}
-use Rattle.msi_container_read.proofs.PassedLemmas.{refused_memory}
+use Rattle.msi_container_read.proofs.plans.PassedLemmas.{refused_memory}
 use Rattle.msi_container_read.proofs.streams.of_kind.Goals as goal
 
 -- what a vector holds

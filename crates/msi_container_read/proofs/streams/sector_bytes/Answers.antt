@@ -1,7 +1,7 @@
 use Rattle.std.proofs.Common.{◌≡◌, ◌-◌, ◌*◌, ℕ, List, length, min, arith, ◌∙◌, ap}
 use Rattle.std.proofs.lemmas.List.FromFn.{length-map-range_with_len}
 use Rattle.msi_container_format.specs.Container.{sector_size}
-use Rattle.msi_container_read.proofs.SectorBytesLemmas.{sector_bytes_more}
+use Rattle.msi_container_read.proofs.chains.SectorBytesLemmas.{sector_bytes_more}
 use Rattle.msi_container_read.proofs.streams.sector_bytes.Goals as goal
 
 pub overflow_sub-count : goal.overflow_sub-count

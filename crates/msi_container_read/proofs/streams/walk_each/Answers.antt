@@ -7,8 +7,8 @@ use Rattle.msi_container_read.specs.Claims.{CanClaim}
 use Rattle.msi_container_format.specs.Container.{sectors_in, mini_sectors_in, all_sectors, all_mini_sectors}
 use Rattle.msi_container_read.specs.Reading.{views}
 use Rattle.msi_container_read.specs.Counts.{links}
-use Rattle.msi_container_read.proofs.ListLemmas.{paired_at}
-use Rattle.msi_container_read.proofs.StreamChainLemmas.{flat_map_zip_none, flat_map_zip_push, can_claim_next}
+use Rattle.msi_container_read.proofs.plans.ListLemmas.{paired_at}
+use Rattle.msi_container_read.proofs.chains.StreamChainLemmas.{flat_map_zip_none, flat_map_zip_push, can_claim_next}
 use Rattle.msi_container_read.proofs.streams.walk_each.Goals as goal
 
 pub loop-entry-init : goal.loop-entry-init

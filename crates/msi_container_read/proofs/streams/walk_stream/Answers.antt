@@ -3,8 +3,8 @@ use Rattle.std.proofs.lemmas.Result.{IfOk-weaker}
 use Rattle.std.proofs.lemmas.Bool.{le-ltb, lt-ltb}
 use Rattle.std.proofs.lemmas.List.{append-nil}
 use Rattle.msi_container_format.specs.Container.{is_mini, size, sectors_in, mini_sectors_in}
-use Rattle.msi_container_read.proofs.PlanPartsLemmas.{few_claimed}
-use Rattle.msi_container_read.proofs.RoomLemmas.{room_in_first, room_in_second}
+use Rattle.msi_container_read.proofs.plans.PlanPartsLemmas.{few_claimed}
+use Rattle.msi_container_read.proofs.chains.RoomLemmas.{room_in_first, room_in_second}
 use Rattle.msi_container_read.proofs.streams.walk_stream.Goals as goal
 
 -- a stream in mini sectors takes no sectors

@@ -1,6 +1,6 @@
 use Rattle.std.proofs.Common.{arith, ◌∙◌, sym}
 use Rattle.msi_container_format.specs.Container.{successor}
-use Rattle.msi_container_read.proofs.ChainStepLemmas.{follower_none, follower_last, step_none, step_last}
+use Rattle.msi_container_read.proofs.chains.ChainStepLemmas.{follower_none, follower_last, step_none, step_last}
 use Rattle.msi_container_read.proofs.walks.next_member.Goals as goal
 
 pub returns-in-None-clause-value : goal.returns-in-None-clause-value

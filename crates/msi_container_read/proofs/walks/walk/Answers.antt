@@ -5,11 +5,11 @@ use Rattle.std.proofs.lemmas.Option.{none-some}
 use Rattle.msi_container_read.specs.Claims.{IsFree}
 use Rattle.msi_container_read.specs.Walks.{follower}
 use Rattle.msi_container_format.specs.Container.{successor}
-use Rattle.msi_container_read.proofs.ClaimLemmas.{claim_lacked_memory}
-use Rattle.msi_container_read.proofs.ChainLemmas.{chain_push, same_push, follower_is, next_is, free_at}
-use Rattle.msi_container_read.proofs.ChainStepLemmas.{used_more, used_one_more, used_same, used_most}
+use Rattle.msi_container_read.proofs.chains.ClaimLemmas.{claim_lacked_memory}
+use Rattle.msi_container_read.proofs.chains.ChainLemmas.{chain_push, same_push, follower_is, next_is, free_at}
+use Rattle.msi_container_read.proofs.chains.ChainStepLemmas.{used_more, used_one_more, used_same, used_most}
 use Rattle.msi_base.specs.declared.errors.ErrorKind.TheVariants.{OutOfMemory}
-use Rattle.msi_container_read.proofs.ChainPassedLemmas.{kind_passed, memory_viewed}
+use Rattle.msi_container_read.proofs.chains.ChainPassedLemmas.{kind_passed, memory_viewed}
 use Rattle.msi_container_read.proofs.walks.walk.Goals as goal
 
 pub returns-in_err-sector-clause-only : goal.returns-in_err-sector-clause-only

@@ -5,11 +5,11 @@ use Rattle.std.proofs.lemmas.List.{append_assoc}
 use Rattle.msi_base.specs.declared.errors.ErrorKind.TheVariants.{OutOfMemory}
 use Rattle.msi_container_read.specs.Claims.{IsFree}
 use Rattle.msi_container_format.specs.Container.{successor}
-use Rattle.msi_container_read.proofs.ClaimLemmas.{claim_lacked_memory}
-use Rattle.msi_container_read.proofs.ChainLemmas.{chain_push, follower_more, next_is, free_at}
-use Rattle.msi_container_read.proofs.WholeChainLemmas.{more_left, none_left, none_from_end, front_push, follower_push, some_follows}
-use Rattle.msi_container_read.proofs.ChainStepLemmas.{used_more, used_one_more, used_same, used_most}
-use Rattle.msi_container_read.proofs.ChainPassedLemmas.{kind_passed, memory_viewed}
+use Rattle.msi_container_read.proofs.chains.ClaimLemmas.{claim_lacked_memory}
+use Rattle.msi_container_read.proofs.chains.ChainLemmas.{chain_push, follower_more, next_is, free_at}
+use Rattle.msi_container_read.proofs.chains.WholeChainLemmas.{more_left, none_left, none_from_end, front_push, follower_push, some_follows}
+use Rattle.msi_container_read.proofs.chains.ChainStepLemmas.{used_more, used_one_more, used_same, used_most}
+use Rattle.msi_container_read.proofs.chains.ChainPassedLemmas.{kind_passed, memory_viewed}
 use Rattle.msi_container_read.proofs.walks.walk_to_end.Goals as goal
 
 pub returns-in_err-claim-clause-only : goal.returns-in_err-claim-clause-only

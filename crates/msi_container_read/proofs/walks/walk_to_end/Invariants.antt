@@ -4,7 +4,7 @@ use Rattle.msi_container_read.specs.Claims.{CanClaim}
 use Rattle.msi_container_read.specs.Walks.{follower}
 use Rattle.msi_container_format.specs.Container.{successor, IsWholeChain}
 use Rattle.msi_container_format.specs.Format.{END_OF_CHAIN}
-use Rattle.msi_container_read.proofs.WholeChainLemmas.{IsFront}
+use Rattle.msi_container_read.proofs.chains.WholeChainLemmas.{IsFront}
 use Rattle.msi_container_read.proofs.walks.walk_to_end.Given as goal
 
 abbrev pub invariant-loop-link : goal.invariant-loop-link

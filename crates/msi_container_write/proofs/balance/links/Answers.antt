@@ -1,5 +1,5 @@
 use Rattle.std.proofs.Common.{arith, ◌∙◌, sym}
-use Rattle.msi_container_write.proofs.BalanceLemmas.{step_below, step_above, step_here}
+use Rattle.msi_container_write.proofs.directories.BalanceLemmas.{step_below, step_above, step_here}
 use Rattle.msi_container_write.proofs.balance.links.Goals as goal
 
 pub loop-lo-preserved-then-k-lo : goal.loop-lo-preserved-then-k-lo

@@ -1,7 +1,7 @@
 use Rattle.std.proofs.Common.{arith}
 use Rattle.msi_container_write.specs.Index.{streams_of}
 use Rattle.msi_container_write.specs.Layout.{large_parts}
-use Rattle.msi_container_write.proofs.RestLemmas.{unit_filled}
+use Rattle.msi_container_write.proofs.sectors.RestLemmas.{unit_filled}
 use Rattle.msi_container_write.proofs.content.fill_large.Goals as goal
 
 pub returns : goal.returns

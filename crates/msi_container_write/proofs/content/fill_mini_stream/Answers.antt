@@ -5,8 +5,8 @@ use Rattle.std.proofs.lemmas.List.FromFn.{length-map-range_with_len}
 use Rattle.msi_container_write.specs.Extents.{laid_byte}
 use Rattle.msi_container_write.specs.Index.{streams_of}
 use Rattle.msi_container_write.specs.Layout.{mini_parts}
-use Rattle.msi_container_write.proofs.HeaderLemmas.{put_long}
-use Rattle.msi_container_write.proofs.RestLemmas.{unit_filled, unit_more, middle_long}
+use Rattle.msi_container_write.proofs.sectors.HeaderLemmas.{put_long}
+use Rattle.msi_container_write.proofs.sectors.RestLemmas.{unit_filled, unit_more, middle_long}
 use Rattle.msi_container_write.proofs.content.fill_mini_stream.Goals as goal
 
 pub loop-k-preserved : goal.loop-k-preserved

@@ -1,5 +1,5 @@
 use Rattle.std.proofs.Common.{refl}
-use Rattle.msi_container_write.proofs.UnitLemmas.{unit_written}
+use Rattle.msi_container_write.proofs.sectors.UnitLemmas.{unit_written}
 use Rattle.msi_container_write.proofs.content.fill_unit.Goals as goal
 
 pub returns : goal.returns

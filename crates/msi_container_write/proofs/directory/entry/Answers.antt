@@ -2,8 +2,8 @@ use Rattle.std.proofs.Common.{◌≡◌, ◌+◌, ◌-◌, ◌*◌, ◌<◌, len
 use Rattle.std.specs.List.{range_with_len}
 use Rattle.msi_container_write.specs.Index.{streams_of}
 use Rattle.msi_container_write.specs.Layout.{large_first, directory_of}
-use Rattle.msi_container_write.proofs.EntriesLemmas.{large_place}
-use Rattle.msi_container_write.proofs.DirectorySectorLemmas.{length-streams_of, among, name_fits, first_fits, place_entry, root_is, stream_is, unused_is}
+use Rattle.msi_container_write.proofs.directories.EntriesLemmas.{large_place}
+use Rattle.msi_container_write.proofs.directories.DirectorySectorLemmas.{length-streams_of, among, name_fits, first_fits, place_entry, root_is, stream_is, unused_is}
 use Rattle.msi_container_write.proofs.directory.entry.Goals as goal
 use Rattle.msi_container_write.proofs.directory.entry.Goals.{After-index-places-k}
 

@@ -1,7 +1,7 @@
 use Rattle.std.proofs.Common.{slice_index, arith}
 use Rattle.msi_container_write.specs.Index.{streams_of}
 use Rattle.msi_container_write.specs.Layout.{directory_of}
-use Rattle.msi_container_write.proofs.DirectorySectorLemmas.{entry_put, sector_put}
+use Rattle.msi_container_write.proofs.directories.DirectorySectorLemmas.{entry_put, sector_put}
 use Rattle.msi_container_write.proofs.directory.fill_directory.Goals as goal
 
 pub loop-slot-preserved : goal.loop-slot-preserved

@@ -1,6 +1,6 @@
 use Rattle.std.proofs.Common.{◌∙◌, ap, refl, rules}
 use Rattle.msi_container_write.specs.Layout.{Entry, entry_bytes}
-use Rattle.msi_container_write.proofs.PutLemmas.{entry_put}
+use Rattle.msi_container_write.proofs.directories.PutPiecesLemmas.{entry_put}
 use Rattle.msi_container_write.proofs.entries.entry_bytes.Goals as goal
 
 pub returns : goal.returns

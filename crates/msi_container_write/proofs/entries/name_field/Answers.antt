@@ -1,5 +1,5 @@
 use Rattle.std.proofs.Common.{◌*◌, arith, refl}
-use Rattle.msi_container_write.proofs.PutLemmas.{unit_put, name_put}
+use Rattle.msi_container_write.proofs.directories.PutPiecesLemmas.{unit_put, name_put}
 use Rattle.msi_container_write.proofs.entries.name_field.Goals as goal
 
 pub loop-i-preserved : goal.loop-i-preserved

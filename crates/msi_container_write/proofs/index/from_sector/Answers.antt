@@ -5,8 +5,8 @@ use Rattle.std.specs.List.Sorted.{IsPartitionPoint}
 use Rattle.msi_container_format.specs.Container.{is_mini}
 use Rattle.msi_container_write.specs.Index.{Placed, streams_of}
 use Rattle.msi_container_write.specs.Layout.{large_part, large_parts}
-use Rattle.msi_container_write.proofs.IndexLemmas.{found_part, first_at, parts_long}
-use Rattle.msi_container_write.proofs.RestLemmas.{firsts_partitioned, found_rest, no_rest}
+use Rattle.msi_container_write.proofs.sectors.IndexLemmas.{found_part, first_at, parts_long}
+use Rattle.msi_container_write.proofs.sectors.RestLemmas.{firsts_partitioned, found_rest, no_rest}
 use Rattle.msi_container_write.proofs.index.from_sector.Goals as goal
 use Rattle.msi_container_write.proofs.index.from_sector.Goals.{After-partition_point-until}
 

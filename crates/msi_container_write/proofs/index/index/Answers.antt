@@ -5,8 +5,8 @@ use Rattle.msi_container_format.specs.Container.{is_mini}
 use Rattle.msi_container_write.specs.Extents.{units, all_units}
 use Rattle.msi_container_write.specs.Layout.{large_part, mini_part, large_parts, mini_sectors}
 use Rattle.msi_container_write.specs.LayoutLaw.{IsName}
-use Rattle.msi_container_write.proofs.EntriesLemmas.{name_known}
-use Rattle.msi_container_write.proofs.IndexLemmas.{place_pushed}
+use Rattle.msi_container_write.proofs.directories.EntriesLemmas.{name_known}
+use Rattle.msi_container_write.proofs.sectors.IndexLemmas.{place_pushed}
 use Rattle.msi_container_write.proofs.index.index.Goals as goal
 
 pub loop-name-preserved : goal.loop-name-preserved

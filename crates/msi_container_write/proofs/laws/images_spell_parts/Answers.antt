@@ -1,4 +1,4 @@
-use Rattle.msi_container_write.proofs.SpelledPartsLemmas.{spelled_image}
+use Rattle.msi_container_write.proofs.reading_back.SpelledPartsLemmas.{spelled_image}
 use Rattle.msi_container_write.proofs.laws.images_spell_parts.Goals as goal
 
 pub returns : goal.returns

@@ -1,4 +1,4 @@
-use Rattle.msi_container_write.proofs.LayoutHeldLemmas.{layout_holds}
+use Rattle.msi_container_write.proofs.reading_back.LayoutHeldLemmas.{layout_holds}
 use Rattle.msi_container_write.proofs.laws.layouts_hold_contents.Goals as goal
 
 pub returns : goal.returns

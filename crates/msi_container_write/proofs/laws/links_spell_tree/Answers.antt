@@ -1,6 +1,6 @@
 use Rattle.std.proofs.Common.{◌+◌, arith, refl}
 use Rattle.msi_container_write.specs.Balance.{left_link, right_link}
-use Rattle.msi_container_write.proofs.BalanceLemmas.{spelled}
+use Rattle.msi_container_write.proofs.directories.BalanceLemmas.{spelled}
 use Rattle.msi_container_write.proofs.laws.links_spell_tree.Goals as goal
 
 pub returns : goal.returns

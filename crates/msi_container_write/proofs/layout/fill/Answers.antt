@@ -1,7 +1,7 @@
 use Rattle.std.proofs.Common.{◌≡◌, ◌+◌, ◌-◌, ◌∙◌, ap, refl, arith}
 use Rattle.msi_container_write.specs.Index.{streams_of}
 use Rattle.msi_container_write.specs.Sectors.{file_sector}
-use Rattle.msi_container_write.proofs.FileSectorLemmas.{file_header, file_part}
+use Rattle.msi_container_write.proofs.sectors.FileSectorLemmas.{file_header, file_part}
 use Rattle.msi_container_write.proofs.layout.fill.Goals as goal
 
 pub returns-then-n-eq0 : goal.returns-then-n-eq0

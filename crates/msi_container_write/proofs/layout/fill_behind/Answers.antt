@@ -1,8 +1,8 @@
 use Rattle.std.proofs.Common.{◌-◌, ◌∙◌, arith}
 use Rattle.msi_container_write.specs.Index.{streams_of}
 use Rattle.msi_container_write.specs.Layout.{parts_of}
-use Rattle.msi_container_write.proofs.RegionLemmas.{layout_stands}
-use Rattle.msi_container_write.proofs.FileSectorLemmas.{file_fat, file_difat, file_free}
+use Rattle.msi_container_write.proofs.sectors.RegionLemmas.{layout_stands}
+use Rattle.msi_container_write.proofs.sectors.FileSectorLemmas.{file_fat, file_difat, file_free}
 use Rattle.msi_container_write.proofs.layout.fill_behind.Goals as goal
 
 pub returns-then-m-count : goal.returns-then-m-count

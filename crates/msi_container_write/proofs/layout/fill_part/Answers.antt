@@ -1,6 +1,6 @@
 use Rattle.std.proofs.Common.{◌-◌, ◌∙◌, arith}
 use Rattle.msi_container_write.specs.Index.{streams_of}
-use Rattle.msi_container_write.proofs.FileSectorLemmas.{directory_part, mini_fat_part, mini_stream_part, large_part}
+use Rattle.msi_container_write.proofs.sectors.FileSectorLemmas.{directory_part, mini_fat_part, mini_stream_part, large_part}
 use Rattle.msi_container_write.proofs.layout.fill_part.Goals as goal
 
 pub returns-then-m-regions : goal.returns-then-m-regions

@@ -1,7 +1,7 @@
 use Rattle.std.proofs.Common.{◌+◌, ℕ, List, cond, leb, length, ◌∙◌, ap}
 use Rattle.msi_container_format.specs.Format.{END_OF_CHAIN}
 use Rattle.msi_container_write.specs.Index.{streams_of}
-use Rattle.msi_container_write.proofs.TableLemmas.{large_entry_is}
+use Rattle.msi_container_write.proofs.sectors.TableLemmas.{large_entry_is}
 use Rattle.msi_container_write.proofs.tables.fat_entry.Goals as goal
 
 pub returns-then-n-regions-2 : goal.returns-then-n-regions-2

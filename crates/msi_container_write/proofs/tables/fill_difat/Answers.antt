@@ -1,8 +1,8 @@
 use Rattle.std.proofs.Common.{◌∙◌, ◌*◌, ◌+◌, ◌<◌, length, arith, refl}
 use Rattle.std.proofs.lemmas.List.{length-set}
 use Rattle.msi_container_write.specs.Image.{difat_entry}
-use Rattle.msi_container_write.proofs.ImageLemmas.{difat_entry_is}
-use Rattle.msi_container_write.proofs.RangeLemmas.{table_filled, entry_more}
+use Rattle.msi_container_write.proofs.sectors.ImageLemmas.{difat_entry_is}
+use Rattle.msi_container_write.proofs.placing.RangeLemmas.{table_filled, entry_more}
 use Rattle.msi_container_write.proofs.tables.fill_difat.Goals as goal
 
 pub loop-k-preserved : goal.loop-k-preserved

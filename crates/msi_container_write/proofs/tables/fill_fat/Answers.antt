@@ -1,7 +1,7 @@
 use Rattle.std.proofs.Common.{◌∙◌, ◌*◌, ◌+◌, ◌<◌, length, arith, refl}
 use Rattle.std.proofs.lemmas.List.{length-set}
 use Rattle.msi_container_write.specs.Image.{fat_entry}
-use Rattle.msi_container_write.proofs.RangeLemmas.{table_filled, entry_more}
+use Rattle.msi_container_write.proofs.placing.RangeLemmas.{table_filled, entry_more}
 use Rattle.msi_container_write.proofs.tables.fill_fat.Goals as goal
 
 pub loop-k-preserved : goal.loop-k-preserved

@@ -4,9 +4,9 @@ use Rattle.std.specs.Int.{to_le_bytes, w32}
 use Rattle.std.proofs.lemmas.List.{length-append, length-drop}
 use Rattle.msi_container_format.specs.Format.{signature}
 use Rattle.msi_container_write.specs.Image as spec
-use Rattle.msi_container_write.proofs.HeaderLemmas.{five_written}
-use Rattle.msi_container_write.proofs.RangeLemmas.{numbers_long}
-use Rattle.msi_container_write.proofs.RestLemmas.{middle_long}
+use Rattle.msi_container_write.proofs.sectors.HeaderLemmas.{five_written}
+use Rattle.msi_container_write.proofs.placing.RangeLemmas.{numbers_long}
+use Rattle.msi_container_write.proofs.sectors.RestLemmas.{middle_long}
 use Rattle.msi_container_write.proofs.tables.fill_header.Goals as goal
 
 pub returns : goal.returns

@@ -4,7 +4,7 @@ use Rattle.std.specs.Int.{to_le_bytes, w32}
 use Rattle.std.proofs.lemmas.List.FromFn.{fill_by_all}
 use Rattle.std.proofs.lemmas.List.{length-set}
 use Rattle.msi_container_write.specs.Image.{listed_entry}
-use Rattle.msi_container_write.proofs.RangeLemmas.{entry_more}
+use Rattle.msi_container_write.proofs.placing.RangeLemmas.{entry_more}
 use Rattle.msi_container_write.proofs.tables.fill_list.Goals as goal
 
 pub loop-k-preserved : goal.loop-k-preserved

@@ -2,7 +2,7 @@ use Rattle.std.proofs.Common.{◌∙◌, ◌*◌, ◌+◌, ◌<◌, length, arit
 use Rattle.std.proofs.lemmas.List.{length-set}
 use Rattle.msi_container_write.specs.Index.{streams_of}
 use Rattle.msi_container_write.specs.Layout.{mini_parts, mini_fat_entry}
-use Rattle.msi_container_write.proofs.RangeLemmas.{table_filled, entry_more}
+use Rattle.msi_container_write.proofs.placing.RangeLemmas.{table_filled, entry_more}
 use Rattle.msi_container_write.proofs.tables.fill_mini_fat.Goals as goal
 
 pub loop-k-preserved : goal.loop-k-preserved

@@ -2,7 +2,7 @@ use Rattle.std.proofs.Common.{◌<◌, length, sym, ◌∙◌, arith, refl}
 use Rattle.std.proofs.lemmas.Bool.{eqb-true, eqb-false}
 use Rattle.msi_container_write.specs.Index.{streams_of}
 use Rattle.msi_container_write.specs.Layout.{mini_parts}
-use Rattle.msi_container_write.proofs.TableLemmas.{mini_free, mini_chained}
+use Rattle.msi_container_write.proofs.sectors.TableLemmas.{mini_free, mini_chained}
 use Rattle.msi_container_write.proofs.tables.mini_fat_entry.Goals as goal
 
 pub returns-then-is_empty : goal.returns-then-is_empty

@@ -1,7 +1,7 @@
 use Rattle.std.proofs.Common.{◌≤◌, ◌+◌, ◌*◌, sym, arith}
 use Rattle.std.proofs.lemmas.Grind.{div_ceil_times}
 use Rattle.msi_container_write.specs.Image.{least_total, fat_sectors, difat_sectors}
-use Rattle.msi_container_write.proofs.TotalsLemmas.{suffices_with, total_is, total_past}
+use Rattle.msi_container_write.proofs.placing.TotalsLemmas.{suffices_with, total_is, total_past}
 use Rattle.msi_container_write.proofs.totals.least_total.Goals as goal
 
 pub returns-then-needed-total-clause-some : goal.returns-then-needed-total-clause-some

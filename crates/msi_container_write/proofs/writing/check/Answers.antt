@@ -1,6 +1,6 @@
 use Rattle.std.proofs.Common.{◌≡◌, false, refl, sym, ◌∙◌, arith}
 use Rattle.msi_container_write.specs.Layout.{refuses}
-use Rattle.msi_container_write.proofs.LayoutLemmas.{refused_large, accepted}
+use Rattle.msi_container_write.proofs.placing.LayoutLemmas.{refused_large, accepted}
 use Rattle.msi_container_write.specs.Borrowed.{contents_of}
 use Rattle.msi_container_write.proofs.writing.check.Goals as goal
 

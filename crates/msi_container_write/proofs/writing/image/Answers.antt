@@ -1,7 +1,7 @@
 use Rattle.msi_container_write.specs.Image.{image_byte}
 use Rattle.msi_container_write.specs.Index.{streams_of}
 use Rattle.msi_container_write.specs.Layout.{mini_fat_run, parts_of}
-use Rattle.msi_container_write.proofs.SectorsHeldLemmas.{sector_pushed}
+use Rattle.msi_container_write.proofs.sectors.SectorsHeldLemmas.{sector_pushed}
 use Rattle.msi_container_write.proofs.writing.image.Goals as goal
 
 pub loop-n-preserved : goal.loop-n-preserved

@@ -5,9 +5,9 @@ use Rattle.msi_container_format.specs.Container.{Holds}
 use Rattle.msi_container_write.specs.Index.{streams_of}
 use Rattle.msi_container_write.specs.Layout.{mini_sectors, taken_by}
 use Rattle.msi_container_write.specs.LayoutLaw.{HaveNames}
-use Rattle.msi_container_write.proofs.IndexLemmas.{is_index, streams_indexed}
-use Rattle.msi_container_write.proofs.LayoutHeldLemmas.{layout_holds}
-use Rattle.msi_container_write.proofs.LayoutLemmas.{not_true, room_for, same_file, taken_few}
+use Rattle.msi_container_write.proofs.sectors.IndexLemmas.{is_index, streams_indexed}
+use Rattle.msi_container_write.proofs.reading_back.LayoutHeldLemmas.{layout_holds}
+use Rattle.msi_container_write.proofs.placing.LayoutLemmas.{not_true, room_for, same_file, taken_few}
 use Rattle.msi_container_write.specs.Borrowed.{contents_of}
 use Rattle.msi_container_write.proofs.writing.image_of.Goals as goal
 

@@ -10,12 +10,12 @@ use Rattle.msi_container_write.specs.Index.{streams_of}
 use Rattle.msi_container_write.specs.Layout.{layout, mini_sectors, taken_by}
 use Rattle.msi_container_write.specs.LayoutLaw.{HaveNames}
 use Rattle.msi_container_write.specs.Sectors.{file}
-use Rattle.msi_container_write.proofs.IndexLemmas.{is_index, streams_indexed}
-use Rattle.msi_container_write.proofs.LayoutHeldLemmas.{layout_holds}
-use Rattle.msi_container_write.proofs.LayoutLemmas.{not_true, room_for, same_file, taken_few}
-use Rattle.msi_container_write.proofs.SectorsHeldLemmas.{part_as, put_as}
+use Rattle.msi_container_write.proofs.sectors.IndexLemmas.{is_index, streams_indexed}
+use Rattle.msi_container_write.proofs.reading_back.LayoutHeldLemmas.{layout_holds}
+use Rattle.msi_container_write.proofs.placing.LayoutLemmas.{not_true, room_for, same_file, taken_few}
+use Rattle.msi_container_write.proofs.sectors.SectorsHeldLemmas.{part_as, put_as}
 use Rattle.msi_container_write.specs.Borrowed.{contents_of}
-use Rattle.msi_container_write.proofs.FailedLemmas.{err_passed, err_is, input_passed, other_kind, not_io, unfailed, failed_by_io, io_only, ok_not_io, input_isnt_io, memory_isnt_io, memory_isnt_input, io_isnt_input}
+use Rattle.msi_container_write.proofs.sectors.FailedLemmas.{err_passed, err_is, input_passed, other_kind, not_io, unfailed, failed_by_io, io_only, ok_not_io, input_isnt_io, memory_isnt_io, memory_isnt_input, io_isnt_input}
 use Rattle.msi_container_write.proofs.writing.image_to.Goals as goal
 
 pub index-requires : goal.index-requires

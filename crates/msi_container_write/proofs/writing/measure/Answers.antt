@@ -2,7 +2,7 @@ use Rattle.std.proofs.Common.{◌≡◌, ◌+◌, ◌≤◌, ◌^◌, refl, ◌�
 use Rattle.std.specs.FinMap.{entries, len-entries}
 use Rattle.msi_container_write.specs.Image.{least_total}
 use Rattle.msi_container_write.specs.Layout.{taken_by}
-use Rattle.msi_container_write.proofs.LayoutLemmas.{taken_counted, large_total}
+use Rattle.msi_container_write.proofs.placing.LayoutLemmas.{taken_counted, large_total}
 use Rattle.msi_container_write.proofs.writing.measure.Goals as goal
 use Rattle.msi_container_write.proofs.writing.measure.Goals.{After-mini_stream_sectors}
 

@@ -3,8 +3,8 @@ use Rattle.msi_base.proofs.ResultLemmas.{on_err_from}
 use Rattle.msi_container_write.specs.Image.{image_byte}
 use Rattle.msi_container_write.specs.Index.{streams_of}
 use Rattle.msi_container_write.specs.Layout.{mini_fat_run, parts_of}
-use Rattle.msi_container_write.proofs.FailedLemmas.{still_so}
-use Rattle.msi_container_write.proofs.SectorsHeldLemmas.{sector_in_part, sector_written}
+use Rattle.msi_container_write.proofs.sectors.FailedLemmas.{still_so}
+use Rattle.msi_container_write.proofs.sectors.SectorsHeldLemmas.{sector_in_part, sector_written}
 use Rattle.msi_container_write.proofs.writing.write_sectors.Goals as goal
 
 pub returns-in_err-write_all-clause-part : goal.returns-in_err-write_all-clause-part

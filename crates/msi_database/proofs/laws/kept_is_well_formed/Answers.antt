@@ -1,4 +1,4 @@
-use Rattle.msi_database.proofs.KeptLawLemmas.{kept_is_well_formed}
+use Rattle.msi_database.proofs.keeping.KeptLawLemmas.{kept_is_well_formed}
 use Rattle.msi_database.proofs.laws.kept_is_well_formed.Goals as goal
 
 pub returns : goal.returns

@@ -1,4 +1,4 @@
-use Rattle.msi_database.proofs.RecountingLemmas.{recounts_are_kept}
+use Rattle.msi_database.proofs.keeping.RecountingLemmas.{recounts_are_kept}
 use Rattle.msi_database.proofs.laws.recounts_are_kept.Goals as goal
 
 pub returns : goal.returns

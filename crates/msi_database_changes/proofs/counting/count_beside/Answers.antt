@@ -1,6 +1,6 @@
 use Rattle.std.specs.Prelude.{[], unwrap_or}
 use Rattle.msi_table.specs.Tables.{rows_spelled}
-use Rattle.msi_database_changes.proofs.CountingLemmas.{beside_counted, listed_counted}
+use Rattle.msi_database_changes.proofs.text_counts.CountingLemmas.{beside_counted, listed_counted}
 use Rattle.msi_database_changes.proofs.counting.count_beside.Goals as goal
 
 pub returns-then-is_listed : goal.returns-then-is_listed

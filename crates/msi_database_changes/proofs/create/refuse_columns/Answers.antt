@@ -1,5 +1,5 @@
 use Rattle.std.proofs.Common.{sym, ◌∙◌}
-use Rattle.msi_database_changes.proofs.CreatingLemmas.{short_lengths}
+use Rattle.msi_database_changes.proofs.table_changes.CreatingLemmas.{short_lengths}
 use Rattle.msi_database_changes.proofs.create.refuse_columns.Goals as goal
 
 pub returns-clause-short : goal.returns-clause-short

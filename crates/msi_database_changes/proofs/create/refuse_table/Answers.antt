@@ -1,7 +1,7 @@
 use Rattle.std.specs.List.{AllByRecursion}
 use Rattle.std.proofs.lemmas.Result.{on_ok_weaker}
 use Rattle.msi_table_values.specs.Columns.{HasShortLength}
-use Rattle.msi_database_changes.proofs.CreatingLemmas.{short_by}
+use Rattle.msi_database_changes.proofs.table_changes.CreatingLemmas.{short_by}
 use Rattle.msi_database_changes.proofs.create.refuse_table.Goals as goal
 
 pub returns-clause-short : goal.returns-clause-short

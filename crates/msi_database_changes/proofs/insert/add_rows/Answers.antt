@@ -1,6 +1,6 @@
 use Rattle.std.proofs.Common.{true}
 use Rattle.msi_database_changes.specs.Texts.{in_use}
-use Rattle.msi_database_changes.proofs.InsertingLemmas.{added_is}
+use Rattle.msi_database_changes.proofs.row_changes.InsertingLemmas.{added_is}
 use Rattle.msi_database_changes.proofs.insert.add_rows.Goals as goal
 
 pub returns-clause-ok : goal.returns-clause-ok

@@ -10,8 +10,8 @@ use Rattle.msi_base.proofs.RefusalLemmas.{err_passed}
 use Rattle.msi_database_changes.specs.Insert.{keys_of, row_fits, row_refusals, table_with}
 use Rattle.msi_table_cells.specs.KeyOrder.{key_of}
 use Rattle.msi_database_changes.specs.KeySets.{clash_refusals}
-use Rattle.msi_database_changes.proofs.InsertingLemmas.{length_refusals, too_long, short_enough, refused_in_front, passed, refused_behind, none_refuses}
-use Rattle.msi_database_changes.proofs.RefusedLemmas.{refused_between}
+use Rattle.msi_database_changes.proofs.row_changes.InsertingLemmas.{length_refusals, too_long, short_enough, refused_in_front, passed, refused_behind, none_refuses}
+use Rattle.msi_database_changes.proofs.steps.RefusedLemmas.{refused_between}
 use Rattle.msi_database_changes.proofs.insert.refuse_rows.Goals as goal
 
 abbrev misfits : List ColumnDef → List (List Value) → Refusals

@@ -1,6 +1,6 @@
 use Rattle.std.proofs.Common.{◌≡◌, true, ◌+◌, ◌&&◌, sym, ap, ◌∙◌, arith}
 use Rattle.msi_table_values.specs.ValidValues.{is_valid_value}
-use Rattle.msi_database_changes.proofs.RowFitLemmas.{fits_from, fits_next}
+use Rattle.msi_database_changes.proofs.row_changes.RowFitLemmas.{fits_from, fits_next}
 use Rattle.msi_database_changes.proofs.insert.row_fits.Goals as goal
 
 pub loop-i-preserved : goal.loop-i-preserved

@@ -1,5 +1,5 @@
 use Rattle.std.proofs.Common.{◌≡◌, length}
-use Rattle.msi_database_changes.proofs.RowFitLemmas.{fits_from}
+use Rattle.msi_database_changes.proofs.row_changes.RowFitLemmas.{fits_from}
 use Rattle.msi_database_changes.proofs.insert.row_fits.Given as goal
 
 abbrev pub invariant-loop-i : goal.invariant-loop-i

@@ -1,6 +1,6 @@
 use Rattle.std.proofs.Common.{◌∙◌, sym}
 use Rattle.std.proofs.lemmas.Bool.{not-true, not-false}
-use Rattle.msi_database_changes.proofs.KeySetLemmas.{key_again, key_once, keys_more}
+use Rattle.msi_database_changes.proofs.row_keys.KeySetLemmas.{key_again, key_once, keys_more}
 use Rattle.msi_database_changes.proofs.keys.distinct_keys.Goals as goal
 
 pub loop-key-preserved-then-not-branch : goal.loop-key-preserved-then-not-branch

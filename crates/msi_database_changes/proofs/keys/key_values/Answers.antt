@@ -4,7 +4,7 @@ use Rattle.std.proofs.lemmas.List.{append-nil}
 use Rattle.msi_table_values.specs.declared.value.Value.{Value}
 use Rattle.msi_table_cells.specs.KeyOrder.{key_of}
 use Rattle.msi_database_changes.specs.Views.{seen_row}
-use Rattle.msi_database_changes.proofs.ViewLemmas.{no_part, one_part, no_parts}
+use Rattle.msi_database_changes.proofs.row_keys.ViewLemmas.{no_part, one_part, no_parts}
 use Rattle.msi_database_changes.proofs.keys.key_values.Goals as goal
 
 pub loop-i-preserved-then-not-is_primary_key : goal.loop-i-preserved-then-not-is_primary_key

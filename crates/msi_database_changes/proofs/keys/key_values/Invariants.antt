@@ -1,7 +1,7 @@
 use Rattle.std.proofs.Common.{◌≡◌, ◌++◌}
 use Rattle.msi_table_cells.specs.KeyOrder.{key_of}
 use Rattle.msi_database_changes.specs.Views.{seen_row}
-use Rattle.msi_database_changes.proofs.ViewLemmas.{key_from}
+use Rattle.msi_database_changes.proofs.row_keys.ViewLemmas.{key_from}
 use Rattle.msi_database_changes.proofs.keys.key_values.Given as goal
 
 abbrev pub invariant-loop-i : goal.invariant-loop-i

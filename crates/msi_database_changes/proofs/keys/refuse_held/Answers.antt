@@ -5,7 +5,7 @@ use Rattle.msi_base.specs.declared.errors.ErrorKind.TheVariants.{AlreadyExists, 
 use Rattle.msi_table_values.specs.declared.value.Value.{Value}
 use Rattle.msi_database_changes.specs.KeySets.{key_refusals}
 use Rattle.msi_table_cells.specs.KeyOrder.{key_of}
-use Rattle.msi_database_changes.proofs.KeySetLemmas.{again_refused, held_refused, key_at, key_passes, keys_more, keys_to, refused}
+use Rattle.msi_database_changes.proofs.row_keys.KeySetLemmas.{again_refused, held_refused, key_at, key_passes, keys_more, keys_to, refused}
 use Rattle.msi_database_changes.proofs.keys.refuse_held.Goals as goal
 
 pub returns-then-contains-clause-kind : goal.returns-then-contains-clause-kind

@@ -2,7 +2,7 @@ use Rattle.std.proofs.Common.{◌≡◌, List, map, take}
 use Rattle.msi_table_values.specs.declared.value.Value.{Value}
 use Rattle.msi_table_cells.specs.KeyOrder.{key_of}
 use Rattle.msi_database_changes.specs.KeySets.{HasKeys}
-use Rattle.msi_database_changes.proofs.KeySetLemmas.{refusal_from}
+use Rattle.msi_database_changes.proofs.row_keys.KeySetLemmas.{refusal_from}
 use Rattle.msi_database_changes.proofs.keys.refuse_held.Given as goal
 
 abbrev pub invariant-loop-row : goal.invariant-loop-row

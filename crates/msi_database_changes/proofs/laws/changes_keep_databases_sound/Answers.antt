@@ -1,4 +1,4 @@
-use Rattle.msi_database_changes.proofs.LawLemmas.{changes_keep}
+use Rattle.msi_database_changes.proofs.soundness.LawLemmas.{changes_keep}
 use Rattle.msi_database_changes.proofs.laws.changes_keep_databases_sound.Goals as goal
 
 pub returns : goal.returns

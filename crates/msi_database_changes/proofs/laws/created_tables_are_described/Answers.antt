@@ -1,4 +1,4 @@
-use Rattle.msi_database_changes.proofs.SchemaKeptLemmas.{created_described}
+use Rattle.msi_database_changes.proofs.describing.SchemaKeptLemmas.{created_described}
 use Rattle.msi_database_changes.proofs.laws.created_tables_are_described.Goals as goal
 
 pub returns : goal.returns

@@ -1,4 +1,4 @@
-use Rattle.msi_database_changes.proofs.LawLemmas.{deletes_remove}
+use Rattle.msi_database_changes.proofs.soundness.LawLemmas.{deletes_remove}
 use Rattle.msi_database_changes.proofs.laws.deletes_remove_their_rows.Goals as goal
 
 pub returns : goal.returns

@@ -1,4 +1,4 @@
-use Rattle.msi_database_changes.proofs.SchemaKeptLemmas.{dropped_forgotten}
+use Rattle.msi_database_changes.proofs.describing.SchemaKeptLemmas.{dropped_forgotten}
 use Rattle.msi_database_changes.proofs.laws.dropped_tables_are_forgotten.Goals as goal
 
 pub returns : goal.returns

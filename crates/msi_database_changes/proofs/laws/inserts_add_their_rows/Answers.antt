@@ -1,4 +1,4 @@
-use Rattle.msi_database_changes.proofs.LawLemmas.{inserts_add}
+use Rattle.msi_database_changes.proofs.soundness.LawLemmas.{inserts_add}
 use Rattle.msi_database_changes.proofs.laws.inserts_add_their_rows.Goals as goal
 
 pub returns : goal.returns

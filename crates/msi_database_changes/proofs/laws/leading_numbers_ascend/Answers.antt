@@ -1,4 +1,4 @@
-use Rattle.msi_database_changes.proofs.LeadingLemmas.{leading_ascend}
+use Rattle.msi_database_changes.proofs.row_keys.LeadingNumbersLemmas.{leading_ascend}
 use Rattle.msi_database_changes.proofs.laws.leading_numbers_ascend.Goals as goal
 
 pub returns : goal.returns

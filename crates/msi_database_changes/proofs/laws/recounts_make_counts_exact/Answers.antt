@@ -1,4 +1,4 @@
-use Rattle.msi_database_changes.proofs.RecountingLemmas.{recounts_make_exact}
+use Rattle.msi_database_changes.proofs.text_counts.RecountingLemmas.{recounts_make_exact}
 use Rattle.msi_database_changes.proofs.laws.recounts_make_counts_exact.Goals as goal
 
 pub returns : goal.returns

@@ -1,4 +1,4 @@
-use Rattle.msi_database_changes.proofs.LawLemmas.{table_changes_keep}
+use Rattle.msi_database_changes.proofs.soundness.LawLemmas.{table_changes_keep}
 use Rattle.msi_database_changes.proofs.laws.table_changes_keep_databases_sound.Goals as goal
 
 pub returns : goal.returns

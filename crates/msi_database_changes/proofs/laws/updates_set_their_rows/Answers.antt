@@ -1,4 +1,4 @@
-use Rattle.msi_database_changes.proofs.LawLemmas.{updates_set}
+use Rattle.msi_database_changes.proofs.soundness.LawLemmas.{updates_set}
 use Rattle.msi_database_changes.proofs.laws.updates_set_their_rows.Goals as goal
 
 pub returns : goal.returns

@@ -4,7 +4,7 @@ use Rattle.msi_table_values.specs.declared.value.Value.{Value}
 use Rattle.msi_database_changes.specs.Setting.{index_of}
 use Rattle.msi_table_values.specs.Views.{seen_value}
 use Rattle.msi_database_changes.specs.Views.{seen_row}
-use Rattle.msi_database_changes.proofs.SettingLemmas.{place_at, values_set_more}
+use Rattle.msi_database_changes.proofs.row_changes.SettingLemmas.{place_at, values_set_more}
 use Rattle.msi_database_changes.proofs.setting.set_views.Goals as goal
 
 pub loop-i-preserved : goal.loop-i-preserved

@@ -1,6 +1,6 @@
 use Rattle.std.specs.Vec.Iter.{into_iter_items}
 use Rattle.std.proofs.Common.{◌∙◌}
-use Rattle.msi_database_changes.proofs.PutBackLemmas.{contains_inserted, put_back_all, removed_last}
+use Rattle.msi_database_changes.proofs.steps.PutBackLemmas.{contains_inserted, put_back_all, removed_last}
 use Rattle.msi_database_changes.proofs.storing.+store_all.Goals as goal
 
 pub put_back-requires : goal.put_back-requires

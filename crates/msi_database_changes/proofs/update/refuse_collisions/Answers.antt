@@ -1,7 +1,7 @@
 use Rattle.std.proofs.Common.{◌∙◌, sym, ap}
 use Rattle.msi_database_changes.specs.RowUpdates.{update_of}
 use Rattle.msi_database_changes.specs.Update.{sets_key}
-use Rattle.msi_database_changes.proofs.RowUpdateLemmas.{collision_refused, no_collision, no_key_set}
+use Rattle.msi_database_changes.proofs.row_changes.RowUpdateLemmas.{collision_refused, no_collision, no_key_set}
 use Rattle.msi_database_changes.proofs.update.refuse_collisions.Goals as goal
 
 pub returns-then-not-sets_key-clause-ok : goal.returns-then-not-sets_key-clause-ok

@@ -3,7 +3,7 @@ use Rattle.std.specs.List.{list_all}
 use Rattle.msi_database_changes.specs.RowUpdates.{update_of}
 use Rattle.msi_database_changes.specs.Update.{set_is_valid}
 use Rattle.msi_query.specs.Selection.{condition_names, has_columns}
-use Rattle.msi_database_changes.proofs.RowUpdateLemmas.{condition_refused, set_refused, sets_accepted}
+use Rattle.msi_database_changes.proofs.row_changes.RowUpdateLemmas.{condition_refused, set_refused, sets_accepted}
 use Rattle.msi_database_changes.proofs.update.refuse_sets.Goals as goal
 
 pub returns-then-not-are_valid_sets : goal.returns-then-not-are_valid_sets

@@ -1,5 +1,5 @@
 use Rattle.std.proofs.Common.{◌∙◌, sym, arith}
-use Rattle.msi_database_changes.proofs.ViewLemmas.{other_ends, row_ends, decides, ties}
+use Rattle.msi_database_changes.proofs.row_keys.ViewLemmas.{other_ends, row_ends, decides, ties}
 use Rattle.msi_database_changes.proofs.views.compare_views.Goals as goal
 
 pub returns-then-i-other : goal.returns-then-i-other

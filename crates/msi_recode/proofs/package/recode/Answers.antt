@@ -2,7 +2,7 @@ use Rattle.std.specs.Prelude.{Err}
 use Rattle.std.proofs.Common.{ap}
 use Rattle.std.proofs.lemmas.Result.{err_from_is_err_and}
 use Rattle.msi_container_write.specs.Layout.{refuses}
-use Rattle.msi_container_write.proofs.LayoutLemmas.{not_true}
+use Rattle.msi_container_write.proofs.placing.LayoutLemmas.{not_true}
 use Rattle.msi_recode.proofs.PackageLemmas.{file_made, file_only, file_refused, no_file, not_recoded, not_written}
 use Rattle.msi_recode.proofs.package.recode.Goals as goal
 

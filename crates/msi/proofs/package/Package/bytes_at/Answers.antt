@@ -2,7 +2,7 @@ use Rattle.std.proofs.Common.{◌∙◌, Some, ap, sym}
 use Rattle.msi_database_storage.specs.Streams.{stream_at}
 use Rattle.msi.specs.Renewing.{opened}
 use Rattle.msi.specs.Whole.{Whole}
-use Rattle.msi.proofs.StreamCallLemmas.{bytes_open, bytes_other, told_at}
+use Rattle.msi.proofs.named_streams.StreamCallLemmas.{bytes_open, bytes_other, told_at}
 use Rattle.msi.proofs.package.Package.bytes_at.Goals as goal
 
 pub returns-then-eq : goal.returns-then-eq

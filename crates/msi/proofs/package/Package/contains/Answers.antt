@@ -1,7 +1,7 @@
 use Rattle.std.proofs.Common.{◌∙◌, ap}
 use Rattle.msi_database_storage.specs.Streams.{has_stream_at}
 use Rattle.msi.specs.Whole.{Whole}
-use Rattle.msi.proofs.StreamCallLemmas.{told_there}
+use Rattle.msi.proofs.named_streams.StreamCallLemmas.{told_there}
 use Rattle.msi.proofs.package.Package.contains.Goals as goal
 
 pub returns : goal.returns

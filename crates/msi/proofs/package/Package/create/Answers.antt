@@ -1,11 +1,11 @@
 use Rattle.std.proofs.Common.{◌∙◌, Err, ap, subst}
 use Rattle.std.specs.Prelude.{Ok}
 use Rattle.msi_summary.specs.Summary.{new_summary}
-use Rattle.msi_database.proofs.CreatingLemmas.{error_passed}
+use Rattle.msi_database.proofs.table_changes.CreatingLemmas.{error_passed}
 use Rattle.msi.specs.Calls as calls
 use Rattle.msi.specs.State.{State}
 use Rattle.msi.specs.Flushing.{FlushStep, IsCreateRefused, over_device, told}
-use Rattle.msi.proofs.CreatingLemmas.{err_as, fresh_held, made_from, made_held, made_refused, made_state}
+use Rattle.msi.proofs.packages.CreatingLemmas.{err_as, fresh_held, made_from, made_held, made_refused, made_state}
 use Rattle.msi.proofs.package.Package.create.Goals as goal
 
 pub invariant_of-package : goal.invariant_of-package

@@ -5,7 +5,7 @@ use Rattle.msi_database.specs.Delete.{delete_rows, early_delete_refusals}
 use Rattle.msi.specs.State.{parts_of}
 use Rattle.msi.specs.Steps.{changing}
 use Rattle.msi.specs.Whole.{Leaves}
-use Rattle.msi.proofs.ChangeLemmas.{after_delete, answered_behind, change_left}
+use Rattle.msi.proofs.packages.ChangeLemmas.{after_delete, answered_behind, change_left}
 use Rattle.std.proofs.lemmas.Result.{err_from_is_err_and}
 use Rattle.msi.proofs.package.Package.delete_rows.Goals as goal
 

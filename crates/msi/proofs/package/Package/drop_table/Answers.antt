@@ -2,7 +2,7 @@ use Rattle.std.proofs.Common.{true, refl, sym, subst}
 use Rattle.msi_base.proofs.RefusalLemmas.{accepted_first, first_passed}
 use Rattle.msi_database.specs.Database.{Database}
 use Rattle.msi_database.specs.Drop.{early_drop_refusals, drop_table}
-use Rattle.msi.proofs.ChangeLemmas.{after_drop, answered_behind, change_left}
+use Rattle.msi.proofs.packages.ChangeLemmas.{after_drop, answered_behind, change_left}
 use Rattle.msi.specs.State.{parts_of}
 use Rattle.msi.specs.Steps.{changing}
 use Rattle.msi.specs.Whole.{Leaves}

@@ -2,8 +2,8 @@ use Rattle.std.proofs.Common.{◌∙◌, ap, sym}
 use Rattle.msi_base.proofs.RefusalLemmas.{first_passed}
 use Rattle.msi.specs.Steps.{flush_refusals}
 use Rattle.msi.specs.Whole.{Whole}
-use Rattle.msi.proofs.FlushStepLemmas.{flush_nothing, pending_nothing, pending_written}
-use Rattle.msi.proofs.TextRefusalLemmas.{flush_first, nothing_first}
+use Rattle.msi.proofs.writing.FlushStepLemmas.{flush_nothing, pending_nothing, pending_written}
+use Rattle.msi.proofs.writing.TextRefusalLemmas.{flush_first, nothing_first}
 use Rattle.msi.proofs.package.Package.flush.Goals as goal
 
 pub returns-then-not-self-clause-step : goal.returns-then-not-self-clause-step

@@ -1,6 +1,6 @@
 use Rattle.std.proofs.Common.{◌∙◌, ap}
 use Rattle.msi_database_storage.specs.Streams.{has_stream_at}
-use Rattle.msi.proofs.StreamCallLemmas.{has_signature}
+use Rattle.msi.proofs.named_streams.StreamCallLemmas.{has_signature}
 use Rattle.msi.proofs.package.Package.has_digital_signature.Goals as goal
 
 pub returns : goal.returns

@@ -1,4 +1,4 @@
-use Rattle.msi.proofs.StreamCallLemmas.{has_none, has_told}
+use Rattle.msi.proofs.named_streams.StreamCallLemmas.{has_none, has_told}
 use Rattle.msi.proofs.package.Package.has_stream.Goals as goal
 
 pub returns-in-Some : goal.returns-in-Some

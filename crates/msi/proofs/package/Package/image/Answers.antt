@@ -12,9 +12,9 @@ use Rattle.msi.specs.State.{State}
 use Rattle.msi.specs.Steps.{image_of, streams_written}
 use Rattle.msi.specs.Renewing.{opened, renewed_over, text_refusals, with_renewed}
 use Rattle.msi.specs.Whole.{Whole, state_of, with_open}
-use Rattle.msi.proofs.CreatingLemmas.{err_as}
-use Rattle.msi.proofs.ImagingLemmas.{all_put, answer_done, answer_failed, image_stored, image_unwritten, texts_first}
-use Rattle.msi.proofs.RenewedLemmas.{root_contents_are}
+use Rattle.msi.proofs.packages.CreatingLemmas.{err_as}
+use Rattle.msi.proofs.writing.ImagingLemmas.{all_put, answer_done, answer_failed, image_stored, image_unwritten, texts_first}
+use Rattle.msi.proofs.writing.RenewedLemmas.{root_contents_are}
 use Rattle.msi.proofs.package.Package.image.Goals as goal
 
 pub returns-in_err-check_storages-clause-kind : goal.returns-in_err-check_storages-clause-kind

@@ -1,6 +1,6 @@
 use Rattle.msi_base.specs.Refusals.{first_refusal}
 use Rattle.msi.specs.Steps.{flush_refusals}
-use Rattle.msi.proofs.TextRefusalLemmas.{first_handed}
+use Rattle.msi.proofs.writing.TextRefusalLemmas.{first_handed}
 use Rattle.msi.proofs.package.Package.into_inner.Goals as goal
 
 pub returns-in-Err-clause-early : goal.returns-in-Err-clause-early

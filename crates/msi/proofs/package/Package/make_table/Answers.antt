@@ -6,7 +6,7 @@ use Rattle.msi.specs.State.{parts_of}
 use Rattle.msi.specs.Steps.{changing}
 use Rattle.msi.specs.Whole.{Leaves}
 use Rattle.msi_database.specs.Creating.{create_refusals}
-use Rattle.msi.proofs.ChangeLemmas.{after_create, answered_behind, change_left, change_refused}
+use Rattle.msi.proofs.packages.ChangeLemmas.{after_create, answered_behind, change_left, change_refused}
 use Rattle.std.proofs.lemmas.Result.{err_from_is_err_and}
 use Rattle.msi.proofs.package.Package.make_table.Goals as goal
 

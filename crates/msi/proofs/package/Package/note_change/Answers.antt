@@ -1,7 +1,7 @@
 use Rattle.std.proofs.Common.{◌∙◌, ap}
 use Rattle.msi_database.specs.Database.{is_sound}
 use Rattle.msi.specs.Whole.{Whole}
-use Rattle.msi.proofs.ChangeLemmas.{noted_sound}
+use Rattle.msi.proofs.packages.ChangeLemmas.{noted_sound}
 use Rattle.msi.proofs.package.Package.note_change.Goals as goal
 
 pub invariant_of-self : goal.invariant_of-self

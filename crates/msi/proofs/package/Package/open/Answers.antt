@@ -1,6 +1,6 @@
 use Rattle.std.proofs.Common.{refl}
-use Rattle.msi.proofs.FaultLemmas.{passed_faultless}
-use Rattle.msi.proofs.OpenStepLemmas.{opened_faultless, source_opens}
+use Rattle.msi.proofs.reading.FaultLemmas.{passed_faultless}
+use Rattle.msi.proofs.reading.OpenStepLemmas.{opened_faultless, source_opens}
 use Rattle.std.proofs.lemmas.Result.{err_from_is_err_and}
 use Rattle.msi.proofs.package.Package.open.Goals as goal
 

@@ -1,8 +1,8 @@
 use Rattle.std.proofs.Common.{◌∙◌}
 use Rattle.msi_base.proofs.RefusalLemmas.{accepted_first, err_passed, first_passed}
 use Rattle.msi_database.specs.RecountedDatabases.{early_recount_refusals}
-use Rattle.msi.proofs.ChangeLemmas.{answered_behind, held_sound}
-use Rattle.msi.proofs.RecountingLemmas.{recount_answered, recount_left, recount_refused}
+use Rattle.msi.proofs.packages.ChangeLemmas.{answered_behind, held_sound}
+use Rattle.msi.proofs.packages.RecountingLemmas.{recount_answered, recount_left, recount_refused}
 use Rattle.msi.proofs.package.Package.recount.Goals as goal
 
 pub invariant_of-self-2 : goal.invariant_of-self-2

@@ -1,8 +1,8 @@
 use Rattle.std.proofs.Common.{◌∙◌, ap, refl}
 use Rattle.std.specs.Prelude.{Err, Result}
 use Rattle.msi_base.specs.declared.errors.ErrorKind.{ErrorKind}
-use Rattle.msi.proofs.StreamRefusalLemmas.{key_accepted, key_is, removal_missing, removal_passes}
-use Rattle.msi.proofs.StreamWriteLemmas.{stream_is_other}
+use Rattle.msi.proofs.named_streams.StreamRefusalLemmas.{key_accepted, key_is, removal_missing, removal_passes}
+use Rattle.msi.proofs.named_streams.StreamWriteLemmas.{stream_is_other}
 use Rattle.std.proofs.lemmas.Result.{err_from_is_err_and}
 use Rattle.msi.proofs.package.Package.remove_stream.Goals as goal
 

@@ -1,7 +1,7 @@
 use Rattle.std.proofs.Common.{ap}
 use Rattle.msi_database.specs.Database.{is_sound}
 use Rattle.msi_database_storage.specs.Kept.{Kept}
-use Rattle.msi.proofs.ChangeLemmas.{after_check}
+use Rattle.msi.proofs.packages.ChangeLemmas.{after_check}
 use Rattle.std.proofs.lemmas.Result.{err_from_is_err_and}
 use Rattle.msi.proofs.package.Package.set_database_codepage.Goals as goal
 

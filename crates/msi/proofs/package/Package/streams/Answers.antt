@@ -2,7 +2,7 @@ use Rattle.std.proofs.Common.{◌∙◌, ap}
 use Rattle.msi.specs.State.{parts_of}
 use Rattle.msi.specs.Steps.{stream_names}
 use Rattle.msi.specs.Whole.{Whole}
-use Rattle.msi.proofs.StreamNameLemmas.{names_told}
+use Rattle.msi.proofs.named_streams.StreamNameLemmas.{names_told}
 use Rattle.msi.proofs.package.Package.streams.Goals as goal
 
 pub returns : goal.returns

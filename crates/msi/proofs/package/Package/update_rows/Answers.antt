@@ -2,7 +2,7 @@ use Rattle.std.proofs.Common.{true, refl, sym, subst}
 use Rattle.msi_base.proofs.RefusalLemmas.{accepted_first, first_passed}
 use Rattle.msi_database.specs.Database.{Database}
 use Rattle.msi_database.specs.Update.{early_update_refusals, update_rows}
-use Rattle.msi.proofs.ChangeLemmas.{after_update, answered_behind, change_left}
+use Rattle.msi.proofs.packages.ChangeLemmas.{after_update, answered_behind, change_left}
 use Rattle.msi.specs.State.{parts_of}
 use Rattle.msi.specs.Steps.{changing}
 use Rattle.msi.specs.Whole.{Leaves}

@@ -4,8 +4,8 @@ use Rattle.msi_database_storage.specs.Kept.{Kept}
 use Rattle.msi_base.proofs.RefusalLemmas.{none_answered}
 use Rattle.msi.specs.State.{parts_of}
 use Rattle.msi.specs.Steps.{name_refusals}
-use Rattle.msi.proofs.StreamRefusalLemmas.{key_accepted, key_is, storages_seen, write_passes}
-use Rattle.msi.proofs.StreamWriteLemmas.{left_written, lent_same, opened_held, stream_is_other}
+use Rattle.msi.proofs.named_streams.StreamRefusalLemmas.{key_accepted, key_is, storages_seen, write_passes}
+use Rattle.msi.proofs.named_streams.StreamWriteLemmas.{left_written, lent_same, opened_held, stream_is_other}
 use Rattle.msi.proofs.package.Package.write_stream.Goals as goal
 
 pub replace_stream-requires : goal.replace_stream-requires

@@ -1,6 +1,6 @@
 use Rattle.std.proofs.Common.{◌≡◌, ◌∙◌, ◌++◌, ◌+◌, ◌<◌, ap, arith, drop, length, min, subst, sym, take}
 use Rattle.std.proofs.lemmas.List.{length-take, take_rest}
-use Rattle.msi.proofs.CursorLemmas.{none_ahead, taken_from_ahead}
+use Rattle.msi.proofs.named_streams.CursorLemmas.{none_ahead, taken_from_ahead}
 use Rattle.msi.specs.Cursor.{bytes_ahead}
 use Rattle.msi.proofs.reader.StreamReaderRead.read.Goals as goal
 

@@ -1,6 +1,6 @@
 use Rattle.std.proofs.Common.{◌∙◌, ap, sym, Err}
 use Rattle.std.proofs.lemmas.Result.{err_from_is_err_and}
-use Rattle.msi.proofs.CursorLemmas.{refused_stays}
+use Rattle.msi.proofs.named_streams.CursorLemmas.{refused_stays}
 use Rattle.msi.proofs.reader.StreamReaderSeek.seek.Goals as goal
 
 pub returns-in_err-place-clause-outcome : goal.returns-in_err-place-clause-outcome

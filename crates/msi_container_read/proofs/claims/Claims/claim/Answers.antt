@@ -1,7 +1,7 @@
 use Rattle.std.proofs.Common.{arith, ◌≡◌, ◌<◌, length, get_or, false, ◌∙◌}
 use Rattle.std.proofs.lemmas.Grind.{common_steps}
 use Rattle.std.proofs.lemmas.Option.{gets}
-use Rattle.msi_container_read.proofs.ClaimLemmas.{marked_push, unmarked_push, counted_push, distinct_push, free_unmarked}
+use Rattle.msi_container_read.proofs.chains.ClaimLemmas.{marked_push, unmarked_push, counted_push, distinct_push, free_unmarked}
 use Rattle.msi_container_read.proofs.claims.Claims.claim.Goals as goal
 
 pub invariant_of-self-in-Some-false : goal.invariant_of-self-in-Some-false

@@ -1,4 +1,4 @@
-use Rattle.msi_container_read.proofs.ClaimLemmas.{below_vector}
+use Rattle.msi_container_read.proofs.chains.ClaimLemmas.{below_vector}
 use Rattle.msi_container_read.proofs.claims.Claims.into_list.Goals as goal
 
 pub returns-clause-below : goal.returns-clause-below

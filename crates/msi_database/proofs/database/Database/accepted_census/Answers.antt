@@ -1,10 +1,10 @@
 use Rattle.std.proofs.Common.{◌∙◌, inr, sym}
 use Rattle.msi_base.proofs.RefusalLemmas.{err_passed, first_answered, none_answered}
 use Rattle.msi_database_changes.specs.Recounting.{counting_refusals, early_recount_refusals, recount}
-use Rattle.msi_database_changes.proofs.RefusedLemmas.{behind_passed, not_refused, refused_first}
+use Rattle.msi_database_changes.proofs.steps.RefusedLemmas.{behind_passed, not_refused, refused_first}
 use Rattle.msi_database.proofs.CellsCensusLemmas.{counts_are}
 use Rattle.msi_database_storage.proofs.PassedLemmas.{memory_refused, no_value}
-use Rattle.msi_database.proofs.RecountingLemmas.{refused_early, refused_late}
+use Rattle.msi_database.proofs.keeping.RecountingLemmas.{refused_early, refused_late}
 use Rattle.msi_database.proofs.database.Database.accepted_census.Goals as goal
 
 pub returns-clause-counts : goal.returns-clause-counts

@@ -2,7 +2,7 @@ use Rattle.std.proofs.Common.{◌≡◌, ◌∙◌, true, sym}
 use Rattle.std.specs.FinMap.{entries}
 use Rattle.msi_database_changes.specs.Database.{names_stay_in_pool, validation_is_standard}
 use Rattle.msi_database.proofs.CellsCensusLemmas.{counts_fit_is}
-use Rattle.msi_database.proofs.RecountingLemmas.{none_refused, refused_for_columns, refused_for_counts, standard_here}
+use Rattle.msi_database.proofs.keeping.RecountingLemmas.{none_refused, refused_for_columns, refused_for_counts, standard_here}
 use Rattle.msi_database.proofs.database.Database.check_cells.Goals as goal
 
 pub returns-then-not-is_standard-clause-answer : goal.returns-then-not-is_standard-clause-answer

@@ -2,7 +2,7 @@ use Rattle.msi_base.proofs.RefusalLemmas.{accepted_first, first_passed, err_pass
 use Rattle.msi_database_changes.specs.Create.{create_table}
 use Rattle.msi_database.specs.Creating.{create_refusals}
 use Rattle.msi_database.specs.Making.{base_with}
-use Rattle.msi_database.proofs.RowCallLemmas.{makes_kept, makes_leaves, makes_sound}
+use Rattle.msi_database.proofs.calls.RowCallLemmas.{makes_kept, makes_leaves, makes_sound}
 use Rattle.msi_database_storage.proofs.PassedLemmas.{memory_refused, no_value, on_error}
 use Rattle.std.proofs.Common.{refl}
 use Rattle.msi_database.proofs.database.Database.create_table.Goals as goal

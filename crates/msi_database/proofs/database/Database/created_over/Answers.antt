@@ -1,8 +1,8 @@
 use Rattle.std.proofs.Common.{◌≡◌, true, subst, sym}
 use Rattle.msi_database_changes.specs.Database.{is_sound}
-use Rattle.msi_database_changes.proofs.AtWidthLemmas.{sound_widened}
+use Rattle.msi_database_changes.proofs.steps.AtWidthLemmas.{sound_widened}
 use Rattle.msi_database_storage.specs.Kept.{Kept}
-use Rattle.msi_database.proofs.AnewCallLemmas.{same_created, same_held, wide_created, wide_held}
+use Rattle.msi_database.proofs.widths.CallAtBothWidthsLemmas.{same_created, same_held, wide_created, wide_held}
 use Rattle.msi_database_storage.proofs.PassedLemmas.{memory_passed, no_value}
 use Rattle.msi_database.proofs.database.Database.created_over.Goals as goal
 

@@ -3,7 +3,7 @@ use Rattle.std.proofs.lemmas.Result.{IfOk-weaker, err_from_is_err_and}
 use Rattle.msi_database.specs.Making.{IsAnew, delete_of}
 use Rattle.msi_database_storage.specs.Kept.{Kept}
 use Rattle.msi_database.specs.Keeping.{IsKeptDatabase}
-use Rattle.msi_database.proofs.RowCallLemmas.{delete_called}
+use Rattle.msi_database.proofs.calls.RowCallLemmas.{delete_called}
 use Rattle.msi_database.proofs.database.Database.deleted.Goals as goal
 
 pub rows_anew-requires-clause-storable : goal.rows_anew-requires-clause-storable

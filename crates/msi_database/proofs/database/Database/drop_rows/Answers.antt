@@ -1,6 +1,6 @@
 use Rattle.std.proofs.Common.{subst, refl}
 use Rattle.msi_database.specs.Keeping.{IsKeptDatabase}
-use Rattle.msi_database.proofs.DroppingCallLemmas.{none_fit}
+use Rattle.msi_database.proofs.table_changes.DroppingCallLemmas.{none_fit}
 use Rattle.msi_database_storage.proofs.PassedLemmas.{memory_passed, no_value}
 use Rattle.msi_base.specs.declared.errors.ErrorKind.TheVariants.{OutOfMemory}
 use Rattle.msi_database.proofs.database.Database.drop_rows.Goals as goal

@@ -1,7 +1,7 @@
 use Rattle.msi_base.proofs.RefusalLemmas.{accepted_first, first_passed, err_passed}
 use Rattle.msi_database_changes.specs.Drop.{drop_table, early_drop_refusals}
 use Rattle.msi_database.specs.Making.{base_with}
-use Rattle.msi_database.proofs.RowCallLemmas.{makes_kept, makes_leaves, makes_sound}
+use Rattle.msi_database.proofs.calls.RowCallLemmas.{makes_kept, makes_leaves, makes_sound}
 use Rattle.msi_database_storage.proofs.PassedLemmas.{memory_refused, no_value, on_error}
 use Rattle.std.proofs.Common.{refl}
 use Rattle.msi_database.proofs.database.Database.drop_table.Goals as goal

@@ -4,7 +4,7 @@ use Rattle.msi_database_changes.specs.Changes.{no_change, pool_of}
 use Rattle.msi_database_schema.specs.System.{tables_name, columns_name, validation_name}
 use Rattle.msi_database_storage.specs.Kept.{Kept}
 use Rattle.msi_database.specs.Dropping.{about_given_back, rows_given_back, own_stream, system_stream}
-use Rattle.msi_database.proofs.DroppingCallLemmas.{DropLeft, began_by, drop_called, went_on}
+use Rattle.msi_database.proofs.table_changes.DroppingCallLemmas.{DropLeft, began_by, drop_called, went_on}
 use Rattle.msi_database.proofs.database.Database.dropped.Goals as goal
 
 made : (c : goal.After-into_pool) → DropLeft c.self.inside.pool c.self.inside.tables (entries c.self.inside.streams) c.self.inside.is_sound c.self.invariant c.args.self.now c.self.view_is c.args.name.now c.into_pool.result c.in_ok-tables.tables c.forget-3.new.dropping.stored.items c.is_used-is_pool_used.result

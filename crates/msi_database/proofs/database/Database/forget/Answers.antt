@@ -3,7 +3,7 @@ use Rattle.msi_database_changes.specs.Drop.{is_row_about}
 use Rattle.msi_database_changes.specs.declared.storing.Stored.{Stored}
 use Rattle.msi_database_storage.specs.Kept.{Kept}
 use Rattle.msi_database.specs.Keeping.{IsKeptDatabase}
-use Rattle.msi_database.proofs.DroppingCallLemmas.{fewer_fit, forgot}
+use Rattle.msi_database.proofs.table_changes.DroppingCallLemmas.{fewer_fit, forgot}
 use Rattle.msi_database_storage.proofs.PassedLemmas.{memory_passed, no_value}
 use Rattle.msi_base.specs.declared.errors.ErrorKind.TheVariants.{OutOfMemory}
 use Rattle.msi_database.proofs.database.Database.forget.Goals as goal

@@ -1,7 +1,7 @@
 use Rattle.std.proofs.Common.{ap, sym, ◌∙◌}
 use Rattle.std.specs.FinMap.{entries}
 use Rattle.msi_database_storage.specs.Kept.{table_kept_at}
-use Rattle.msi_database.proofs.TablesKeptLemmas.{table_def_kept}
+use Rattle.msi_database.proofs.keeping.TablesKeptLemmas.{table_def_kept}
 use Rattle.msi_database.proofs.database.Database.get_table.Goals as goal
 
 pub returns : goal.returns

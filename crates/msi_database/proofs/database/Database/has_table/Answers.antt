@@ -1,7 +1,7 @@
 use Rattle.std.proofs.Common.{ap, sym, ◌∙◌, is_some}
 use Rattle.std.specs.FinMap.{entries}
 use Rattle.msi_database_storage.specs.Kept.{table_kept_at}
-use Rattle.msi_database.proofs.TablesKeptLemmas.{has_table_kept}
+use Rattle.msi_database.proofs.keeping.TablesKeptLemmas.{has_table_kept}
 use Rattle.msi_database.proofs.database.Database.has_table.Goals as goal
 
 pub returns : goal.returns

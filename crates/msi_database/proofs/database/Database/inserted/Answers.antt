@@ -9,8 +9,8 @@ use Rattle.msi_database_changes.specs.Insert.{row_refusals, table_with}
 use Rattle.msi_database_storage.specs.Kept.{Kept}
 use Rattle.msi_database.specs.Keeping.{IsKeptDatabase}
 use Rattle.msi_database.specs.Making.{IsAnew, insert_of}
-use Rattle.msi_database.proofs.InsertCallLemmas.{insert_full, insert_misfit}
-use Rattle.msi_database.proofs.RowCallLemmas.{insert_called}
+use Rattle.msi_database.proofs.calls.InsertCallLemmas.{insert_full, insert_misfit}
+use Rattle.msi_database.proofs.calls.RowCallLemmas.{insert_called}
 use Rattle.msi_database.proofs.database.Database.inserted.Goals as goal
 
 pub returns-in_err-refuse_rows-clause-kind : goal.returns-in_err-refuse_rows-clause-kind

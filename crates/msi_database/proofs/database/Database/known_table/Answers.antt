@@ -1,5 +1,5 @@
 use Rattle.std.proofs.Common.{option_copied}
-use Rattle.msi_database.proofs.RowCallLemmas.{known_by}
+use Rattle.msi_database.proofs.calls.RowCallLemmas.{known_by}
 use Rattle.msi_database.proofs.database.Database.known_table.Goals as goal
 
 pub returns : goal.returns

@@ -1,6 +1,6 @@
 use Rattle.std.proofs.Common.{◌∙◌}
 use Rattle.std.specs.Vec.Iter.{into_iter_items}
-use Rattle.msi_database.proofs.FreshKeptLemmas.{fresh_parts, names_are_own}
+use Rattle.msi_database.proofs.opening.FreshKeptLemmas.{fresh_parts, names_are_own}
 use Rattle.msi_database.proofs.database.Database.new.Goals as goal
 
 pub store_all-requires : goal.store_all-requires

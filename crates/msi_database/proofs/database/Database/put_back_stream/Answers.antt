@@ -1,4 +1,4 @@
-use Rattle.msi_database.proofs.OtherLemmas.{stays, there_before}
+use Rattle.msi_database.proofs.keeping.OtherStreamLemmas.{stays, there_before}
 use Rattle.msi_database.proofs.database.Database.put_back_stream.Goals as goal
 
 pub put_back-requires : goal.put_back-requires

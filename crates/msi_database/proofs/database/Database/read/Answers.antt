@@ -11,7 +11,7 @@ use Rattle.msi_database_storage.specs.Kept.{AreAsLong, kept_of, table_kept, tabl
 use Rattle.msi_database_storage.specs.Naming.{numbers_named, numbers_of_tables, pool_shown}
 use Rattle.msi_database.specs.Keeping.{AreKept}
 use Rattle.msi_database_storage.specs.Reading.{IsDatabaseOf}
-use Rattle.msi_database.proofs.ReadWholeLemmas.{Reads, read_census, read_database, read_kept, read_once, reads_by}
+use Rattle.msi_database.proofs.opening.ReadDatabaseLemmas.{Reads, read_census, read_database, read_kept, read_once, reads_by}
 use Rattle.msi_database_storage.proofs.PassedLemmas.{memory_refused, no_value}
 use Rattle.msi_database.proofs.database.Database.read.Goals as goal
 

@@ -1,9 +1,9 @@
 use Rattle.std.proofs.Common.{◌∙◌, ap, length, subst, sym}
 use Rattle.std.specs.FinMap.{entries}
-use Rattle.msi_database_changes.proofs.RecountingLemmas.{many_counts}
+use Rattle.msi_database_changes.proofs.text_counts.RecountingLemmas.{many_counts}
 use Rattle.msi_database_storage.specs.Kept.{Kept}
 use Rattle.msi_database.specs.Keeping.{IsKeptDatabase}
-use Rattle.msi_database.proofs.RecountingLemmas.{left_kept}
+use Rattle.msi_database.proofs.keeping.RecountingLemmas.{left_kept}
 use Rattle.msi_database.proofs.database.Database.recount.Goals as goal
 
 pub set_counts-changed-requires : goal.set_counts-changed-requires

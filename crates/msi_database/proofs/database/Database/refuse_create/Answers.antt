@@ -3,7 +3,7 @@ use Rattle.msi_base.specs.declared.errors.ErrorKind.TheVariants.{AlreadyExists, 
 use Rattle.msi_database_schema.specs.System.{validation_name}
 use Rattle.msi_database_changes.specs.Create.{new_table_refusals}
 use Rattle.msi_database_changes.specs.Database.{has_table, is_sound}
-use Rattle.msi_database.proofs.CreatingLemmas.{error_passed, refused_behind_sound}
+use Rattle.msi_database.proofs.table_changes.CreatingLemmas.{error_passed, refused_behind_sound}
 use Rattle.msi_database.proofs.database.Database.refuse_create.Goals as goal
 
 pub returns-in_err-refuse_table-clause-value : goal.returns-in_err-refuse_table-clause-value

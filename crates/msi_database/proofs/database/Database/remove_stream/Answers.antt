@@ -1,5 +1,5 @@
 use Rattle.std.proofs.Common.{None}
-use Rattle.msi_database.proofs.OtherLemmas.{held_before, stays}
+use Rattle.msi_database.proofs.keeping.OtherStreamLemmas.{held_before, stays}
 use Rattle.msi_database.proofs.database.Database.remove_stream.Goals as goal
 
 pub invariant_of-self : goal.invariant_of-self

@@ -1,6 +1,6 @@
 use Rattle.std.proofs.Common.{Some}
 use Rattle.msi_base.proofs.ResultLemmas.{on_err_from}
-use Rattle.msi_database.proofs.OtherLemmas.{absent_before, held_before, stays, there_after}
+use Rattle.msi_database.proofs.keeping.OtherStreamLemmas.{absent_before, held_before, stays, there_after}
 use Rattle.msi_database.proofs.database.Database.replace_stream.Goals as goal
 
 pub returns-in_err-replace-clause-absent : goal.returns-in_err-replace-clause-absent

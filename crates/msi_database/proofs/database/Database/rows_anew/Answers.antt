@@ -1,4 +1,4 @@
-use Rattle.msi_database.proofs.AnewCallLemmas.{same_anew, same_stores, wide_anew, wide_named, wide_stores}
+use Rattle.msi_database.proofs.widths.CallAtBothWidthsLemmas.{same_anew, same_stores, wide_anew, wide_named, wide_stores}
 use Rattle.std.proofs.lemmas.Result.{err_from_is_err_and}
 use Rattle.msi_database.proofs.database.Database.rows_anew.Goals as goal
 

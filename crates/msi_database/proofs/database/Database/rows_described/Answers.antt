@@ -4,7 +4,7 @@ use Rattle.msi_table_values.specs.declared.value.Value.{Value}
 use Rattle.msi_database_changes.specs.Texts.{in_use}
 use Rattle.msi_database_storage.proofs.PassedLemmas.{memory_refused, no_value}
 use Rattle.msi_base.proofs.RefusalLemmas.{err_passed}
-use Rattle.msi_database.proofs.SystemRowsLemmas.{columns_refuse, described_given, tables_refuse, validation_refuses}
+use Rattle.msi_database.proofs.table_changes.SystemRowsLemmas.{columns_refuse, described_given, tables_refuse, validation_refuses}
 use Rattle.msi_database.proofs.database.Database.rows_described.Goals as goal
 
 pub returns-in_err-column_rows-clause-ok : goal.returns-in_err-column_rows-clause-ok

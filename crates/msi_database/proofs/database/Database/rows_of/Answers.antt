@@ -2,7 +2,7 @@ use Rattle.std.proofs.Common.{◌≡◌, ap, sym, ◌∙◌, None, Some}
 use Rattle.std.specs.Prelude.{option_copied}
 use Rattle.std.specs.FinMap.{entries}
 use Rattle.msi_database_storage.specs.Kept.{table_kept_at}
-use Rattle.msi_database.proofs.WholeLemmas.{whole_in_place, whole_none, whole_refused}
+use Rattle.msi_database.proofs.keeping.WholeTableLemmas.{whole_in_place, whole_none, whole_refused}
 use Rattle.msi_database.proofs.database.Database.rows_of.Goals as goal
 
 pub returns-in_default-clause-kind : goal.returns-in_default-clause-kind

@@ -6,7 +6,7 @@ use Rattle.msi_base.specs.Refusals.{IsRefusal, or_refused}
 use Rattle.msi_database_changes.specs.Texts.{in_use}
 use Rattle.msi_database_changes.specs.Insert.{cells_added}
 use Rattle.msi_database.specs.Creating.{rows_with}
-use Rattle.msi_database.proofs.CreatedAnewLemmas.{rows_at_last}
+use Rattle.msi_database.proofs.widths.CreatingAtBothWidthsLemmas.{rows_at_last}
 use Rattle.msi_database_storage.proofs.PassedLemmas.{memory_refused, no_value}
 use Rattle.msi_database.proofs.database.Database.rows_with.Goals as goal
 

@@ -1,5 +1,5 @@
 use Rattle.std.specs.FinMap.{entries}
-use Rattle.msi_database.proofs.PageLemmas.{kept_with_page}
+use Rattle.msi_database.proofs.keeping.PageLemmas.{kept_with_page}
 use Rattle.msi_database.proofs.database.Database.set_codepage.Goals as goal
 
 pub invariant_of-self : goal.invariant_of-self

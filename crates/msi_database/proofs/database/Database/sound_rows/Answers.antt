@@ -5,7 +5,7 @@ use Rattle.msi_database_changes.specs.Database.{is_sound}
 use Rattle.msi_database_storage.specs.Kept.{Kept}
 use Rattle.msi_database_storage.specs.Streams.{stored_rows}
 use Rattle.msi_database.specs.Listed.{table_def_at}
-use Rattle.msi_database.proofs.ChangingLemmas.{found_with, only_memory}
+use Rattle.msi_database.proofs.calls.ChangingLemmas.{found_with, only_memory}
 use Rattle.msi_database.proofs.database.Database.sound_rows.Goals as goal
 
 pub returns-clause-ok : goal.returns-clause-ok

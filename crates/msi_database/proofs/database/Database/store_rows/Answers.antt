@@ -1,7 +1,7 @@
 use Rattle.std.proofs.Common.{◌∙◌, ap, [], ◌∷◌, ◌++◌, List}
 use Rattle.std.specs.Vec.Iter.{into_iter_items}
 use Rattle.msi_database_changes.specs.declared.storing.Stored.{Stored}
-use Rattle.msi_database.proofs.ChangingLemmas.{rows_moved_in, streams_stored}
+use Rattle.msi_database.proofs.calls.ChangingLemmas.{rows_moved_in, streams_stored}
 use Rattle.std.proofs.lemmas.Result.{err_from_is_err_and}
 use Rattle.msi_database.proofs.database.Database.store_rows.Goals as goal
 

@@ -1,5 +1,5 @@
 use Rattle.std.specs.Vec.Iter.{into_iter_items}
-use Rattle.msi_database.proofs.ChangingLemmas.{streams_stored, tables_moved_in}
+use Rattle.msi_database.proofs.calls.ChangingLemmas.{streams_stored, tables_moved_in}
 use Rattle.msi_database.proofs.database.Database.store_tables.Goals as goal
 
 pub invariant_of-self-2 : goal.invariant_of-self-2

@@ -5,7 +5,7 @@ use Rattle.msi_table.specs.Tables.{CanStore}
 use Rattle.msi_database_changes.specs.Insert.{table_with}
 use Rattle.msi_database_storage.specs.Widening.{with_long_rows}
 use Rattle.msi_database.specs.Keeping.{IsKeptDatabase}
-use Rattle.msi_database.proofs.WideningCallLemmas.{listed_def, listed_fits, listed_more, listed_named}
+use Rattle.msi_database.proofs.widths.WideningCallLemmas.{listed_def, listed_fits, listed_more, listed_named}
 use Rattle.std.proofs.lemmas.Result.{err_from_is_err_and}
 use Rattle.msi_database.proofs.database.Database.store_tables_long.Goals as goal
 

@@ -10,8 +10,8 @@ use Rattle.msi_database_changes.specs.Insert.{table_with}
 use Rattle.msi_database_storage.specs.Kept.{Kept}
 use Rattle.msi_database_storage.specs.Widening.{with_long_rows}
 use Rattle.msi_database.specs.Keeping.{IsKeptDatabase}
-use Rattle.msi_database.proofs.WholeLemmas.{kind_passed}
-use Rattle.msi_database.proofs.WideningCallLemmas.{unlisted_is, unlisted_memory, unlisted_named, unlisted_none, unlisted_store}
+use Rattle.msi_database.proofs.keeping.WholeTableLemmas.{kind_passed}
+use Rattle.msi_database.proofs.widths.WideningCallLemmas.{unlisted_is, unlisted_memory, unlisted_named, unlisted_none, unlisted_store}
 use Rattle.msi_database.proofs.database.Database.store_unlisted_long.Goals as goal
 
 pub returns-then-has_table-clause-ok : goal.returns-then-has_table-clause-ok

@@ -6,8 +6,8 @@ use Rattle.msi_base.proofs.RefusalLemmas.{err_passed, first_answered, none_answe
 use Rattle.msi_database_storage.specs.Kept.{Kept}
 use Rattle.msi_database.specs.Creating.{IsCreated, create_refusals}
 use Rattle.msi_database.specs.Keeping.{IsKeptDatabase}
-use Rattle.msi_database.proofs.EarlyCallLemmas.{first_where_err, none_where_ok}
-use Rattle.msi_database.proofs.CreatedAnewLemmas.{create_barred_either, create_called, made_with, named_with, rows_refused, told_with}
+use Rattle.msi_database.proofs.calls.EarlyCallLemmas.{first_where_err, none_where_ok}
+use Rattle.msi_database.proofs.widths.CreatingAtBothWidthsLemmas.{create_barred_either, create_called, made_with, named_with, rows_refused, told_with}
 use Rattle.msi_database_storage.proofs.PassedLemmas.{memory_refuses, no_value}
 use Rattle.msi_database.proofs.database.Database.table_created.Goals as goal
 

@@ -2,7 +2,7 @@ use Rattle.std.proofs.Common.{[]}
 use Rattle.msi_base.proofs.RefusalLemmas.{err_is}
 use Rattle.msi_database_changes.specs.Changes.{absent_refusals, barred_refusals, missing_or}
 use Rattle.msi_database_changes.specs.Database.{table_at}
-use Rattle.msi_database_changes.proofs.RefusedLemmas.{front_holds}
+use Rattle.msi_database_changes.proofs.steps.RefusedLemmas.{front_holds}
 use Rattle.msi_database.proofs.database.Database.table_to_change.Goals as goal
 
 pub returns-in_err-refuse_change-clause-early : goal.returns-in_err-refuse_change-clause-early

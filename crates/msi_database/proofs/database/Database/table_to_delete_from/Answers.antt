@@ -9,8 +9,8 @@ use Rattle.msi_database_schema.specs.System.{is_system_table}
 use Rattle.msi_database_changes.specs.Delete.{delete_rows, early_delete_refusals}
 use Rattle.msi_database.specs.Listed.{IsKnown}
 use Rattle.msi_database.specs.Making.{delete_of}
-use Rattle.msi_database.proofs.EarlyCallLemmas.{absent_early, delete_refused_early, first_where_err, judged_early, none_where_ok}
-use Rattle.msi_database.proofs.RowCallLemmas.{passes_one}
+use Rattle.msi_database.proofs.calls.EarlyCallLemmas.{absent_early, delete_refused_early, first_where_err, judged_early, none_where_ok}
+use Rattle.msi_database.proofs.calls.RowCallLemmas.{passes_one}
 use Rattle.msi_database.proofs.database.Database.table_to_delete_from.Goals as goal
 
 abbrev judge : DeleteQuery → List ColumnDef → Refusals

@@ -2,9 +2,9 @@ use Rattle.std.proofs.Common.{[]}
 use Rattle.msi_base.proofs.RefusalLemmas.{err_is, err_passed}
 use Rattle.msi_database_changes.specs.Changes.{missing_or}
 use Rattle.msi_database_changes.specs.Database.{table_at}
-use Rattle.msi_database_changes.proofs.RefusedLemmas.{front_holds}
+use Rattle.msi_database_changes.proofs.steps.RefusedLemmas.{front_holds}
 use Rattle.msi_database_changes.specs.Drop.{drop_refusals, drop_table, early_drop_refusals}
-use Rattle.msi_database.proofs.RefusedCallLemmas.{drop_barred}
+use Rattle.msi_database.proofs.calls.RefusedCallLemmas.{drop_barred}
 use Rattle.std.proofs.lemmas.Result.{err_from_is_err_and}
 use Rattle.msi_database.proofs.database.Database.table_to_drop.Goals as goal
 

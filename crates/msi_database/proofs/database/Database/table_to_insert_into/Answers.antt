@@ -8,7 +8,7 @@ use Rattle.msi_database_schema.specs.System.{is_system_table}
 use Rattle.msi_database_changes.specs.Insert.{early_insert_refusals, insert_rows, misfit_refusals}
 use Rattle.msi_database.specs.Listed.{IsKnown}
 use Rattle.msi_database.specs.Making.{insert_of}
-use Rattle.msi_database.proofs.EarlyCallLemmas.{absent_early, insert_refused_early, first_where_err, judged_early, none_where_ok}
+use Rattle.msi_database.proofs.calls.EarlyCallLemmas.{absent_early, insert_refused_early, first_where_err, judged_early, none_where_ok}
 use Rattle.msi_database.proofs.database.Database.table_to_insert_into.Goals as goal
 
 abbrev judge : InsertQuery → List ColumnDef → Refusals

@@ -6,7 +6,7 @@ use Rattle.msi_base.specs.Refusals.{Refusals, first_refusal}
 use Rattle.msi_database_changes.specs.Update.{early_update_refusals, is_update_barred, set_refusals, update_rows}
 use Rattle.msi_database_changes.specs.RowUpdates.{update_of}
 use Rattle.msi_database.specs.Listed.{IsKnown}
-use Rattle.msi_database.proofs.EarlyCallLemmas.{absent_early, update_refused_early, first_where_err, judged_early, none_where_ok}
+use Rattle.msi_database.proofs.calls.EarlyCallLemmas.{absent_early, update_refused_early, first_where_err, judged_early, none_where_ok}
 use Rattle.msi_database.proofs.database.Database.table_to_update.Goals as goal
 
 abbrev judge : UpdateQuery → List ColumnDef → Refusals

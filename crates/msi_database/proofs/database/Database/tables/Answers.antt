@@ -1,6 +1,6 @@
 use Rattle.std.proofs.Common.{sym, ◌∙◌}
 use Rattle.std.specs.FinMap.{entries}
-use Rattle.msi_database.proofs.TablesKeptLemmas.{listed_kept}
+use Rattle.msi_database.proofs.keeping.TablesKeptLemmas.{listed_kept}
 use Rattle.msi_database.proofs.database.Database.tables.Goals as goal
 
 pub returns : goal.returns

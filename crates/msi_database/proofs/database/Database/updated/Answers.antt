@@ -10,8 +10,8 @@ use Rattle.msi_database_changes.specs.RowUpdates.{update_of}
 use Rattle.msi_database_storage.specs.Kept.{Kept}
 use Rattle.msi_database.specs.Keeping.{IsKeptDatabase}
 use Rattle.msi_database.specs.Making.{IsAnew}
-use Rattle.msi_database.proofs.RowCallLemmas.{update_called}
-use Rattle.msi_database.proofs.UpdateCallLemmas.{update_collides, update_full, update_passes}
+use Rattle.msi_database.proofs.calls.RowCallLemmas.{update_called}
+use Rattle.msi_database.proofs.calls.UpdateCallLemmas.{update_collides, update_full, update_passes}
 use Rattle.msi_database.proofs.database.Database.updated.Goals as goal
 
 pub returns-in_err-refuse_collisions-clause-kind : goal.returns-in_err-refuse_collisions-clause-kind

@@ -6,8 +6,8 @@ use Rattle.msi_database_storage.specs.Kept.{Kept}
 use Rattle.msi_database_storage.specs.Streams.{Streams}
 use Rattle.msi_database_storage.specs.Widening.{unlisted_table, with_long_rows}
 use Rattle.msi_database.specs.Keeping.{IsKeptDatabase}
-use Rattle.msi_database.proofs.WideningCallLemmas.{wide_parts}
-use Rattle.msi_database.proofs.WideRefusalLemmas.{long_pool}
+use Rattle.msi_database.proofs.widths.WideningCallLemmas.{wide_parts}
+use Rattle.msi_database.proofs.widths.WideRefusalLemmas.{long_pool}
 use Rattle.std.proofs.lemmas.Result.{err_from_is_err_and}
 use Rattle.msi_database.proofs.database.Database.widened.Goals as goal
 

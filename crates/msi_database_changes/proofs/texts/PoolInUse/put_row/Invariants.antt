@@ -1,7 +1,7 @@
 use Rattle.std.proofs.Common.{◌≡◌, length, true}
 use Rattle.std.specs.Vec.Iter.{into_iter_items, into_iter_len}
 use Rattle.msi_database_changes.specs.Texts.{cell_put, in_turn, in_use}
-use Rattle.msi_database_changes.proofs.InTurnLemmas.{from_here}
+use Rattle.msi_database_changes.proofs.steps.InTurnLemmas.{from_here}
 use Rattle.msi_database_changes.proofs.texts.PoolInUse.put_row.Given as goal
 
 abbrev pub invariant-loop-value : goal.invariant-loop-value

@@ -1,5 +1,5 @@
 use Rattle.std.proofs.Common.{sym, ◌∙◌}
-use Rattle.msi_database_changes.proofs.NarrowLemmas.{same_long}
+use Rattle.msi_database_changes.proofs.text_counts.NarrowLemmas.{same_long}
 use Rattle.msi_database_changes.proofs.texts.PoolInUse.release.Goals as goal
 
 pub invariant_of-self : goal.invariant_of-self

@@ -1,7 +1,7 @@
 use Rattle.std.proofs.Common.{◌∙◌, sym, ap}
 use Rattle.msi_base.specs.Lists.{has_pair}
 use Rattle.msi_table_cells.specs.KeyOrder.{same_key}
-use Rattle.msi_database_changes.proofs.RowUpdateLemmas.{keys_are, same_under_not}
+use Rattle.msi_database_changes.proofs.row_changes.RowUpdateLemmas.{keys_are, same_under_not}
 use Rattle.msi_database_changes.proofs.update.RowUpdate.keys_collide.Goals as goal
 
 pub returns-clause-ok : goal.returns-clause-ok

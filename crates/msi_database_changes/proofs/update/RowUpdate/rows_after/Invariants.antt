@@ -2,7 +2,7 @@ use Rattle.std.proofs.Common.{◌≡◌, length, true}
 use Rattle.std.specs.Vec.Iter.{into_iter_items, into_iter_len}
 use Rattle.msi_database_changes.specs.Texts.{in_turn, in_use}
 use Rattle.msi_database_changes.specs.Update.{row_updated}
-use Rattle.msi_database_changes.proofs.InTurnLemmas.{from_here}
+use Rattle.msi_database_changes.proofs.steps.InTurnLemmas.{from_here}
 use Rattle.msi_database_changes.proofs.update.RowUpdate.rows_after.Given as goal
 
 abbrev pub invariant-loop-row : goal.invariant-loop-row

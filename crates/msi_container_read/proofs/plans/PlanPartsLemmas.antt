@@ -1,0 +1,163 @@
+-- The plan that the parts of a file make, in the order in which they are read, and the parts of a plan.
+use Rattle.std.proofs.Common.{◌≡◌, ℕ, ◌+◌, ◌-◌, ◌*◌, ◌/◌, ◌<◌, ◌≤◌, Bool, true, false, cond, eqb, List, [], ◌++◌, length, inl, inr, sym, ◌∙◌, ap, subst, arith, refl, Vec, Global, vec_len, Result, Err}
+use Rattle.std.specs.List.{count_by}
+use Rattle.std.proofs.lemmas.List.Sums.{count_by-le-length}
+use Rattle.std.proofs.lemmas.Bool.{cases_lt}
+use Rattle.std.proofs.lemmas.List.{append_assoc, length-append, get_or_append_left, get_or-append_right, get_or-append-add}
+use Rattle.msi_base.specs.declared.errors.ErrorKind.{ErrorKind}
+use Rattle.msi_base.specs.declared.errors.ErrorKind.TheVariants.{InvalidData, OutOfMemory}
+use Rattle.msi_container_format.specs.Chains.{AreDistinct, AreBelow}
+use Rattle.msi_container_read.specs.Claims.{CanClaim, MarkedAre}
+use Rattle.msi_container_read.specs.Outcomes.{FailsByData}
+use Rattle.msi_container_format.specs.Trees.{Tree, members}
+use Rattle.msi_container_format.specs.Container.{Plan, IsPlan, IsSector, version, sector_size, streams_among, sectors_of_streams, all_sectors, IsListing}
+use Rattle.msi_container_read.specs.Reading.{mini_limit, IsStart, IsMini, AreChained}
+use Rattle.msi_container_read.proofs.chains.ClaimLemmas.{below_marked}
+
+-- WHAT CAN BE CLAIMED
+
+-- the limit tells sectors
+pub record Limits (bytes : List ℕ) (limit : ℕ) : Type 0 where
+  pub within : (n : ℕ) → n < limit → IsSector bytes n
+  pub all : (n : ℕ) → IsSector bytes n → n < limit
+
+pub below_front : (limit : ℕ) (xs ys : List ℕ) → AreBelow limit (xs ++ ys) → AreBelow limit xs
+below_front limit xs ys b = λ i l. rw (get_or_append_left xs ys 0 i l) at (b i (omega (arith, length-append xs ys)))
+
+pub below_back : (limit : ℕ) (xs ys : List ℕ) → AreBelow limit (xs ++ ys) → AreBelow limit ys
+below_back limit xs ys b = λ i l. rw (get_or-append-add xs ys i 0) at (b (length xs + i) (omega (arith, length-append xs ys)))
+
+pub below_both : (limit : ℕ) (xs ys : List ℕ) → AreBelow limit xs → AreBelow limit ys → AreBelow limit (xs ++ ys)
+below_both limit xs ys a b i l =
+    elim (cases_lt i (length xs)) [
+      | inl h ↦ rw (get_or_append_left xs ys 0 i h) (a i h)
+      | inr h ↦ rw (get_or-append_right xs ys (length xs) i 0 refl h) (b (i - length xs) (omega (arith, length-append xs ys)))
+    ]
+
+pub distinct_front : (xs ys : List ℕ) → AreDistinct (xs ++ ys) → AreDistinct xs
+distinct_front xs ys d i j l h e = d i j l (omega (arith, length-append xs ys)) (get_or_append_left xs ys 0 i (omega arith) ∙ e ∙ sym (get_or_append_left xs ys 0 j h))
+
+-- a front that can be claimed, and the rest behind it
+pub claim_front : (limit : ℕ) (used xs ys : List ℕ) → CanClaim limit used (xs ++ ys) → CanClaim limit used xs
+claim_front limit used xs ys can = record {
+  below = below_front limit xs ys can.below;
+  distinct = distinct_front (used ++ xs) ys (rw (← append_assoc used xs ys) at can.distinct);
+}
+
+pub claim_back : (limit : ℕ) (used xs ys : List ℕ) → CanClaim limit used (xs ++ ys) → CanClaim limit (used ++ xs) ys
+claim_back limit used xs ys can = record {
+  below = below_back limit xs ys can.below;
+  distinct = rw (← append_assoc used xs ys) at can.distinct;
+}
+
+-- what the claims are beside those that were there
+pub claimed_room : (marks : Vec Bool Global) (limit : ℕ) (list used c : List ℕ) → vec_len marks ≡ limit → MarkedAre marks.items list → AreDistinct list → list ≡ used ++ c → CanClaim limit used c
+claimed_room marks limit list used c e m d same =
+    let below : AreBelow limit list = λ i l. omega (arith, below_marked marks.items list m i l, marks.ok, e) in
+    record {
+      below = below_back limit used c (subst (AreBelow limit) same below);
+      distinct = subst AreDistinct same d;
+    }
+
+-- MINI SECTORS
+
+-- sectors are whole numbers of mini sectors
+pub mini_in_sector : (bytes : List ℕ) → sector_size bytes ≡ 64 * (sector_size bytes / 64)
+mini_in_sector bytes = sized (eqb (version bytes) 4)
+  where
+    sized : (b : Bool) → cond b 4096 512 ≡ 64 * (cond b 4096 512 / 64)
+    sized true = refl
+    sized false = refl
+
+pub mini_within : (bytes mini_stream : List ℕ) (m : ℕ) → m < mini_limit bytes mini_stream → 64 * m < length mini_stream * sector_size bytes
+mini_within bytes mini_stream m l =
+    let q = sector_size bytes / 64 in
+    let e : length mini_stream * sector_size bytes ≡ 64 * (length mini_stream * q) = ap (λ n. length mini_stream * n) (mini_in_sector bytes) ∙ omega arith in
+    omega arith
+
+pub mini_below : (bytes mini_stream : List ℕ) (m : ℕ) → 64 * m < length mini_stream * sector_size bytes → m < mini_limit bytes mini_stream
+mini_below bytes mini_stream m l =
+    let q = sector_size bytes / 64 in
+    let e : length mini_stream * sector_size bytes ≡ 64 * (length mini_stream * q) = ap (λ n. length mini_stream * n) (mini_in_sector bytes) ∙ omega arith in
+    omega arith
+
+-- FROM THE PARTS TO THE PLAN
+
+abbrev pub plan_of : (difat fat directory mini_fat mini_stream : List ℕ) → Tree → List (List ℕ) → Plan
+plan_of difat fat directory mini_fat mini_stream tree chains = record {
+  difat = difat;
+  fat = fat;
+  directory = directory;
+  mini_fat = mini_fat;
+  mini_stream = mini_stream;
+  tree = tree;
+  chains = chains;
+}
+
+pub to_plan : (bytes : List ℕ) (limit : ℕ) (difat fat directory mini_fat mini_stream : List ℕ) (tree : Tree) (cs : List (List ℕ))
+    → Limits bytes limit
+    → IsStart bytes limit difat fat directory
+    → IsListing bytes directory tree
+    → IsMini bytes limit (difat ++ fat ++ directory) fat directory mini_fat mini_stream
+    → AreChained bytes fat mini_fat directory mini_stream limit (difat ++ fat ++ directory ++ mini_fat ++ mini_stream) (streams_among bytes directory (members tree)) cs
+    → IsPlan bytes (plan_of difat fat directory mini_fat mini_stream tree cs)
+to_plan bytes limit difat fat directory mini_fat mini_stream tree cs limits s t m u =
+    let start = difat ++ fat ++ directory in
+    let all = start ++ mini_fat ++ mini_stream in
+    let minis = below_both limit mini_fat mini_stream (below_front limit mini_fat mini_stream m.room.below) (below_back limit mini_fat mini_stream m.room.below) in
+    let before : AreBelow limit all = rw append_assoc (below_both limit start (mini_fat ++ mini_stream) s.room.below minis) in
+    record {
+      header = s.header;
+      difat = s.difats;
+      fat = s.fats;
+      directory = s.chain;
+      listing = t;
+      mini_fat = m.table;
+      mini_stream = m.stream;
+      streams = u.chained;
+      sectors = λ i l. limits.within _ (below_both limit all (all_sectors bytes directory (streams_among bytes directory (members tree)) cs) before u.room.below i l);
+      distinct = u.room.distinct;
+      mini_sectors = λ i l. mini_within bytes mini_stream _ (u.mini_room.below i l);
+      mini_distinct = u.mini_room.distinct;
+    }
+
+-- FROM THE PLAN TO THE PARTS
+
+abbrev pub starts : Plan → List ℕ
+starts p = p.difat ++ p.fat ++ p.directory
+
+abbrev pub befores : Plan → List ℕ
+befores p = starts p ++ p.mini_fat ++ p.mini_stream
+
+room_of : (bytes : List ℕ) (limit : ℕ) (p : Plan) → Limits bytes limit → IsPlan bytes p → CanClaim limit [] (befores p ++ sectors_of_streams bytes p)
+room_of bytes limit p limits h = record { below = λ i l. limits.all _ (h.sectors i l); distinct = h.distinct }
+
+pub start_of : (bytes : List ℕ) (limit : ℕ) (p : Plan) → Limits bytes limit → IsPlan bytes p → IsStart bytes limit p.difat p.fat p.directory
+start_of bytes limit p limits h =
+    let room = room_of bytes limit p limits h in
+    let before = claim_front limit [] (befores p) (sectors_of_streams bytes p) room in
+    let fronted : CanClaim limit [] (starts p ++ (p.mini_fat ++ p.mini_stream)) = let P : List ℕ → Type 0 = λ xs. CanClaim limit [] xs in subst P (append_assoc (starts p) p.mini_fat p.mini_stream) before in
+    record { header = h.header; difats = h.difat; fats = h.fat; chain = h.directory; room = claim_front limit [] (starts p) (p.mini_fat ++ p.mini_stream) fronted }
+
+pub mini_of : (bytes : List ℕ) (limit : ℕ) (p : Plan) → Limits bytes limit → IsPlan bytes p → IsMini bytes limit (starts p) p.fat p.directory p.mini_fat p.mini_stream
+mini_of bytes limit p limits h =
+    let room = room_of bytes limit p limits h in
+    let before = claim_front limit [] (befores p) (sectors_of_streams bytes p) room in
+    let fronted : CanClaim limit [] (starts p ++ (p.mini_fat ++ p.mini_stream)) = let P : List ℕ → Type 0 = λ xs. CanClaim limit [] xs in subst P (append_assoc (starts p) p.mini_fat p.mini_stream) before in
+    record { table = h.mini_fat; stream = h.mini_stream; room = claim_back limit [] (starts p) (p.mini_fat ++ p.mini_stream) fronted }
+
+pub chained_of : (bytes : List ℕ) (limit : ℕ) (p : Plan) → Limits bytes limit → IsPlan bytes p → AreChained bytes p.fat p.mini_fat p.directory p.mini_stream limit (befores p) (streams_among bytes p.directory (members p.tree)) p.chains
+chained_of bytes limit p limits h = record {
+  chained = h.streams;
+  room = claim_back limit [] (befores p) (sectors_of_streams bytes p) (room_of bytes limit p limits h);
+  mini_room = record { below = λ i l. mini_below bytes p.mini_stream _ (h.mini_sectors i l); distinct = h.mini_distinct };
+}
+
+-- an error that isn't the data's is for want of memory
+pub memory_left : {X : Type 0} (e : ErrorKind) → FailsByData {X = X} (Err e) → (◌≡◌ {A = Result X ErrorKind} (Err e) (Err InvalidData) → ⊥) → e ≡ OutOfMemory
+memory_left e (inl d) n = absurd (n (ap Err d))
+memory_left e (inr m) n = m
+
+-- no more is claimed than there is to claim
+pub few_claimed : (marks : Vec Bool Global) (list : Vec ℕ Global) → count_by (λ b. b) marks.items ≡ vec_len list → vec_len list ≤ vec_len marks
+few_claimed marks list e = omega (arith, e, count_by-le-length (λ (b : Bool). b) marks.items, marks.ok)

@@ -1,0 +1,12 @@
+-- Calls that change rows, and what a call is accepted, refused or ended by.
+pub mod RowCallLemmas
+pub mod RowChangeLemmas
+pub mod InsertCallLemmas
+pub mod UpdateCallLemmas
+pub mod AcceptedCallLemmas
+pub mod RefusedCallLemmas
+pub mod EarlyCallLemmas
+pub mod ChangingLemmas
+pub mod FinishedChangeLemmas
+pub mod CanStoreLemmas
+pub mod StorableLemmas

@@ -1,0 +1,8 @@
+-- References that widen, and calls at both widths.
+pub mod WideningLemmas
+pub mod WideningCallLemmas
+pub mod WideRefusalLemmas
+pub mod RowsAtBothWidthsLemmas
+pub mod TablesAtBothWidthsLemmas
+pub mod CallAtBothWidthsLemmas
+pub mod CreatingAtBothWidthsLemmas
