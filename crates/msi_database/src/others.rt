@@ -49,7 +49,7 @@ impl Database {
         put_back(&mut self.streams, name, bytes);
     }
 
-    /// Takes the stream of a name that is no table's out, if there is one, and hands its bytes back. It takes no memory.
+    /// Takes out the stream of a name that is no table's, if there is one, and returns its bytes. It takes no memory.
     pub fn remove_stream(&mut self, name: &Name) -> Option<Bytes>
         requires { IsOther self.old.database name.now }
         ensures held { result ≡ stream_at name.now self.old.streams }

@@ -18,8 +18,8 @@ use msi_table::parts::{StoredRows, can_read_rows, read_rows, rows_in_place};
 use msi_table_cells::cell::ValueRef;
 use std::alloc::Global;
 
-/// Returns no bytes where the stream doesn't exist.
-pub(crate) fn stream_bytes<'a>(streams: &'a StreamMap, name: &str) -> &'a [u8]
+/// Returns the bytes of a table's stream: none where it doesn't exist.
+pub fn stream_bytes<'a>(streams: &'a StreamMap, name: &str) -> &'a [u8]
     requires { HaveShortNames (entries streams.now) }
     ensures { result.now ≡ unwrap_or (stream_at (key_of name.now) (entries streams.now)) [] }
 {

@@ -200,9 +200,9 @@ impl IndexedPlaces {
         Ok(at)
     }
 
-    /// Takes one cell from the place of a number from 1 on; its text goes with the last. The operations are counted from
-    /// 0 on, also if it fails: at most 8. Fails with `InvalidData` past the end and for a free place. If it fails, the
-    /// places and the indexes are as they were.
+    /// Takes one cell from the place of a number from 1 on; its text goes with the last. The operations are counted
+    /// from 0 on, also if it fails: at most 8. Fails with `InvalidData` past the end and for a free place. If it fails,
+    /// the places and the indexes are as they were.
     pub fn give_back(&mut self, number: u32, operations: &mut Operations) -> Result<(), Error>
         requires indexed { IsIndexed self.old }
         requires most { length self.old.places ≤ 16777215 }

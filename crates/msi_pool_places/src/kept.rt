@@ -140,8 +140,8 @@ impl KeptPlaces {
         }
     }
 
-    /// Stores a text and returns its place, counted from 0, as `IndexedPlaces::take` does. Without indexes it makes them
-    /// first, if there is room for the text.
+    /// Stores a text and returns its place, counted from 0, as `IndexedPlaces::take` does. Without indexes it makes
+    /// them first, if there is room for the text.
     pub fn take(&mut self, text: String, long: bool) -> Result<u32, Error>
         requires { IsKept self.old }
         ensures ok { IfOk result (λ at.
