@@ -3,7 +3,7 @@
 use msi::pool_streams::{
     build_from_data, read_from_pool, read_reference, write_data, write_pool, write_reference,
 };
-use msi::{CodePage, Error, ErrorKind, StringPool, StringRef};
+use msi::{CodePage, Error, ErrorKind, Operations, StringPool, StringRef};
 use std::alloc::Global;
 
 /// A pool of Windows-1252 that names `Foo` in two cells, and has a free place and long references.
@@ -30,7 +30,7 @@ fn take(alloc: Global, pool: &mut StringPool, text: &str) -> Result<StringRef, E
 
 fn is_pool(pool: &StringPool) -> Result<bool, Error> {
     match read_reference(&mut [1, 0, 0].as_slice(), pool.long_string_refs())? {
-        Some(first) => Ok(is_named(pool, first) && is_new(pool)),
+        Some(first) => Ok(is_named(pool, first) && is_of_its_page(pool)),
         None => Ok(false),
     }
 }
@@ -40,9 +40,8 @@ fn is_named(pool: &StringPool, first: StringRef) -> bool {
     is_first && pool.get(first) == "Foo" && pool.refcount(first) == 2
 }
 
-fn is_new(pool: &StringPool) -> bool {
-    let is_page = pool.codepage() == CodePage::Windows1252 && pool.is_writable();
-    is_page && pool.operations() == 0
+fn is_of_its_page(pool: &StringPool) -> bool {
+    pool.codepage() == CodePage::Windows1252 && pool.is_writable()
 }
 
 fn is_written(alloc: Global, pool: &StringPool) -> Result<bool, Error> {
@@ -57,6 +56,16 @@ fn is_written(alloc: Global, pool: &StringPool) -> Result<bool, Error> {
 fn is_made(alloc: Global) -> Result<bool, Error> {
     let pool = pool(alloc)?;
     Ok(is_pool(&pool)? && is_written(alloc, &pool)?)
+}
+
+/// Whether a pool with indexes stores a text in the free place, and counts its operations.
+fn is_counted(alloc: Global) -> Result<bool, Error> {
+    let mut operations = Operations::new();
+    let mut pool = pool(alloc)?.into_indexed()?;
+    let place = pool.incref(String::from_str(alloc, "Bar")?, &mut operations)?;
+    let is_few = operations.count() >= 1 && operations.count() <= 8;
+    let pool = pool.into_pool();
+    Ok(is_few && place.number() == 2 && pool.num_strings() == 2 && pool.get(place) == "Bar")
 }
 
 fn is_read(alloc: Global) -> Result<bool, Error> {
@@ -80,5 +89,5 @@ fn are_references(alloc: Global) -> Result<bool, Error> {
 }
 
 pub(crate) fn a_pool_is_written_and_read_back(alloc: Global) -> Result<bool, Error> {
-    Ok(is_made(alloc)? && is_read(alloc)? && are_references(alloc)?)
+    Ok(is_made(alloc)? && is_counted(alloc)? && is_read(alloc)? && are_references(alloc)?)
 }
