@@ -3,4 +3,4 @@
 pub use crate::keys::{accepted_key, checked_key};
 pub use crate::renewing::{contents_under, put_all, renewed_streams, settled_copy};
 pub use msi_container_device::parts::{fault, read_all, write_all};
-pub use msi_query::parts::{delete_parts, insert_parts, update_parts};
+pub use msi_query::parts::{deleted_rows, row_count, updated_rows};

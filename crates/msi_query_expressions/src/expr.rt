@@ -14,6 +14,7 @@ ghost use Rattle.msi_query_expressions.specs.Folding.{folded_unary, folded_binar
 ghost use Rattle.msi_query_expressions.specs.Names.{has_name};
 
 mod column_values;
+mod copying;
 mod equated;
 mod evaluation;
 pub(crate) mod filter;
@@ -23,6 +24,7 @@ mod printing;
 mod texts;
 
 pub use crate::operators::{BinaryOp, UnaryOp};
+use copying::copied;
 use equated::equated_places;
 use evaluation::operand_of;
 use folding::{fold_binary, fold_unary};
@@ -50,8 +52,8 @@ pub(crate) enum Tree<C> {
 /// An expression on rows. A contract sees its tree, without where the parts lie in memory. No operator but `and` and
 /// `or` stands over literals alone, numbers have 32 bits, and no literal stands for a stream.
 ///
-/// Evaluation, printing, `column_names` and the drop go down the tree by recursion, so its depth is bounded by the
-/// stack alone.
+/// Evaluation, printing, `clone`, `column_names` and the drop go down the tree by recursion, so its depth is bounded by
+/// the stack alone.
 pub struct Expr {
     tree: Tree<Text>,
 }
@@ -409,6 +411,18 @@ impl Expr {
         ensures memory { IsErr result → IsTrue (has_sum self.now || is_text (value_of (value_at row.now) self.now)) }
     {
         operand_of(alloc, &self.tree, row)?.into_value(alloc)
+    }
+
+    /// Returns a copy of the expression.
+    ///
+    /// # Errors
+    /// Fails with `OutOfMemory`.
+    pub fn clone(&self, alloc: Global) -> Result<Expr, Error>
+        ensures ok { IfOk result (λ expression. expression ≡ self.now) }
+        ensures kind { IfErr result (λ kind. kind ≡ OutOfMemory) }
+    {
+        let tree = copied(alloc, &self.tree)?;
+        Ok(Expr { tree })
     }
 
     /// Returns the names of the columns in the expression, each once.

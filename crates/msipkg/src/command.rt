@@ -1,16 +1,17 @@
 //! What a command asks for, made once from its words.
 
 use crate::asked::Asked;
-use msipkg_changes::{Change, Import, Manner, Merging};
+use msipkg_changes::{Change, Import, Manner, Merging, prepare_statements};
 use msipkg_checks::CheckOptions;
 use msipkg_cli::{QUERY_USAGE, Verb};
 use msipkg_export::{FileFormat, Target};
-use msipkg_format::RowFormat;
+use msipkg_format::{Failure, RowFormat};
 use msipkg_packages::Folder;
-use msipkg_show::{Form, Format, Look, Query};
+use msipkg_show::{Form, Format, Look, Query, read_query};
+use std::alloc::Global;
 
 /// A command.
-#[derive(Clone, Copy)]
+#[derive(Drop)]
 pub(crate) enum Command<'a, 'b> {
     /// It looks at the packages of files, one after the other.
     Look {
@@ -35,7 +36,7 @@ pub(crate) enum Command<'a, 'b> {
 }
 
 /// What is done with each package that a command looks at.
-#[derive(Clone, Copy)]
+#[derive(Drop)]
 pub(crate) enum Task<'a, 'b> {
     Info {
         is_json: bool,
@@ -58,13 +59,17 @@ pub(crate) enum Task<'a, 'b> {
 }
 
 impl<'a, 'b> Command<'a, 'b> {
-    pub(crate) fn of(asked: &Asked<'a, 'b>) -> Command<'a, 'b> {
+    /// Returns the command of these words. Its query or its statements are read here, before a file is opened.
+    ///
+    /// # Errors
+    /// Fails at the first text that is no query or no statement, and if memory is refused.
+    pub(crate) fn of(alloc: Global, asked: &Asked<'a, 'b>) -> Result<Command<'a, 'b>, Failure> {
         let is_json = asked.has("json");
-        match asked.verb {
+        Ok(match asked.verb {
             Verb::Info => look(asked, Task::Info { is_json }),
             Verb::Tables => look(asked, Task::Show(Look::Tables { is_json })),
             Verb::Schema => look(asked, Task::Show(schema_of(asked))),
-            Verb::Query => query_of(asked),
+            Verb::Query => query_of(alloc, asked)?,
             Verb::Streams => look(asked, Task::Show(Look::Streams { is_json })),
             Verb::Extract => look(asked, Task::Show(extract_of(asked))),
             Verb::Summary => summary_of(asked),
@@ -72,7 +77,7 @@ impl<'a, 'b> Command<'a, 'b> {
             Verb::New => new_of(asked),
             Verb::Add => Command::Change(Change::Add(asked.texts("NAME=PATH"))),
             Verb::Remove => Command::Change(remove_of(asked)),
-            Verb::Exec => exec_of(asked),
+            Verb::Exec => exec_of(alloc, asked)?,
             Verb::Export => look(asked, export_of(asked)),
             Verb::Import => Command::Change(import_of(asked)),
             Verb::Diff => Command::Diff {
@@ -80,12 +85,12 @@ impl<'a, 'b> Command<'a, 'b> {
                 is_json,
             },
             Verb::Batch => Command::Batch,
-        }
+        })
     }
 
     /// Returns the exit status of a command that failed: `diff` and `check` have 1 for what they find, and 2 where they
     /// failed.
-    pub(crate) fn failure_status(self) -> u8 {
+    pub(crate) fn failure_status(&self) -> u8 {
         match self {
             Command::Diff { .. } | Command::Incomplete(_) => 2,
             Command::Look { task, .. } => task.failure_status(),
@@ -95,7 +100,7 @@ impl<'a, 'b> Command<'a, 'b> {
 }
 
 impl<'a, 'b> Task<'a, 'b> {
-    pub(crate) fn failure_status(self) -> u8 {
+    pub(crate) fn failure_status(&self) -> u8 {
         match self {
             Task::Check { .. } => 2,
             Task::Info { .. }
@@ -138,24 +143,25 @@ fn schema_of<'a, 'b>(asked: &Asked<'a, 'b>) -> Look<'a, 'b> {
 }
 
 /// The last word is the query, and those in front of it are files.
-fn query_of<'a, 'b>(asked: &Asked<'a, 'b>) -> Command<'a, 'b> {
+fn query_of<'a, 'b>(alloc: Global, asked: &Asked<'a, 'b>) -> Result<Command<'a, 'b>, Failure> {
     let Some((text, files)) = asked.texts("FILE").split_last() else {
-        return Command::Incomplete(QUERY_USAGE);
+        return Ok(Command::Incomplete(QUERY_USAGE));
     };
     if files.is_empty() {
-        return Command::Incomplete(QUERY_USAGE);
+        return Ok(Command::Incomplete(QUERY_USAGE));
     }
     let query = Query {
         text,
+        select: read_query(alloc, text)?,
         format: format_of(asked),
         style: asked.style,
         has_files: files.len() > 1,
         for_spreadsheets: asked.has("for-spreadsheets"),
     };
-    Command::Look {
+    Ok(Command::Look {
         files,
         task: Task::Query(query),
-    }
+    })
 }
 
 /// Returns the format that was asked for, or by default aligned columns on a terminal and tab-separated lines
@@ -218,11 +224,12 @@ fn remove_of<'a, 'b>(asked: &Asked<'a, 'b>) -> Change<'a, 'b> {
     }
 }
 
-fn exec_of<'a, 'b>(asked: &Asked<'a, 'b>) -> Command<'a, 'b> {
-    match asked.option("from") {
-        Some(path) => Command::Script(path),
-        None => Command::Change(Change::Execute(asked.texts("TEXT"))),
+fn exec_of<'a, 'b>(alloc: Global, asked: &Asked<'a, 'b>) -> Result<Command<'a, 'b>, Failure> {
+    if let Some(path) = asked.option("from") {
+        return Ok(Command::Script(path));
     }
+    let statements = prepare_statements(alloc, asked.texts("TEXT"))?;
+    Ok(Command::Change(Change::Execute(statements)))
 }
 
 fn export_of<'a, 'b>(asked: &Asked<'a, 'b>) -> Task<'a, 'b> {

@@ -6,7 +6,7 @@ use crate::escapes::escapes_of;
 use crate::looking::look_at_each;
 use clap::ArgMatches;
 use clap::error::ErrorKind;
-use msipkg_changes::{Change, change_file, create_file, read_script};
+use msipkg_changes::{Change, change_file, create_file, prepare_statements, read_script};
 use msipkg_cli::{matches_of, verb_named};
 use msipkg_diff::compare_files;
 use msipkg_format::{Failure, Output, Shown, Style, System};
@@ -66,13 +66,29 @@ fn run_matched(
     let Some(asked) = asked_of(matches, is_terminal) else {
         return 2;
     };
-    let command = Command::of(&asked);
-    match carry_out(rt, &asked, command, output, errors) {
+    match Command::of(rt.alloc(), &asked) {
+        Ok(command) => run_asked(rt, &asked, command, output, errors),
+        Err(failure) => {
+            report(asked.file(), &failure, errors);
+            1
+        }
+    }
+}
+
+fn run_asked(
+    rt: &System,
+    asked: &Asked<'_, '_>,
+    command: Command<'_, '_>,
+    output: &mut Output,
+    errors: &mut Output,
+) -> u8 {
+    let failure_status = command.failure_status();
+    match carry_out(rt, asked, command, output, errors) {
         Ok(status) => status,
         Err(_) if output.is_closed() => CLOSED,
         Err(failure) => {
             report(asked.file(), &failure, errors);
-            command.failure_status()
+            failure_status
         }
     }
 }
@@ -135,7 +151,7 @@ fn obey(
     errors: &mut Output,
 ) -> Result<u8, Failure> {
     match command {
-        Command::Look { files, task } => look_at_each(rt, asked, files, task, output, errors),
+        Command::Look { files, task } => look_at_each(rt, asked, files, &task, output, errors),
         Command::Diff { other, is_json } => compare(rt, asked, other, is_json, output, errors),
         Command::New {
             kind,
@@ -150,7 +166,7 @@ fn obey(
         Command::Batch => Err(Failure::rule("batch is no command of a batch")),
         Command::Incomplete(usage) => {
             write_usage(usage, errors);
-            Ok(command.failure_status())
+            Ok(2)
         }
     }
 }
@@ -215,5 +231,6 @@ fn execute_script(
     for statement in &statements {
         texts.push(statement.as_str())?;
     }
-    change(rt, asked, Change::Execute(texts.as_slice()), output, errors)
+    let prepared = prepare_statements(rt.alloc(), texts.as_slice())?;
+    change(rt, asked, Change::Execute(prepared), output, errors)
 }

@@ -8,27 +8,19 @@ use msipkg_checks::{Checked, check_file};
 use msipkg_export::{export, export_line};
 use msipkg_format::{Failure, Output, System, failure_json};
 use msipkg_packages::Purpose;
-use msipkg_show::{LastNames, Look, check_query, print_query, show, show_info};
+use msipkg_show::{LastNames, Look, print_query, show, show_info};
 use std::alloc::Global;
 
 /// Looks at each file, and returns the greatest of their exit statuses. As JSON each file has one line, with its error
-/// as `error`. A query is refused before a file is opened.
+/// as `error`.
 pub(crate) fn look_at_each(
     rt: &System,
     asked: &Asked<'_, '_>,
     files: &[&str],
-    task: Task<'_, '_>,
+    task: &Task<'_, '_>,
     output: &mut Output,
     errors: &mut Output,
 ) -> Result<u8, Failure> {
-    match task {
-        Task::Query(query) => check_query(rt.alloc(), query.text)?,
-        Task::Info { .. }
-        | Task::Show(_)
-        | Task::Check { .. }
-        | Task::Export { .. }
-        | Task::ExportLine { .. } => {}
-    }
     let status = look_at_files(rt, asked, files, task, output, errors)?;
     match task {
         // With --each the words behind the first are files, too.
@@ -48,7 +40,7 @@ fn look_at_files(
     rt: &System,
     asked: &Asked<'_, '_>,
     files: &[&str],
-    task: Task<'_, '_>,
+    task: &Task<'_, '_>,
     output: &mut Output,
     errors: &mut Output,
 ) -> Result<u8, Failure> {
@@ -68,7 +60,7 @@ fn look_at_files(
 fn look_or_report(
     rt: &System,
     asked: &Asked<'_, '_>,
-    task: Task<'_, '_>,
+    task: &Task<'_, '_>,
     file: &str,
     names: &mut LastNames,
     output: &mut Output,
@@ -87,7 +79,7 @@ fn look_or_report(
 }
 
 /// Writes the path of a file above what `info` prints of it, if there are several files.
-fn write_head(asked: &Asked<'_, '_>, task: Task<'_, '_>, file: &str, output: &mut Output) {
+fn write_head(asked: &Asked<'_, '_>, task: &Task<'_, '_>, file: &str, output: &mut Output) {
     let is_alone = asked.texts("FILE").len() < 2;
     if !is_alone && matches!(task, Task::Info { is_json: false }) {
         writeln!(output, "file: {}", asked.style.show(file));
@@ -98,7 +90,7 @@ fn write_head(asked: &Asked<'_, '_>, task: Task<'_, '_>, file: &str, output: &mu
 fn look(
     rt: &System,
     asked: &Asked<'_, '_>,
-    task: Task<'_, '_>,
+    task: &Task<'_, '_>,
     path: &str,
     names: &mut LastNames,
     output: &mut Output,
@@ -106,20 +98,20 @@ fn look(
 ) -> Result<u8, Failure> {
     let file = asked.package(path, Purpose::Look);
     let is_well = match task {
-        Task::Info { is_json } => show_info(rt, asked.style, &file, is_json, output, errors)?,
-        Task::Show(look) => show(rt, asked.style, &file, look, output, errors)?,
+        Task::Info { is_json } => show_info(rt, asked.style, &file, *is_json, output, errors)?,
+        Task::Show(look) => show(rt, asked.style, &file, *look, output, errors)?,
         Task::Query(query) => print_query(rt, &file, query, names, output, errors)?,
         Task::Check { options, mending } => {
             if let Some(manner) = mending {
                 // Checking the package afterwards notes where its texts are still recoded.
                 let purpose = asked.purpose_of_change(Purpose::RecodeSilently);
-                mend_counts(rt, &asked.package(path, purpose), manner, errors)?;
+                mend_counts(rt, &asked.package(path, purpose), *manner, errors)?;
             }
-            return Ok(checked_status(check_file(rt, options, &file, output, errors)?));
+            return Ok(checked_status(check_file(rt, *options, &file, output, errors)?));
         }
-        Task::Export { tables, target } => export(rt, &file, tables, &target, output, errors)?,
+        Task::Export { tables, target } => export(rt, &file, tables, target, output, errors)?,
         Task::ExportLine { is_lossy } => {
-            export_line(rt, asked.style, &file, is_lossy, output, errors)?
+            export_line(rt, asked.style, &file, *is_lossy, output, errors)?
         }
     };
     Ok(u8::from(!is_well))
@@ -136,14 +128,14 @@ fn checked_status(checked: Checked) -> u8 {
 fn report_one(
     alloc: Global,
     asked: &Asked<'_, '_>,
-    task: Task<'_, '_>,
+    task: &Task<'_, '_>,
     file: &str,
     failure: &Failure,
     output: &mut Output,
     errors: &mut Output,
 ) {
     let is_json = match task {
-        Task::Info { is_json } => is_json,
+        Task::Info { is_json } => *is_json,
         Task::Check { options, .. } => options.is_json,
         Task::ExportLine { .. } => true,
         Task::Show(

@@ -3,7 +3,7 @@
 use crate::outcome::Outcome;
 use crate::pages::recode;
 use crate::recounting::{mend_first, noted};
-use crate::statements::{carry_out_statements, check_statements};
+use crate::statements::{PreparedStatement, carry_out_statements};
 use crate::storing::store;
 use crate::streams::{add_streams, remove_parts};
 use msipkg_format::Style;
@@ -14,7 +14,7 @@ use msipkg_packages::{Before, Claim, FileState, PackageFile, open_to_change, set
 use std::alloc::Global;
 
 /// A change of a package.
-#[derive(Clone, Copy)]
+#[derive(Drop)]
 pub enum Change<'a, 'b> {
     /// Files are stored as streams, each given as `NAME=PATH`.
     Add(&'b [&'a str]),
@@ -24,7 +24,7 @@ pub enum Change<'a, 'b> {
         is_signature: bool,
     },
     /// Statements are carried out.
-    Execute(&'b [&'a str]),
+    Execute(Vec<PreparedStatement<'a>>),
     /// It gets what files have.
     Import(Import<'a, 'b>),
     /// Properties of its summary are set, each given as `NAME=VALUE`, and then others are cleared.
@@ -58,13 +58,13 @@ pub struct Manner {
     pub style: Style,
 }
 
-/// Changes the package of a file: all of the change, or none of it. Statements are read before the file is, and it is
-/// locked from before it is read until it is replaced. `notes` gets lines that say what else the change does to the
-/// file, and then what each statement did; as JSON that goes to `output`.
+/// Changes the package of a file: all of the change, or none of it. The file is locked from before it is read until it
+/// is replaced. `notes` gets lines that say what else the change does to the file, and then what each statement did; as
+/// JSON that goes to `output`.
 ///
 /// # Errors
-/// Fails at the first text that is no statement, and as `Claim::take`, `open_package`, the change, `bytes_to_write` and
-/// the calls of the system do. Then the file is as it was.
+/// Fails as `Claim::take`, `open_to_change`, the change, `bytes_to_write` and the calls of the system do. Then the file
+/// is as it was.
 pub fn change_file(
     rt: &System,
     file: &PackageFile<'_>,
@@ -73,7 +73,6 @@ pub fn change_file(
     output: &mut Output,
     notes: &mut Output,
 ) -> Result<(), Failure> {
-    check_words(rt.alloc(), change)?;
     let claim = Claim::take(rt, file.path)?;
     let mut outcome = Outcome::new(rt.alloc());
     let (package, state) = changed_package(rt, file, change, manner, &mut outcome, notes)?;
@@ -107,14 +106,6 @@ fn changed_package(
     Ok((package, state))
 }
 
-fn check_words(alloc: Global, change: Change<'_, '_>) -> Result<(), Failure> {
-    match change {
-        Change::Execute(texts) => check_statements(alloc, texts),
-        Change::Add(_) | Change::Remove { .. } | Change::Import(_) | Change::Properties { .. } =>
-            Ok(()),
-    }
-}
-
 fn apply(
     rt: &System,
     file: &str,
@@ -130,7 +121,7 @@ fn apply(
             names,
             is_signature,
         } => remove_parts(rt.alloc(), package, names, is_signature),
-        Change::Execute(texts) => execute(rt.alloc(), package, texts, manner, outcome),
+        Change::Execute(statements) => { execute(rt.alloc(), package, statements, manner, outcome) }
         Change::Import(asked) => {
             let losses = &mut Losses::new(file, notes);
             import_files(rt, package, asked, manner, outcome, losses)
@@ -144,12 +135,12 @@ fn apply(
 fn execute(
     alloc: Global,
     package: &mut Package<Opened>,
-    texts: &[&str],
+    statements: Vec<PreparedStatement<'_>>,
     manner: Manner,
     outcome: &mut Outcome,
 ) -> Result<(), Failure> {
     mend_first(package, manner, outcome);
-    match carry_out_statements(alloc, package, texts, outcome) {
+    match carry_out_statements(alloc, package, statements, outcome) {
         Ok(()) => Ok(()),
         Err(failure) => Err(noted(package, failure)),
     }

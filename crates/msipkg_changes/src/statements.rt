@@ -4,64 +4,102 @@ use crate::applied::{apply_definition, apply_statement, counted};
 use crate::definition::{Definition, definition_of, is_definition};
 use crate::outcome::{Carried, Outcome};
 use msipkg_packages::add_validation;
-use msipkg_packages::msi::Package;
+use msipkg_packages::msi::{Package, Statement};
 use msipkg_packages::output::{Failure, Opened};
-use msipkg_queries::{check_statement, explained, read_statement};
+use msipkg_queries::{explained, read_statement};
 use std::alloc::Global;
 
 /// How many characters of a statement a message has at most.
 const MOST_SHOWN: usize = 200;
 
-/// Fails if one of the texts is no insert, update, delete or change of tables.
-pub(crate) fn check_statements(alloc: Global, texts: &[&str]) -> Result<(), Failure> {
-    for text in texts {
-        if let Err(failure) = check_text(alloc, text) {
-            return Err(at_statement(alloc, failure, text));
-        }
-    }
-    Ok(())
+/// A statement that was read.
+pub struct PreparedStatement<'a> {
+    /// How it is written.
+    text: &'a str,
+    work: Work<'a>,
 }
 
-/// Carries out statements in turn, and adds what each did. Fails at the first text that is no statement or whose change
-/// is refused. Those in front of it are carried out.
+/// Written out, so that a function that owns one calls one drop, and its proof doesn't go through those of the parts.
+impl Drop for PreparedStatement<'_> {
+    fn drop(self) {
+        let PreparedStatement { text: _, work: _ } = self;
+    }
+}
+
+/// What a statement asks for.
+#[derive(Drop)]
+enum Work<'a> {
+    Rows(Statement),
+    Tables(Definition<'a>),
+}
+
+/// Reads statements: inserts, updates, deletes and changes of tables.
+///
+/// # Errors
+/// Fails at the first text that is none of them, and if memory is refused.
+pub fn prepare_statements<'a>(
+    alloc: Global,
+    texts: &[&'a str],
+) -> Result<Vec<PreparedStatement<'a>>, Failure> {
+    let mut statements = Vec::with_capacity(alloc, texts.len())?;
+    for text in texts {
+        statements.push(prepared(alloc, *text)?)?;
+    }
+    Ok(statements)
+}
+
+fn prepared<'a>(alloc: Global, text: &'a str) -> Result<PreparedStatement<'a>, Failure> {
+    match work_of(alloc, text) {
+        Ok(work) => Ok(PreparedStatement { text, work }),
+        Err(failure) => Err(at_statement(alloc, failure, text)),
+    }
+}
+
+fn work_of<'a>(alloc: Global, text: &'a str) -> Result<Work<'a>, Failure> {
+    if is_definition(text) {
+        Ok(Work::Tables(definition_of(alloc, text)?))
+    } else {
+        Ok(Work::Rows(read_statement(alloc, text)?))
+    }
+}
+
+/// Carries out statements in turn, and adds what each did. Fails at the first whose change is refused. Those in front
+/// of it are carried out.
 pub(crate) fn carry_out_statements(
     alloc: Global,
     package: &mut Package<Opened>,
-    texts: &[&str],
+    statements: Vec<PreparedStatement<'_>>,
     outcome: &mut Outcome,
 ) -> Result<(), Failure> {
-    for text in texts {
-        match apply_text(alloc, package, text) {
-            Ok(carried) => outcome.add_carried(carried)?,
-            Err(failure) => return Err(at_statement(alloc, failure, text)),
-        }
+    for statement in statements {
+        outcome.add_carried(statement.carry_out(alloc, package)?)?;
     }
     Ok(())
 }
 
-fn check_text(alloc: Global, text: &str) -> Result<(), Failure> {
-    if is_definition(text) {
-        drop(definition_of(alloc, text)?);
-        Ok(())
-    } else {
-        check_statement(alloc, text)
+impl PreparedStatement<'_> {
+    fn carry_out(self, alloc: Global, package: &mut Package<Opened>) -> Result<Carried, Failure> {
+        let PreparedStatement { text, work } = self;
+        let carried = match work {
+            Work::Rows(statement) => apply_rows(alloc, package, statement, text),
+            Work::Tables(definition) => apply_tables(alloc, package, definition),
+        };
+        match carried {
+            Ok(carried) => Ok(carried),
+            Err(failure) => Err(at_statement(alloc, failure, text)),
+        }
     }
 }
 
-fn apply_text(
+fn apply_tables(
     alloc: Global,
     package: &mut Package<Opened>,
-    text: &str,
+    definition: Definition<'_>,
 ) -> Result<Carried, Failure> {
-    if is_definition(text) {
-        let definition = definition_of(alloc, text)?;
-        if matches!(definition, Definition::Create { .. }) {
-            add_validation(alloc, package)?;
-        }
-        apply_definition(package, definition)
-    } else {
-        apply_rows(alloc, package, text)
+    if matches!(definition, Definition::Create { .. }) {
+        add_validation(alloc, package)?;
     }
+    apply_definition(package, definition)
 }
 
 /// Carries out a change of rows, and returns what it did. The rows are counted first, but why that fails is reported
@@ -69,10 +107,11 @@ fn apply_text(
 fn apply_rows(
     alloc: Global,
     package: &mut Package<Opened>,
+    statement: Statement,
     text: &str,
 ) -> Result<Carried, Failure> {
-    let carried = counted(alloc, package, read_statement(alloc, text)?);
-    match apply_statement(package, read_statement(alloc, text)?) {
+    let carried = counted(package, &statement);
+    match apply_statement(package, statement) {
         Ok(()) => Ok(carried?),
         Err(failure) => Err(explained(alloc, package, text, failure)),
     }

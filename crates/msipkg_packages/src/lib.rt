@@ -37,10 +37,7 @@ pub use null_streams::{StreamColumn, has_null_streams, null_cells_in, null_cells
 pub use opening::{FileState, kind_name, new_package, open_package, open_to_change};
 pub use partial::{Looked, open_to_look};
 pub use properties::{page_of, set_properties, set_property};
-pub use recoding::{
-    PackageFile, Purpose, Recoded, file_page, has_page_zero, page_in, recoded_by_page,
-    recoded_instead,
-};
+pub use recoding::{PackageFile, Purpose, Recoded, file_page, page_in};
 pub use replacing::replace_file;
 pub use stored::{StoredStreams, stored_streams, stream_bytes};
 pub use streams::fill_stream;

@@ -1,6 +1,5 @@
 //! Packages with texts in a page that packages aren't read in: they are recoded to UTF-8 first.
 
-use crate::kinds::check_kind;
 use crate::named_pages::{NamedPages, database_page, has_utf8_texts};
 use msi::Error;
 use msi::compound::{self, Contents, StreamMap};
@@ -98,39 +97,66 @@ impl Recoded {
     }
 }
 
-/// Returns a package's bytes with its texts in UTF-8 if a page is given and the package has texts to be recoded. Such a
-/// package isn't tried as it is, since it would be read as UTF-8, in which no bytes are refused. What no package can be
-/// is refused here, before it is opened.
-///
-/// # Errors
-/// Fails as `check_kind` and `recode_file` do.
-pub fn recoded_by_page(rt: &System, file: &PackageFile<'_>) -> Result<Option<Recoded>, Failure> {
-    check_kind(rt, file.path)?;
-    match file.page {
-        Some(_) => recode_file(rt, file),
-        None => Ok(None),
-    }
+/// What a package that is changed is opened from.
+#[derive(Drop)]
+pub(crate) enum ToChange {
+    /// The bytes of its file.
+    Plain(Plain),
+    /// Bytes with its texts in UTF-8.
+    Recoded(Recoded),
 }
 
-/// Returns whether a package that is changed names page 0. One that is only looked at isn't read for that.
-///
-/// # Errors
-/// Fails if it does and has texts that aren't UTF-8: they would be read with U+FFFD, and be written so. Fails as the
-/// calls of the system do, too. A file that is no container isn't judged.
-pub fn has_page_zero(rt: &System, file: &PackageFile<'_>) -> Result<bool, Failure> {
-    if matches!(file.purpose, Purpose::Look) {
-        return Ok(false);
-    }
-    let bytes = Rc::new(rt.alloc(), rt.read(file.path)?)?;
-    match compound::read_shared(rt.alloc(), bytes) {
-        Ok(contents) => check_streams(rt.alloc(), &contents.streams),
-        Err(_) => Ok(false),
-    }
+/// The bytes of the file of a package that is changed.
+#[derive(Drop)]
+pub(crate) struct Plain {
+    pub(crate) bytes: Rc<Vec<u8>>,
+    /// Whether they name page 0.
+    pub(crate) has_page_zero: bool,
+    /// The same bytes, if the texts are to be recoded where the package isn't opened as it is.
+    pub(crate) spare: Option<Rc<Vec<u8>>>,
 }
 
-/// Returns whether these streams name page 0, and fails if they do and have texts that aren't UTF-8.
-fn check_streams(alloc: Global, streams: &StreamMap) -> Result<bool, Failure> {
-    if !matches!(database_page(alloc, streams)?, Some(0)) {
+/// Returns what the package of a file's bytes is opened from to be changed. It is recoded first if a page is given and
+/// the package has texts to be recoded. What is no container is left to opening, which refuses it.
+///
+/// # Errors
+/// Fails if the package names page 0 and has texts that aren't UTF-8, unless they are recoded: they would be read with
+/// U+FFFD, and be written so. Fails at a text that its page doesn't read, too.
+pub(crate) fn bytes_to_change(
+    alloc: Global,
+    bytes: Rc<Vec<u8>>,
+    file: &PackageFile<'_>,
+) -> Result<ToChange, Failure> {
+    let Ok(contents) = compound::read_shared(alloc, bytes.clone()?) else {
+        return Ok(ToChange::Plain(Plain {
+            bytes,
+            has_page_zero: false,
+            spare: None,
+        }));
+    };
+    let named = NamedPages::of(alloc, &contents.streams)?;
+    let pages = named.recoded_from(file.page);
+    if file.page.is_some() && !pages.is_empty() {
+        let recoded = recoded_from(alloc, contents, pages, file)?;
+        return Ok(ToChange::Recoded(recoded));
+    }
+    let has_page_zero = check_page(alloc, named, &contents.streams)?;
+    let spare = if pages.is_empty() {
+        None
+    } else {
+        Some(bytes.clone()?)
+    };
+    Ok(ToChange::Plain(Plain {
+        bytes,
+        has_page_zero,
+        spare,
+    }))
+}
+
+/// Returns whether the page that is named for these streams is 0, and fails if it is and they have texts that aren't
+/// UTF-8.
+fn check_page(alloc: Global, named: NamedPages, streams: &StreamMap) -> Result<bool, Failure> {
+    if !matches!(named.database(), Some(0)) {
         return Ok(false);
     }
     if has_utf8_texts(alloc, streams)? {
@@ -144,8 +170,7 @@ fn check_streams(alloc: Global, streams: &StreamMap) -> Result<bool, Failure> {
 /// # Errors
 /// Fails as the calls of the system do. A file that is no container names none.
 pub fn file_page(rt: &System, path: &str) -> Result<Option<i32>, Failure> {
-    let bytes = Rc::new(rt.alloc(), rt.read(path)?)?;
-    match compound::read_shared(rt.alloc(), bytes) {
+    match compound::read_shared(rt.alloc(), read_file(rt, path)?) {
         Ok(contents) => Ok(database_page(rt.alloc(), &contents.streams)?),
         Err(_) => Ok(None),
     }
@@ -159,30 +184,50 @@ pub fn page_in(alloc: Global, bytes: &[u8]) -> Result<Option<i32>, Error> {
     database_page(alloc, &compound::read(alloc, bytes)?.streams)
 }
 
+/// Returns a package's bytes with its texts in UTF-8 if a page is given and the package has texts to be recoded. Such a
+/// package isn't tried as it is, since it would be read as UTF-8, in which no bytes are refused.
+///
+/// # Errors
+/// Fails as the calls of the system do, and at a text that its page doesn't read.
+pub(crate) fn recoded_by_page(
+    rt: &System,
+    file: &PackageFile<'_>,
+) -> Result<Option<Recoded>, Failure> {
+    match file.page {
+        Some(_) => recoded_bytes(rt.alloc(), read_file(rt, file.path)?, file),
+        None => Ok(None),
+    }
+}
+
 /// Returns the bytes of a package that isn't opened as it is, for this failure, with its texts in UTF-8.
 ///
 /// # Errors
-/// Fails as `recode_file` does, and with that failure if no invalid data was found or there are no texts to be recoded.
-pub fn recoded_instead(
-    rt: &System,
+/// Fails with that failure if there are no texts to be recoded, and at a text that its page doesn't read.
+pub(crate) fn recoded_instead(
+    alloc: Global,
+    bytes: Rc<Vec<u8>>,
     file: &PackageFile<'_>,
     failure: Failure,
 ) -> Result<Recoded, Failure> {
-    if !failure.is_invalid_data() {
-        return Err(failure);
-    }
-    match recode_file(rt, file)? {
+    match recoded_bytes(alloc, bytes, file)? {
         Some(recoded) => Ok(recoded),
         None => Err(failure),
     }
 }
 
+pub(crate) fn read_file(rt: &System, path: &str) -> Result<Rc<Vec<u8>>, Failure> {
+    Ok(Rc::new(rt.alloc(), rt.read(path)?)?)
+}
+
 /// Returns a package's bytes with its texts in UTF-8, if one of its pages isn't one that packages are read in, or it is
 /// page 0 and a page is given.
-fn recode_file(rt: &System, file: &PackageFile<'_>) -> Result<Option<Recoded>, Failure> {
-    let bytes = Rc::new(rt.alloc(), rt.read(file.path)?)?;
-    match compound::read_shared(rt.alloc(), bytes) {
-        Ok(contents) => recoded_of(rt.alloc(), contents, file),
+fn recoded_bytes(
+    alloc: Global,
+    bytes: Rc<Vec<u8>>,
+    file: &PackageFile<'_>,
+) -> Result<Option<Recoded>, Failure> {
+    match compound::read_shared(alloc, bytes) {
+        Ok(contents) => recoded_of(alloc, contents, file),
         Err(_) => Ok(None),
     }
 }

@@ -1,11 +1,10 @@
 //! Packages whose summary can't be read: the rest of them, with an empty summary in its place.
 
-use crate::recoding::{PackageFile, Recoded, recoded_or_plain};
+use crate::recoding::{PackageFile, Recoded, read_file, recoded_or_plain};
 use msi::compound::{self, Bytes, Name, StreamMap};
 use msi::{Error, streamname};
 use msipkg_format::{Failure, Output, Shown, System};
 use std::alloc::Global;
-use std::rc::Rc;
 
 /// The stream of a summary without properties: the header of its form, and a section of eight bytes that lists none.
 static EMPTY: [u8; 56] = [
@@ -20,8 +19,7 @@ static EMPTY: [u8; 56] = [
 /// # Errors
 /// Fails if the file can't be read or is no container, and at a text that its page doesn't read.
 pub fn without_summary(rt: &System, file: &PackageFile<'_>) -> Result<Recoded, Failure> {
-    let bytes = Rc::new(rt.alloc(), rt.read(file.path)?)?;
-    let mut contents = compound::read_shared(rt.alloc(), bytes)?;
+    let mut contents = compound::read_shared(rt.alloc(), read_file(rt, file.path)?)?;
     empty_summary(rt.alloc(), &mut contents.streams)?;
     recoded_or_plain(rt.alloc(), contents, file)
 }

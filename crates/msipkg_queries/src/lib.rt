@@ -9,12 +9,12 @@ mod pieces;
 pub mod reading;
 pub mod reasons;
 mod rules;
+pub mod selected;
 pub mod showing;
 mod values;
-pub mod wide;
 
 pub use near::near_text;
-pub use reading::{check_statement, read_select, read_statement};
+pub use reading::{read_select, read_statement};
 pub use reasons::explained;
+pub use selected::{selected_tables, wide_select};
 pub use showing::{said, shown_value};
-pub use wide::{read_wide_select, selected_tables};

@@ -1,21 +1,22 @@
 //! Rows under the names of their columns, aligned. They are gone over twice, for the widths of the columns and to be
-//! written, so that none of their texts is kept.
+//! written, so that none of their texts is copied.
 
 use msipkg_format::{Style, Widths};
 use msipkg_packages::msi::{Column, Rows, ValueView};
 use msipkg_packages::output::{NullCells, Output, value_width, write_value};
 use std::alloc::{AllocError, Global};
 
+/// Goes over all rows that are left.
 pub(crate) fn widths_of(
     alloc: Global,
     style: Style,
-    mut rows: Rows<'_>,
+    rows: &mut Rows<'_>,
     nulls: &NullCells,
 ) -> Result<Widths, AllocError> {
     let mut widths = Widths::new(alloc, rows.columns().len())?;
     widen_by_names(style, rows.columns(), &mut widths);
     for number in 0..rows.len() {
-        widen_by_row(style, &rows, number, nulls, &mut widths);
+        widen_by_row(style, rows, number, nulls, &mut widths);
         rows.advance();
     }
     Ok(widths)

@@ -19,5 +19,5 @@ mod tables;
 
 pub use info::show_info;
 pub use look::{Look, show};
-pub use query::{Format, LastNames, Query, check_query, print_query};
+pub use query::{Format, LastNames, Query, print_query, read_query};
 pub use schema::Form;

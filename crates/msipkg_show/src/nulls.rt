@@ -1,25 +1,25 @@
 //! The null cells of the columns of streams that a query selects.
 
-use msipkg_packages::msi::{Column, Package, Table};
+use msipkg_packages::msi::{Column, Package, Select, Table};
 use msipkg_packages::output::{Failure, NullCells, Opened};
 use msipkg_packages::{StreamColumn, has_null_streams, null_cells_in};
-use msipkg_queries::{read_wide_select, selected_tables};
+use msipkg_queries::{selected_tables, wide_select};
 use std::alloc::{AllocError, Global};
 
-/// Returns the null cells of the rows that the query of a text selects, which have these columns. The rows are gone
-/// over, with all columns, only if one that is selected may have such cells. Those of a table whose key a query in
-/// brackets leaves out aren't known.
+/// Returns the null cells of the rows that a query selects, which have these columns. The rows are gone over, with all
+/// columns, only if one that is selected may have such cells. Those of a table whose key a query in brackets leaves out
+/// aren't known.
 pub(crate) fn null_cells(
     alloc: Global,
     package: &Package<Opened>,
-    text: &str,
+    query: &Select,
     columns: &[Column],
 ) -> Result<NullCells, Failure> {
     if !columns.iter().any(|column| has_null_streams(column)) {
         return Ok(NullCells::new(alloc));
     }
-    let rows = package.select_rows(read_wide_select(alloc, text)?)?;
-    let tables = selected_tables(alloc, package, text)?;
+    let rows = package.select_rows(wide_select(alloc, query)?)?;
+    let tables = selected_tables(alloc, package, query)?;
     let streams = stream_columns(alloc, columns, rows.columns(), tables.as_slice())?;
     Ok(null_cells_in(alloc, package, streams.as_slice(), rows)?)
 }

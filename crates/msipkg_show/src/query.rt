@@ -3,7 +3,7 @@
 use crate::aligned::{widths_of, write_aligned};
 use crate::nulls::null_cells;
 use msipkg_format::Style;
-use msipkg_packages::msi::{Column, Package, Rows};
+use msipkg_packages::msi::{Column, Package, Rows, Select};
 use msipkg_packages::output::{
     Failure, Opened, Output, RowFormat, RowPrinting, System, write_rows,
 };
@@ -42,14 +42,30 @@ impl Format {
 }
 
 /// A query, and how its rows are printed.
-#[derive(Clone, Copy)]
 pub struct Query<'a> {
+    /// How it is written.
     pub text: &'a str,
+    /// What it selects.
+    pub select: Select,
     pub format: Format,
     pub style: Style,
     /// Whether each row has its file in front, since there are several.
     pub has_files: bool,
     pub for_spreadsheets: bool,
+}
+
+/// Written out, so that a function that owns one calls one drop, and its proof doesn't go through those of the parts.
+impl Drop for Query<'_> {
+    fn drop(self) {
+        let Query {
+            text: _,
+            select: _,
+            format: _,
+            style: _,
+            has_files: _,
+            for_spreadsheets: _,
+        } = self;
+    }
 }
 
 /// The names of the columns of the rows that were printed last.
@@ -90,16 +106,13 @@ impl LastNames {
     }
 }
 
-/// Fails if a text spells no query for rows.
+/// Reads the text of a query for rows.
 ///
 /// # Errors
 /// Fails at the text, with the rule that it breaks, and with `OutOfMemory`.
-pub fn check_query(alloc: Global, text: &str) -> Result<(), Failure> {
+pub fn read_query(alloc: Global, text: &str) -> Result<Select, Failure> {
     match read_select(alloc, text) {
-        Ok(query) => {
-            drop(query);
-            Ok(())
-        }
+        Ok(select) => Ok(select),
         Err(failure) => Err(failure.at(alloc, "query", text)),
     }
 }
@@ -112,7 +125,7 @@ pub fn check_query(alloc: Global, text: &str) -> Result<(), Failure> {
 pub fn print_query(
     rt: &System,
     file: &PackageFile<'_>,
-    query: Query<'_>,
+    query: &Query<'_>,
     names: &mut LastNames,
     output: &mut Output,
     notes: &mut Output,
@@ -128,12 +141,12 @@ fn write_selected(
     alloc: Global,
     file: &str,
     package: &Package<Opened>,
-    query: Query<'_>,
+    query: &Query<'_>,
     names: &mut LastNames,
     output: &mut Output,
 ) -> Result<(), Failure> {
-    let rows = selected(alloc, package, query.text)?;
-    let nulls = null_cells(alloc, package, query.text, rows.columns())?;
+    let mut rows = selected(alloc, package, query)?;
+    let nulls = null_cells(alloc, package, &query.select, rows.columns())?;
     match query.format {
         Format::Rows(format) => {
             let printing = RowPrinting {
@@ -146,8 +159,8 @@ fn write_selected(
             write_rows(alloc, printing, rows, &nulls, output)
         }
         Format::Table => {
-            let widths = widths_of(alloc, query.style, rows, &nulls)?;
-            let rows = selected(alloc, package, query.text)?;
+            let widths = widths_of(alloc, query.style, &mut rows, &nulls)?;
+            rows.rewind();
             write_head(file, query, output);
             write_aligned(query.style, &widths, rows, &nulls, output);
             Ok(())
@@ -156,7 +169,7 @@ fn write_selected(
 }
 
 /// Writes the path of the file above its table, if there are several.
-fn write_head(file: &str, query: Query<'_>, output: &mut Output) {
+fn write_head(file: &str, query: &Query<'_>, output: &mut Output) {
     if query.has_files {
         writeln!(output, "file: {}", query.style.show(file));
     }
@@ -165,10 +178,10 @@ fn write_head(file: &str, query: Query<'_>, output: &mut Output) {
 fn selected<'a>(
     alloc: Global,
     package: &'a Package<Opened>,
-    text: &str,
+    query: &Query<'_>,
 ) -> Result<Rows<'a>, Failure> {
-    match package.select_rows(read_select(alloc, text)?) {
+    match package.select_rows(query.select.clone(alloc)?) {
         Ok(rows) => Ok(rows),
-        Err(error) => Err(explained(alloc, package, text, Failure::from(error))),
+        Err(error) => Err(explained(alloc, package, query.text, Failure::from(error))),
     }
 }

@@ -4,11 +4,12 @@ ghost use Rattle.std.specs.Prelude.{◌≡◌, ◌≤◌, IfOk, None, false, len
 
 use crate::system::SystemFile;
 use msi_container_device::Source;
-use std::io::{self, Cursor, Read};
+use std::io::{self, Read};
+use std::rc::Rc;
 
-/// What a package lies on: its file, or the bytes of one that was recoded or is new. All packages are over this type,
-/// whether they are looked at, changed or new, so that what is made of their code is made once. It isn't written to:
-/// what a file gets is what `Package::image` returns.
+/// What a package lies on: its file, or bytes in memory. All packages are over this type, whether they are looked at,
+/// changed or new, so that what is made of their code is made once. It isn't written to: what a file gets is what
+/// `Package::image` returns.
 pub type Opened = Carrier;
 
 /// Where a package is read from.
@@ -16,8 +17,40 @@ pub type Opened = Carrier;
 pub enum Origin {
     /// Its file.
     File(SystemFile),
-    /// The bytes of one that was recoded or is new.
-    Memory(Cursor<Vec<u8>>),
+    /// Bytes: those of a file that is changed, which were read already, or of a package that was recoded or is new.
+    Memory { bytes: Rc<Vec<u8>>, place: usize },
+    /// Bytes that were read to their end, and are freed.
+    Spent,
+}
+
+impl Origin {
+    /// Returns the origin of a package that is read from these bytes.
+    pub fn of_bytes(bytes: Rc<Vec<u8>>) -> Origin {
+        Origin::Memory { bytes, place: 0 }
+    }
+
+    fn read_on(&mut self, buf: &mut [u8]) -> io::Result<usize>
+        ensures count { IfOk result (λ n. n ≤ length buf.old) }
+    {
+        match self {
+            Origin::File(file) => file.read(buf),
+            Origin::Memory { bytes, place } => {
+                let mut rest = bytes.as_slice().get(*place..).unwrap_or(&[]);
+                let count = rest.read(buf)?;
+                *place = place.saturating_add(count);
+                Ok(count)
+            }
+            Origin::Spent => Ok(0),
+        }
+    }
+
+    /// Frees bytes in memory: a package that has read them has its own.
+    fn end(&mut self) {
+        match self {
+            Origin::File(_) | Origin::Spent => {}
+            Origin::Memory { .. } => *self = Origin::Spent,
+        }
+    }
 }
 
 /// What a package is read from, once, from its beginning on. Contracts don't see its bytes.
@@ -33,16 +66,6 @@ impl Carrier {
         Carrier {
             origin,
             has_failed: false,
-        }
-    }
-
-    fn read_on(&mut self, buf: &mut [u8]) -> io::Result<usize>
-        ensures count { IfOk result (λ n. n ≤ length buf.old) }
-        ensures failed { self.new.has_failed ≡ self.old.has_failed }
-    {
-        match &mut self.origin {
-            Origin::File(file) => file.read(buf),
-            Origin::Memory(bytes) => bytes.read(buf),
         }
     }
 }
@@ -71,8 +94,11 @@ impl Source for Carrier {
     }
 
     fn read(&mut self, buf: &mut [u8]) -> io::Result<usize> {
-        let answer = self.read_on(buf);
+        let answer = self.origin.read_on(buf);
         self.has_failed |= answer.is_err();
+        if matches!(answer, Ok(0)) {
+            self.origin.end();
+        }
         answer
     }
 }

@@ -51,6 +51,16 @@ impl Clauses {
         }
     }
 
+    /// Selects all columns of the rows that meet a condition, if there is one.
+    pub(crate) fn of_condition(alloc: Global, condition: Option<Expr>) -> Clauses
+        ensures { result ≡ record no_clauses { condition = condition } }
+    {
+        Clauses {
+            columns: Items::from_vec(Vec::new(alloc)),
+            condition,
+        }
+    }
+
     /// Returns the columns that are selected; if there is none, all are.
     pub fn columns(&self) -> &[Text]
         ensures { result.now ≡ self.now.columns }
@@ -63,6 +73,15 @@ impl Clauses {
         ensures { option_copied result ≡ self.now.condition }
     {
         self.condition.as_ref()
+    }
+
+    pub(crate) fn clone(&self, alloc: Global) -> Result<Clauses, Error>
+        ensures ok { IfOk result (λ clauses. clauses ≡ self.now) }
+        ensures kind { IfErr result (λ kind. kind ≡ OutOfMemory) }
+    {
+        let columns = copied_names(alloc, self.columns())?;
+        let condition = copied_condition(alloc, self.condition())?;
+        Ok(Clauses { columns, condition })
     }
 
     pub(crate) fn keep_all(&self) -> bool
@@ -95,5 +114,29 @@ impl Clauses {
             columns,
             condition: Some(both),
         })
+    }
+}
+
+fn copied_names(alloc: Global, names: &[Text]) -> Result<Items<Text>, Error>
+    ensures ok { IfOk result (λ copies. copies ≡ names.now) }
+    ensures kind { IfErr result (λ kind. kind ≡ OutOfMemory) }
+{
+    let mut copies = Vec::with_capacity(alloc, names.len())?;
+    for name in names {
+        copies.push(name.clone(alloc)?)?;
+    }
+    Ok(Items::from_vec(copies))
+}
+
+pub(crate) fn copied_condition(
+    alloc: Global,
+    condition: Option<&Expr>,
+) -> Result<Option<Expr>, Error>
+    ensures ok { IfOk result (λ copy. copy ≡ option_copied condition.entry) }
+    ensures kind { IfErr result (λ kind. kind ≡ OutOfMemory) }
+{
+    match condition {
+        Some(condition) => Ok(Some(condition.clone(alloc)?)),
+        None => Ok(None),
     }
 }

@@ -2,12 +2,13 @@
 
 ghost use Rattle.std.specs.Prelude.{◌≡◌, IfOk, IfErr, None};
 ghost use Rattle.msi_base.specs.declared.errors.ErrorKind.TheVariants.{OutOfMemory};
-ghost use Rattle.msi_query.specs.Queries.{narrowed as narrowed_by};
+ghost use Rattle.msi_query.specs.Queries.{narrowed as narrowed_by, no_clauses, table};
 ghost use Rattle.msi_query.specs.QueryTexts.{delete_text};
 ghost use Rattle.msi_query.specs.Utf8Queries.{IsUtf8Delete};
 
 use super::narrowed;
 use super::printing::{write_condition, write_named};
+use super::select::Select;
 use super::texts::look_at_condition;
 use msi_base::errors::Error;
 use msi_base::laws::texts_are_utf8;
@@ -90,6 +91,14 @@ impl Delete {
             table,
             condition: Some(both),
         })
+    }
+
+    pub(crate) fn rows_met(&self) -> Result<Select, Error>
+        ensures ok { IfOk result (λ query. query
+            ≡ table self.now.table (record no_clauses { condition = self.now.condition })) }
+        ensures kind { IfErr result (λ kind. kind ≡ OutOfMemory) }
+    {
+        Select::of_rows(self.alloc, &self.table, self.condition.as_ref())
     }
 
     pub(crate) fn look_at_texts(&self)

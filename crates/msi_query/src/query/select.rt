@@ -9,7 +9,7 @@ ghost use Rattle.msi_query.specs.QueryTrees.{query_of};
 ghost use Rattle.msi_query.specs.Utf8Queries.{IsUtf8Query};
 
 use super::JoinKind;
-use super::clauses::Clauses;
+use super::clauses::{Clauses, copied_condition};
 use super::printing::{write_condition, write_name_list};
 use super::texts::look_at_tree;
 use msi_base::errors::Error;
@@ -41,7 +41,8 @@ pub enum SelectTree {
 
 /// A query for rows. A contract sees its tree.
 ///
-/// Printing and the drop go down the joins by recursion, so how deep they may nest is bounded by the stack alone.
+/// Printing, `clone` and the drop go down the joins by recursion, so how deep they may nest is bounded by the stack
+/// alone.
 pub struct Select {
     alloc: Global,
     tree: SelectTree,
@@ -80,6 +81,24 @@ impl Select {
     {
         let name = name.into_text(alloc)?;
         let clauses = Clauses::new(alloc);
+        Ok(Select {
+            alloc,
+            tree: SelectTree::Table { name, clauses },
+        })
+    }
+
+    /// Starts a query for the rows of a table for which a condition holds, with all columns.
+    pub(crate) fn of_rows(
+        alloc: Global,
+        name: &Text,
+        condition: Option<&Expr>,
+    ) -> Result<Select, Error>
+        ensures ok { IfOk result (λ query. query
+            ≡ table name.now (record no_clauses { condition = option_copied condition.entry })) }
+        ensures kind { IfErr result (λ kind. kind ≡ OutOfMemory) }
+    {
+        let name = name.clone(alloc)?;
+        let clauses = Clauses::of_condition(alloc, copied_condition(alloc, condition)?);
         Ok(Select {
             alloc,
             tree: SelectTree::Table { name, clauses },
@@ -198,6 +217,18 @@ impl Select {
         Ok(Select { alloc, tree })
     }
 
+    /// Returns a copy of the query.
+    ///
+    /// # Errors
+    /// Fails with `OutOfMemory`.
+    pub fn clone(&self, alloc: Global) -> Result<Select, Error>
+        ensures ok { IfOk result (λ query. query ≡ self.now) }
+        ensures kind { IfErr result (λ kind. kind ≡ OutOfMemory) }
+    {
+        let tree = copied(alloc, &self.tree)?;
+        Ok(Select { alloc, tree })
+    }
+
     pub(crate) fn look_at_texts(&self)
         ensures { IsUtf8Query self.now }
     {
@@ -220,6 +251,40 @@ impl SelectTree {
             _ => None,
         }
     }
+}
+
+#[cycle(copying)]
+fn copied(alloc: Global, tree: &SelectTree) -> Result<SelectTree, Error>
+    ensures ok { IfOk result (λ copy. query_of copy ≡ query_of tree.now) }
+    ensures kind { IfErr result (λ kind. kind ≡ OutOfMemory) }
+{
+    Ok(match tree {
+        SelectTree::Table { name, clauses } => SelectTree::Table {
+            name: name.clone(alloc)?,
+            clauses: clauses.clone(alloc)?,
+        },
+        SelectTree::Join {
+            kind,
+            left,
+            right,
+            on,
+            clauses,
+        } => SelectTree::Join {
+            kind: *kind,
+            left: copied_in_box(alloc, left)?,
+            right: copied_in_box(alloc, right)?,
+            on: on.clone(alloc)?,
+            clauses: clauses.clone(alloc)?,
+        },
+    })
+}
+
+#[cycle(copying)]
+fn copied_in_box(alloc: Global, tree: &SelectTree) -> Result<Box<SelectTree>, Error>
+    ensures ok { IfOk result (λ copy. query_of copy.value ≡ query_of tree.now) }
+    ensures kind { IfErr result (λ kind. kind ≡ OutOfMemory) }
+{
+    Ok(Box::new(alloc, copied(alloc, tree)?)?)
 }
 
 fn join_words(kind: JoinKind) -> &'static str

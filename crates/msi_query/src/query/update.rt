@@ -3,12 +3,13 @@
 ghost use Rattle.std.specs.Prelude.{◌≡◌, ◌++◌, ◌∷◌, [], IfOk, IfErr, None};
 ghost use Rattle.std.specs.Fmt.{DisplaysOnOk};
 ghost use Rattle.msi_base.specs.declared.errors.ErrorKind.TheVariants.{OutOfMemory};
-ghost use Rattle.msi_query.specs.Queries.{narrowed as narrowed_by};
+ghost use Rattle.msi_query.specs.Queries.{narrowed as narrowed_by, no_clauses, table};
 ghost use Rattle.msi_query.specs.QueryTexts.{sets_text, update_text};
 ghost use Rattle.msi_query.specs.Utf8Queries.{IsUtf8Update};
 
 use super::narrowed;
 use super::printing::{write_condition, write_list, write_named};
+use super::select::Select;
 use super::texts::{look_at_condition, look_at_sets};
 use msi_base::errors::Error;
 use msi_base::laws::texts_are_utf8;
@@ -126,6 +127,14 @@ impl Update {
             sets,
             condition: Some(both),
         })
+    }
+
+    pub(crate) fn rows_met(&self) -> Result<Select, Error>
+        ensures ok { IfOk result (λ query. query
+            ≡ table self.now.table (record no_clauses { condition = self.now.condition })) }
+        ensures kind { IfErr result (λ kind. kind ≡ OutOfMemory) }
+    {
+        Select::of_rows(self.alloc, &self.table, self.condition.as_ref())
     }
 
     pub(crate) fn look_at_texts(&self)
