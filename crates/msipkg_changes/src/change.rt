@@ -7,10 +7,10 @@ use crate::statements::{PreparedStatement, carry_out_statements};
 use crate::storing::store;
 use crate::streams::{add_streams, remove_parts};
 use msipkg_format::Style;
-use msipkg_import::{Losses, Merging, import_given, note_losses, read_files};
+use msipkg_import::{Before, Losses, Merging, import_given, note_losses, read_files};
 use msipkg_packages::msi::Package;
 use msipkg_packages::output::{Failure, Opened, Output, System};
-use msipkg_packages::{Before, Claim, FileState, PackageFile, open_to_change, set_properties};
+use msipkg_packages::{Claim, FileState, PackageFile, open_to_change, set_properties};
 use std::alloc::Global;
 
 /// A change of a package.

@@ -1,7 +1,7 @@
 //! What a change did, which is said once the file is written.
 
 use msipkg_format::{JsonObject, Shown, Style};
-use msipkg_packages::Added;
+use msipkg_import::Added;
 use msipkg_packages::output::Output;
 use std::alloc::{AllocError, Global};
 

@@ -3,7 +3,7 @@
 use crate::applied::{apply_definition, apply_statement, counted};
 use crate::definition::{Definition, definition_of, is_definition};
 use crate::outcome::{Carried, Outcome};
-use msipkg_packages::add_validation;
+use msipkg_import::add_validation;
 use msipkg_packages::msi::{Package, Statement};
 use msipkg_packages::output::{Failure, Opened};
 use msipkg_queries::{explained, read_statement};

@@ -1,6 +1,6 @@
 //! Descriptions of columns for people, which `_Validation` has.
 
-use msipkg_packages::VALIDATION;
+use crate::validation::VALIDATION;
 use msipkg_packages::msi::{Error, Expr, Package, Update, Value};
 use msipkg_packages::output::{Failure, Opened};
 use std::alloc::Global;

@@ -20,8 +20,10 @@ mod rows;
 mod rules;
 mod summary;
 mod tables;
+pub mod validation;
 
 pub use given::{Given, GivenColumn, GivenProperty, GivenStream, GivenTable};
 pub use importing::{Merging, import_given};
 pub use losses::{Losses, note_losses};
 pub use reading::read_files;
+pub use validation::{Added, Before, add_validation};

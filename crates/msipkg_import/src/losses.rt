@@ -3,10 +3,11 @@
 use crate::given::GivenTable;
 use crate::rows::{columns_of, package_rows};
 use crate::rules::has_category;
+use crate::validation::VALIDATION;
 use msipkg_format::Shown;
 use msipkg_packages::msi::{Category, Column, Package, Row, Value};
 use msipkg_packages::output::{Failure, Opened, Output};
-use msipkg_packages::{VALIDATION, rows_of};
+use msipkg_packages::rows_of;
 use std::alloc::{AllocError, Global};
 use std::collections::BTreeMap;
 

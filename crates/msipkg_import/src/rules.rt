@@ -2,7 +2,7 @@
 
 use crate::given::GivenTable;
 use crate::rows::package_rows;
-use msipkg_packages::VALIDATION;
+use crate::validation::VALIDATION;
 use msipkg_packages::msi::{Category, Column, Value};
 use msipkg_packages::output::Failure;
 use std::alloc::Global;

@@ -7,9 +7,10 @@ use crate::importing::Merging;
 use crate::merger::merged_rows;
 use crate::rows::{check_rows, columns_of, package_rows};
 use crate::rules::rules_of;
+use crate::validation::{VALIDATION, add_validation, copied_rows};
+use msipkg_packages::check_reserved;
 use msipkg_packages::msi::{Delete, Error, Insert, Package, Value};
 use msipkg_packages::output::{Failure, Opened};
-use msipkg_packages::{VALIDATION, add_validation, check_reserved, copied_rows};
 use std::alloc::Global;
 
 /// Adds tables with their rows. Rows of `_Validation` say more of columns, and aren't stored themselves. All tables are

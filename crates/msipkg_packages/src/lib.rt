@@ -22,7 +22,6 @@ pub mod summary_texts;
 pub mod tables;
 pub mod unlisted;
 pub mod unread_summary;
-pub mod validation;
 
 pub use claim::Claim;
 pub use file_bytes::{
@@ -45,4 +44,3 @@ pub use summary_texts::{property_text, set_property_text, uuid_text};
 pub use tables::{cell_text, check_reserved, chosen_tables, is_list, rows_of, table_named};
 pub use unlisted::TableNames;
 pub use unread_summary::{note_summary, without_summary};
-pub use validation::{Added, Before, VALIDATION, add_validation, copied_rows};

@@ -1,13 +1,10 @@
 //! Packages without `_Validation`, in which the library creates no table: before a table is created, such a package is
 //! made anew as one that has it.
 
-use crate::opening::new_package;
-use crate::output::{Failure, Opened, Output, System};
-use crate::streams::fill_stream;
-use crate::tables::{is_list, rows_of};
-use crate::unlisted::TableNames;
-use msi::{Column, Error, Insert, Package, Row, Table, Value};
 use msipkg_format::Shown;
+use msipkg_packages::msi::{Column, Error, Insert, Package, Row, Table, Value};
+use msipkg_packages::output::{Failure, Opened, Output, System};
+use msipkg_packages::{TableNames, fill_stream, is_list, new_package, rows_of};
 use std::alloc::{AllocError, Global};
 use std::mem;
 
