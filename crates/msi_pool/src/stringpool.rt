@@ -7,8 +7,8 @@ mod reference;
 mod writable;
 pub(crate) mod writing;
 
-pub use msi_pool_places::{MAX_CELLS, MAX_PLACES, MAX_SHORT_PLACES, Operations};
 pub use indexed::IndexedPool;
+pub use msi_pool_places::{MAX_CELLS, MAX_PLACES, MAX_SHORT_PLACES, Operations};
 pub use pool::StringPool;
 pub use reading::StringPoolBuilder;
 pub use reference::StringRef;

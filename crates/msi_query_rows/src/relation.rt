@@ -2,7 +2,7 @@
 
 ghost use Rattle.std.specs.Prelude.{◌≡◌, IfOk};
 ghost use Rattle.msi_base.specs.Results.{OnlyMemory};
-ghost use Rattle.msi_table.specs.Rows.{AreAsWide};
+ghost use Rattle.msi_table.specs.Rows.{AreAsWide, rows_from};
 
 use msi_base::errors::Error;
 use msi_base::text::{Items, Text};
@@ -89,8 +89,7 @@ impl Relation {
         pool: &'a StringPool,
     ) -> Result<Rows<'a>, Error>
         requires { AreAsWide self.columns self.rows }
-        ensures ok { IfOk result (λ rows.
-            rows ≡ record { columns = self.columns; places = pool.now.places; rows = self.rows }) }
+        ensures ok { IfOk result (λ rows. rows ≡ rows_from self.columns pool.now.places self.rows) }
         ensures kind { OnlyMemory result }
     {
         let Relation {

@@ -77,11 +77,7 @@ impl IndexedPool {
     /// # Errors
     /// Fails with `InvalidInput` if the pool is full, and otherwise with `OutOfMemory`. Then the pool is as it was, and
     /// the text is dropped.
-    pub fn incref(
-        &mut self,
-        text: String,
-        operations: &mut Operations,
-    ) -> Result<StringRef, Error>
+    pub fn incref(&mut self, text: String, operations: &mut Operations) -> Result<StringRef, Error>
         ensures ok { IfOk result (λ number.
             taken self.old.long self.old.places (string_bytes text) ≡ Some (number, self.new.places)) }
         ensures kind { let room = is_some (taken self.old.long self.old.places (string_bytes text)) in

@@ -8,7 +8,8 @@ invariant_of-self-2 c =
     let long = c.self.inside.long in
     let before = c.self.inside.places.places in
     let after = c.take.new.self.places in
-    let text = string_bytes c.args.text in
-    (c.take.ensures.indexed,
+    let text = string_bytes c.args.text in (
+      c.take.ensures.indexed,
       taken_most long before after text (c.in_ok-at.at + 1) c.in_ok-at.ensures.ok c.self.invariant.1,
-      (taken_in_range long before after text (c.in_ok-at.at + 1) c.in_ok-at.ensures.ok).1 c.self.invariant.2)
+      (taken_in_range long before after text (c.in_ok-at.at + 1) c.in_ok-at.ensures.ok).1 c.self.invariant.2,
+    )
