@@ -7,7 +7,6 @@ pub use Rattle.msi_database.specs.Dropping
 pub use Rattle.msi_database.specs.OwnStreams
 pub use Rattle.msi_database.specs.Others
 pub use Rattle.msi_database.specs.Fresh
-pub use Rattle.msi_database.specs.Fresh as FreshDatabases
 pub use Rattle.msi_database.specs.FreshParts
 pub use Rattle.msi_database_storage.specs.Reading
 pub use Rattle.msi_database.specs.Creating

@@ -9,7 +9,7 @@ use Rattle.msi_container_format.specs.Names.{name_cmp}
 use Rattle.msi_container_write.specs.Image.{least_total}
 use Rattle.msi_container_write.specs.Layout.{refuses, taken_by}
 use Rattle.msi_database.proofs.RefusedLemmas.{same_Ok}
-use Rattle.msi_database.proofs.ShownLemmas.{ok_first}
+use Rattle.msi_database.proofs.ShownTablesLemmas.{ok_first}
 use Rattle.msi_database_storage.specs.Streams.{Streams}
 use Rattle.msi.specs.declared.kinds.PackageType.{PackageType}
 use Rattle.msi.specs.declared.kinds.PackageType.TheVariants as kind

@@ -7,7 +7,7 @@ use Rattle.msi_base.specs.declared.errors.ErrorKind.TheVariants.{InvalidInput}
 use Rattle.msi_base.specs.Refusals.{unless_refused, or_refused, ◌>>=◌}
 use Rattle.msi_database.proofs.RefusedLemmas.{not_refused, first_fails}
 use Rattle.msi_container_write.specs.Layout.{layout, refuses}
-use Rattle.msi_database.proofs.ShownLemmas.{ok_first}
+use Rattle.msi_database.proofs.ShownTablesLemmas.{ok_first}
 use Rattle.msi_database_storage.specs.Streams.{Streams}
 use Rattle.msi.specs.State.{State, parts_of}
 use Rattle.msi.specs.Meaning.{IsPackage, Means, OpensTo}

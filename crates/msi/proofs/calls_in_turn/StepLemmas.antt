@@ -19,7 +19,7 @@ use Rattle.msi_database.specs.Drop.{drop_table}
 use Rattle.msi_database.specs.RecountedDatabases.{counts_changed, recount, recount_refusals}
 use Rattle.msi_database.specs.Laws.{IsChange, IsTableChange, inserted, updated, deleted, created, dropped}
 use Rattle.msi_database.proofs.RefusedLemmas.{not_refused, value_there}
-use Rattle.msi_database.proofs.ShownLemmas.{ok_first}
+use Rattle.msi_database.proofs.ShownTablesLemmas.{ok_first}
 use Rattle.msi_database_storage.specs.Streams.{Streams, with_stream, without_stream}
 use Rattle.msi.specs.State.{Parts, State, parts_of}
 use Rattle.msi.specs.Meaning.{IsPackage}

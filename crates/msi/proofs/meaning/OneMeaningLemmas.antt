@@ -18,7 +18,7 @@ use Rattle.msi_container_format.specs.declared.contents.Contents.{Contents}
 use Rattle.msi_database_schema.specs.Keys.{table_key, summary_key, string_pool_name, string_data_name}
 use Rattle.msi_database_schema.specs.System.{validation_name, validation_columns}
 use Rattle.msi_database.specs.Database.{Database, Tables, has_table, columns_by_name}
-use Rattle.msi_database.proofs.ShownLemmas.{columns_shown}
+use Rattle.msi_database.proofs.ShownTablesLemmas.{columns_shown}
 use Rattle.msi_database_storage.specs.Streams.{Streams, stream_at, stored_rows}
 use Rattle.msi_database_storage.specs.Agreement.{TablesAre, UnlistedIs, is_shown, schema_rows, schema_in}
 use Rattle.msi.specs.declared.kinds.PackageType.{PackageType}

@@ -22,7 +22,7 @@ use Rattle.msi_database.proofs.InsertLemmas.{insert_parts}
 use Rattle.msi_database.proofs.UpdateLemmas.{update_parts}
 use Rattle.msi_database.proofs.DeleteLemmas.{delete_parts}
 use Rattle.msi_database.proofs.RefusedLemmas.{first_fails}
-use Rattle.msi_database.proofs.ShownLemmas as steps
+use Rattle.msi_database.proofs.ShownTablesLemmas as steps
 use Rattle.msi_database.proofs.ShownChangesLemmas.{dropped_parts}
 use Rattle.msi_database_storage.specs.Kept.{Kept, base_of, kept_widened}
 use Rattle.msi_database_storage.specs.Streams.{Streams, stored_streams, stream_at, with_stream, without_stream}
