@@ -58,8 +58,8 @@ two_rows : insert_text (record { table = codes "T"; columns = []; rows = (Int (p
 unfolding Rattle.std.specs.Fmt.digits Rattle.std.specs.Fmt.debug_escape kind_of_word same_kind
 two_rows = refl
 
-named_columns : insert_text (record { table = codes "T"; columns = codes "A" ∷ codes "Key" ∷ codes "Set" ∷ []; rows = (Int (pos 1) ∷ Null ∷ Null ∷ []) ∷ [] })
-    ≡ Some (codes "INSERT INTO T (A, Key, `Set`) VALUES (1, NULL, NULL)")
+named_columns : insert_text (record { table = codes "T"; columns = codes "A" ∷ codes "B" ∷ codes "Set" ∷ []; rows = (Int (pos 1) ∷ Null ∷ Null ∷ []) ∷ [] })
+    ≡ Some (codes "INSERT INTO T (A, B, `Set`) VALUES (1, NULL, NULL)")
 unfolding Rattle.std.specs.Fmt.digits Rattle.std.specs.Fmt.debug_escape kind_of_word same_kind
 named_columns = refl
 
