@@ -5,9 +5,11 @@ use Rattle.std.specs.declared.fmt.Error.{Error}
 use Rattle.std.specs.declared.fmt.Formatter.{Formatter}
 use Rattle.std.proofs.Output.{displays_on_IsOk_append, displays_on_ok_of_all, displays_on_ok_of_eq}
 use Rattle.msi_table.specs.Value.{Value}
+use Rattle.msi_query_tokens.specs.Names.{name_text}
 use Rattle.msi_query.specs.Queries.{Query}
 use Rattle.msi_query_expressions.specs.Assignments.{set_text}
-use Rattle.msi_query.specs.QueryTexts.{bare_name, listed, or_bracketed, row_text, rows_text, sets_text, side_text}
+use Rattle.msi_query.specs.QueryTexts.{bare_name, listed, or_bracketed, order_text, row_text, rows_text, sets_text, side_text}
+use Rattle.msi_query.proofs.ListedLemmas.{listed-names}
 
 -- a side in brackets
 pub side_text-None : (q : Query) (text : Option (List ℕ)) → None ≡ bare_name q → (Some (codes "(") ++? text ++? Some (codes ")")) ≡ side_text q text
@@ -36,6 +38,17 @@ pub four_writes : {W : Type 0} (took : W → List ℕ → W → Type 0) (f g h k
     → DisplaysOnOk took f u (o ++? p ++? q ++? n) m
 four_writes took f g h k m r s t u o p q n a b d x y z v = displays_on_IsOk_append took f g m r u o (p ++? q ++? n) (λ _. a) x
     (displays_on_IsOk_append took g h m s u p (q ++? n) (λ _. b) y (displays_on_IsOk_append took h k m t u q n (λ _. d) z v))
+
+-- an order, where there is one
+pub order_text-some : (names : List (List ℕ)) → (length names == 0) ≡ false
+    → (Some (codes " ORDER BY ") ++? listed (map (λ (n : List ℕ). Some (name_text n)) names)) ≡ Some (order_text names)
+order_text-some [] e = let no : true ≡ false = e in cc
+order_text-some (n ∷ ns) e = ap (λ (text : Option (List ℕ)). Some (codes " ORDER BY ") ++? text) (listed-names n ns)
+
+-- no order
+pub order_text-none : (names : List (List ℕ)) → (length names == 0) ≡ true → [] ≡ order_text names
+order_text-none [] e = refl
+order_text-none (n ∷ ns) e = let no : false ≡ true = e in cc
 
 -- sets, where there are some
 pub sets_text-some : (sets : List (List ℕ × Value)) → (length sets == 0) ≡ false → (Some (codes " SET ") ++? listed (map set_text sets)) ≡ sets_text sets

@@ -10,9 +10,9 @@ abbrev pub IsUtf8Condition : Option Expression → Type 0
 IsUtf8Condition None = ⊤
 IsUtf8Condition (Some condition) = IsUtf8Expression condition
 
--- the columns to keep, and the condition
+-- the columns to keep, the condition, and the columns of the order
 abbrev pub IsUtf8Clauses : Clauses → Type 0
-IsUtf8Clauses clauses = AreUtf8Texts clauses.columns × IsUtf8Condition clauses.condition
+IsUtf8Clauses clauses = AreUtf8Texts clauses.columns × IsUtf8Condition clauses.condition × AreUtf8Texts clauses.order
 
 -- the names of tables, and what stands in conditions and clauses
 abbrev pub IsUtf8Query : Query → Type 0
