@@ -269,10 +269,9 @@ module _ (depth : ℕ) (below : Reader Query) where
   unfoldable pub source : Reader Query
   source = λ i. if is_name (kind i) then (table_named >>= joins) i else first_bracketed i
 
-  unfoldable pub select : Reader Query
-  select = do
-    expect k.Select expected.Select
-    is_distinct ← eat k.Distinct
+  -- behind SELECT, or SELECT DISTINCT
+  unfoldable pub selection : Bool → Reader Query
+  selection is_distinct = do
     columns ← selected
     expect k.From expected.From
     outer ← enter
@@ -281,6 +280,12 @@ module _ (depth : ℕ) (below : Reader Query) where
     query ← narrowed found
     names ← order
     pure (ordered_query (once_each is_distinct (projected_query query columns)) names)
+
+  unfoldable pub select : Reader Query
+  select = do
+    expect k.Select expected.Select
+    is_distinct ← eat k.Distinct
+    selection is_distinct
 
 -- queries whose joins are less high than the number
 unfoldable pub query : ℕ → Reader Query

@@ -100,6 +100,15 @@ pub(crate) fn order(alloc: Global, tokens: &mut Tokens<'_>) -> Result<Items<Text
     columns(alloc, tokens, Expected::Name)
 }
 
+/// Reads columns behind an opening bracket.
+fn columns_in_brackets(alloc: Global, tokens: &mut Tokens<'_>) -> Result<Items<Text>, ParseError>
+    ensures { Reads (spec.columns_in_brackets tokens.old) result tokens.new }
+{
+    let found = columns(alloc, tokens, Expected::Name)?;
+    tokens.expect(Kind::Close, Expected::CloseBracket)?;
+    Ok(found)
+}
+
 /// Reads the columns that the values of an insert are of, if they are named.
 #[tactic(auto, unfolding(crate::specs::Reading::named_columns))]
 pub(crate) fn named_columns(
@@ -111,9 +120,7 @@ pub(crate) fn named_columns(
     if !tokens.eat(Kind::Open) {
         return Ok(Items::from_vec(Vec::new(alloc)));
     }
-    let found = columns(alloc, tokens, Expected::Name)?;
-    tokens.expect(Kind::Close, Expected::CloseBracket)?;
-    Ok(found)
+    columns_in_brackets(alloc, tokens)
 }
 
 /// Returns the names as texts that are lent.

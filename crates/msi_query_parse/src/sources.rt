@@ -150,13 +150,13 @@ impl<F: Fn(Global, &mut Tokens<'_>, usize) -> Result<Select, ParseError>> Source
         self.joins(tokens, first)
     }
 
-    #[tactic(auto, unfolding(crate::specs::Reading::select))]
-    fn select(&self, tokens: &mut Tokens<'_>) -> Result<Select, ParseError>
+    /// Reads what follows `SELECT` or `SELECT DISTINCT`.
+    #[tactic(auto, unfolding(crate::specs::Reading::selection))]
+    fn selection(&self, tokens: &mut Tokens<'_>, is_distinct: bool) -> Result<Select, ParseError>
         requires { NestsQueries self.now.depth (F.pre self.now.query) (F.post self.now.query) }
-        ensures { Reads (spec.select self.now.depth (spec.query self.now.depth) tokens.old) result tokens.new }
+        ensures { Reads (spec.selection self.now.depth (spec.query self.now.depth) is_distinct tokens.old) result
+            tokens.new }
     {
-        tokens.expect(Kind::Select, Expected::Select)?;
-        let is_distinct = tokens.eat(Kind::Distinct);
         let columns = selected(self.alloc, tokens)?;
         tokens.expect(Kind::From, Expected::From)?;
         let outer = tokens.enter();
@@ -166,6 +166,16 @@ impl<F: Fn(Global, &mut Tokens<'_>, usize) -> Result<Select, ParseError>> Source
         let names = order(self.alloc, tokens)?;
         let query = projected(self.alloc, query, columns.as_slice())?;
         Ok(ordered(self.alloc, once_each(is_distinct, query), names.as_slice())?)
+    }
+
+    #[tactic(auto, unfolding(crate::specs::Reading::select))]
+    fn select(&self, tokens: &mut Tokens<'_>) -> Result<Select, ParseError>
+        requires { NestsQueries self.now.depth (F.pre self.now.query) (F.post self.now.query) }
+        ensures { Reads (spec.select self.now.depth (spec.query self.now.depth) tokens.old) result tokens.new }
+    {
+        tokens.expect(Kind::Select, Expected::Select)?;
+        let is_distinct = tokens.eat(Kind::Distinct);
+        self.selection(tokens, is_distinct)
     }
 }
 
