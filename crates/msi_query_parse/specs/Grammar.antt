@@ -172,7 +172,8 @@ where_symbols None = []
 where_symbols (Some p) = mark k.Where ∷ phrase_symbols p
 
 abbrev pub distinct_symbols : Bool → List Symbol
-distinct_symbols is_distinct = if is_distinct then mark k.Distinct ∷ [] else []
+distinct_symbols false = []
+distinct_symbols true = mark k.Distinct ∷ []
 
 -- a star for all columns
 abbrev pub column_symbols : List ColumnName → List Symbol
