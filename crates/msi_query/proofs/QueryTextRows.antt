@@ -45,7 +45,7 @@ second_condition : delete_text (record { table = codes "T"; condition = narrowed
 unfolding kind_of_word same_kind
 second_condition = refl
 
-without_rows : insert_text (record { table = codes "T"; rows = [] }) ≡ Some (codes "INSERT INTO T")
+without_rows : insert_text (record { table = codes "T"; columns = []; rows = [] }) ≡ Some (codes "INSERT INTO T")
 unfolding kind_of_word same_kind
 without_rows = refl
 
@@ -53,10 +53,15 @@ without_sets : update_text (record { table = codes "T"; sets = []; condition = N
 unfolding kind_of_word same_kind
 without_sets = refl
 
-two_rows : insert_text (record { table = codes "T"; rows = (Int (pos 1) ∷ Str (codes "a") ∷ []) ∷ (Null ∷ Str (codes "b") ∷ []) ∷ [] })
+two_rows : insert_text (record { table = codes "T"; columns = []; rows = (Int (pos 1) ∷ Str (codes "a") ∷ []) ∷ (Null ∷ Str (codes "b") ∷ []) ∷ [] })
     ≡ Some (codes "INSERT INTO T VALUES (1, \"a\"), (NULL, \"b\")")
 unfolding Rattle.std.specs.Fmt.digits Rattle.std.specs.Fmt.debug_escape kind_of_word same_kind
 two_rows = refl
+
+named_columns : insert_text (record { table = codes "T"; columns = codes "A" ∷ codes "Key" ∷ codes "Set" ∷ []; rows = (Int (pos 1) ∷ Null ∷ Null ∷ []) ∷ [] })
+    ≡ Some (codes "INSERT INTO T (A, Key, `Set`) VALUES (1, NULL, NULL)")
+unfolding Rattle.std.specs.Fmt.digits Rattle.std.specs.Fmt.debug_escape kind_of_word same_kind
+named_columns = refl
 
 -- names that are key words, or no Identifiers, stand in back quotes
 odd_names : query_text (table (codes "_Validation") (record no_clauses { columns = codes "Set" ∷ codes "a b" ∷ [] })) ≡ Some (codes "SELECT `Set`, `a b` FROM _Validation")
