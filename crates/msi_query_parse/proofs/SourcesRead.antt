@@ -44,8 +44,8 @@ abbrev pub Ends : List ℕ → Type 0
 Ends b = ends_query (first_kind b) ≡ true
 
 -- a kind that a test tells from another
-told : (f : Kind → Bool) (c other : Kind) → f c ≡ true → f other ≡ false → c ≡ other → ⊥
-told f c other h g e = let both : true ≡ false = sym h ∙ ap f e ∙ g in cc
+differs : (f : Kind → Bool) (c other : Kind) → f c ≡ true → f other ≡ false → c ≡ other → ⊥
+differs f c other h g e = let both : true ≡ false = sym h ∙ ap f e ∙ g in cc
 
 source_loose : (c : Kind) → ends_source c ≡ true → binds c ≡ 0
 source_loose k.Where e = refl
@@ -301,16 +301,16 @@ module _ (d : ℕ) (below : Reader Query) (reads : ReadsQuery d below) where
       let order_end : ends_condition (first_kind back.0) ≡ true = ap ends_condition (sym (kind_at last back.0 refl)) ∙ order_starts c.order last b back.2 end in
       let stop = where_starts c.condition place back.0 back.1 order_end in
       let first_stop : ends_source (first_kind outer.0) ≡ true = ap ends_source (sym (kind_at place outer.0 refl)) ∙ stop in
-      let unseen = join_unseen place (told ends_source (kind place) k.Inner stop refl) (told ends_source (kind place) k.Left stop refl) in
+      let unseen = join_unseen place (differs ends_source (kind place) k.Inner stop refl) (differs ends_source (kind place) k.Left stop refl) in
       let reached_source = source_reached s flat outer.0 (both_left _ _ parts) low (plain_low s no_query) refl (plain_leads s flat.ahead outer.0 no_query f.1) (λ e. let g : true ≡ false = sym e ∙ no_query in cc)
-      (source_loose (first_kind outer.0) first_stop) (told ends_source (first_kind outer.0) k.Dot first_stop refl) in
+      (source_loose (first_kind outer.0) first_stop) (differs ends_source (first_kind outer.0) k.Dot first_stop refl) in
       let o = option_map expression_of c.condition in
       let left_at = at flat outer.0 (max (next cols).height (min (source_height s + 1) (2 ^ 64 - 1))) in
       let order_stop = as_source_end (first_kind back.0) order_end in
       let read_where = where_read (narrowed_query (query_meant s)) (query_meant s) c.condition left_at back.0 good back.1 (source_loose (first_kind back.0) order_stop)
-      (told ends_source (first_kind back.0) k.Dot order_stop refl) (told ends_condition (first_kind back.0) k.Where order_end refl) in
+      (differs ends_source (first_kind back.0) k.Dot order_stop refl) (differs ends_condition (first_kind back.0) k.Where order_end refl) in
       let order_at = at left_at back.0 left_at.height in
-      let read_order = order_read c.order order_at b back.2 (told ends_query (first_kind b) k.Order end refl) (told ends_query (first_kind b) k.Comma end refl) (told ends_query (first_kind b) k.Dot end refl) in
+      let read_order = order_read c.order order_at b back.2 (differs ends_query (first_kind b) k.Order end refl) (differs ends_query (first_kind b) k.Comma end refl) (differs ends_query (first_kind b) k.Dot end refl) in
       let capped : max i.height (min (source_height s + 1) (2 ^ 64 - 1)) ≡ max i.height (source_height s + 1) = omega arith in
       then_read _ (selected_read c.columns i inner.0 inner.1 (sym (kind_at cols inner.0 refl) ∙ from))
       (then_read _ (expect_read k.From expected.From cols from)
