@@ -1,9 +1,10 @@
 -- Worked rows of texts, by computation: their symbols, what they spell, and where they are refused.
-use Rattle.std.proofs.Common.{◌≡◌, true, false, [], ◌∷◌, Err, refl, codes, map, pos}
-use Rattle.msi_table_values.specs.declared.value.Value.TheVariants.{Int}
+use Rattle.std.proofs.Common.{◌≡◌, true, false, [], ◌∷◌, None, Err, refl, codes, map, pos}
+use Rattle.msi_table_values.specs.declared.value.Value.TheVariants.{Int, Null}
 use Rattle.msi_query_expressions.specs.declared.operators.UnaryOp.TheVariants as one
 use Rattle.msi_query_expressions.specs.declared.operators.BinaryOp.TheVariants as two
-use Rattle.msi_query_expressions.specs.Expressions.{column, binary}
+use Rattle.msi_query_expressions.specs.Expressions.{literal, column, binary}
+use Rattle.msi_query.specs.Queries.{table}
 use Rattle.msi_query_tokens.specs.declared.token.Kind.TheVariants as k
 use Rattle.msi_query_tokens.specs.declared.refusal.Expected.TheVariants as expected
 use Rattle.msi_query_tokens.specs.declared.refusal.ParseError.TheVariants.{Refused}
@@ -13,7 +14,7 @@ use Rattle.msi_query_tokens.specs.Input.{expect, sees, after, rise, refusal, kin
 use Rattle.msi_query_tokens.specs.Symbols.{mark, named, number, AreSymbols}
 use Rattle.msi_query_parse.specs.Reading.{whole, condition, expression, level, operand, operations, operation, climb, bracketed, term, end}
 use Rattle.msi_query_parse.specs.Printed.{phrase_of}
-use Rattle.msi_query_parse.specs.Grammar.{Phrase, constant, reference, grouped, front, link, plain, phrase_symbols, is_phrase, expression_of}
+use Rattle.msi_query_parse.specs.Grammar.{Phrase, constant, reference, grouped, front, link, null_test, plain, parts, phrase_symbols, is_phrase, expression_of, Source, whole as whole_table, query_of, source_symbols, query_meant}
 
 pub words : AreSymbols (codes "a-(B.c Or 12)") (named (codes "a") ∷ mark k.Sub ∷ mark k.Open ∷ named (codes "B.c") ∷ mark k.Or ∷ number 12 ∷ mark k.Close ∷ [])
 unfolding token skip_blanks same_kind kind_of_word
@@ -64,6 +65,32 @@ they_mean = refl
 they_print : map phrase_of (binary two.Sub (column (codes "Foo")) (binary two.Sub (column (codes "Bar")) (column (codes "Baz")))
     ∷ binary two.Sub (binary two.Sub (column (codes "Foo")) (column (codes "Bar"))) (column (codes "Baz")) ∷ []) ≡ right ∷ left ∷ []
 they_print = refl
+
+-- IS NULL stands behind a sum, and no sum behind it
+abbrev no_sum : Phrase
+no_sum = null_test true (link k.Add foo bar)
+
+null_spells : AreSymbols (codes "Foo+Bar is not null;") (phrase_symbols no_sum)
+unfolding token skip_blanks same_kind kind_of_word
+null_spells = record { rest = codes ";"; spans = (refl, refl, (refl, refl, (refl, refl, (refl, refl, (refl, refl, (refl, refl, refl)))))); end = refl }
+
+they_group : map is_phrase (no_sum ∷ link k.Add (null_test false foo) bar ∷ link k.Eq (null_test false foo) bar ∷ link k.Eq foo (null_test false bar) ∷ link k.Is foo bar ∷ []) ≡ true ∷ false ∷ true ∷ false ∷ false ∷ []
+they_group = refl
+
+it_compares : expression_of no_sum ≡ binary two.Ne (binary two.Add (column (codes "Foo")) (column (codes "Bar"))) (literal Null)
+it_compares = refl
+
+-- a query with all that it may ask for but a condition
+abbrev asked : Source
+asked = query_of (record { is_distinct = true; columns = []; condition = None; order = plain (codes "a") ∷ parts (codes "T") (codes "b") ∷ [] }) (whole_table (codes "T"))
+
+asked_spells : AreSymbols (codes "select distinct * from T order by a, `T`.b") (source_symbols asked)
+unfolding token skip_blanks same_kind kind_of_word
+asked_spells = record { rest = []; end = refl;
+  spans = (refl, refl, (refl, refl, (refl, refl, (refl, refl, (refl, refl, (refl, refl, (refl, refl, (refl, refl, (refl, refl, (refl, refl, (refl, refl, (refl, refl, refl)))))))))))) }
+
+asked_for : query_meant asked ≡ table (codes "T") (record { columns = []; condition = None; order = codes "a" ∷ codes "T.b" ∷ []; is_distinct = true })
+asked_for = refl
 
 -- a refusal has its place, and what was expected there
 pub refused : map (whole condition) (codes "1 +" ∷ codes "(1" ∷ codes "1 2" ∷ []) ≡ Err (Refused (record { place = 3; expected = expected.Operand }))
