@@ -70,9 +70,9 @@ they_print = refl
 abbrev no_sum : Phrase
 no_sum = null_test true (link k.Add foo bar)
 
-null_spells : AreSymbols (codes "Foo+Bar is not null") (phrase_symbols no_sum)
+null_spells : AreSymbols (codes "Foo+Bar is not null;") (phrase_symbols no_sum)
 unfolding token skip_blanks same_kind kind_of_word
-null_spells = record { rest = []; spans = (refl, refl, (refl, refl, (refl, refl, (refl, refl, (refl, refl, (refl, refl, refl)))))); end = refl }
+null_spells = record { rest = codes ";"; spans = (refl, refl, (refl, refl, (refl, refl, (refl, refl, (refl, refl, (refl, refl, refl)))))); end = refl }
 
 they_group : map is_phrase (no_sum ∷ link k.Add (null_test false foo) bar ∷ link k.Eq (null_test false foo) bar ∷ link k.Eq foo (null_test false bar) ∷ link k.Is foo bar ∷ []) ≡ true ∷ false ∷ true ∷ false ∷ false ∷ []
 they_group = refl

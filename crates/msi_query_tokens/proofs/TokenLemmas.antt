@@ -10,7 +10,7 @@ use Rattle.msi_query_tokens.specs.contracts.token.Kind.{the_type}
 use Rattle.msi_query_tokens.specs.declared.lex.Class.TheVariants as class
 use Rattle.msi_query_tokens.specs.declared.token.Kind.{Kind}
 use Rattle.msi_query_tokens.specs.declared.token.Kind.TheVariants as k
-use Rattle.msi_query_tokens.specs.Tokens.{Cut, IsShort, token, token_at, word, closing, closed, quoted, marks, mark, past, is_in, takes_next, same_kind}
+use Rattle.msi_query_tokens.specs.Tokens.{Cut, IsShort, token, token_at, word, closing, closed, quoted, semicolon, marks, mark, past, is_in, takes_next, same_kind}
 use Rattle.msi_query_tokens.specs.Symbols.{ends}
 
 -- ---- kinds
@@ -75,14 +75,26 @@ marks_take b next = marks_any Takes b next (omega arith) (omega arith) (omega ar
 digits_take : (b : ℕ) (text : List ℕ) → is_in class.Digit b ≡ true → 0 < past class.Digit (b ∷ text) 0
 digits_take b text e = let h : prefix_len (is_in class.Digit) (b ∷ text) ≡ 1 + prefix_len (is_in class.Digit) text = ap (λ t. cond t (1 + prefix_len (is_in class.Digit) text) 0) e in omega arith
 
+end_ends : same_kind k.End k.End ≡ false → ⊥
+unfolding same_kind
+end_ends e = cc
+
+-- where it is no end
+abbrev TakesMore : Cut → Type 0
+TakesMore c = same_kind c.0 k.End ≡ false → 0 < c.1
+
+semicolon_takes : (text : List ℕ) → TakesMore (semicolon text)
+semicolon_takes text = either_way TakesMore (past class.Blank text 1 == length text) (k.End, 0) (k.Unknown, 1) (λ e. absurd (end_ends e)) (λ e. omega arith)
+
 pub token_takes : (text : List ℕ) → ends text ≡ false → 0 < (token text).1
-unfolding token same_kind
-token_takes [] e = absurd (cc)
+unfolding token
+token_takes [] e = absurd (end_ends e)
 token_takes (b ∷ text) e =
     let all = b ∷ text in
-    either_way Takes (is_in class.Letter b) (word all) _ (omega arith) (known_way Takes (is_in class.Digit b) (k.Number, past class.Digit all 0) _ (digits_take b text)
-    (either_way Takes (b == 39) (quoted k.SingleQuoted all) _ (quoted_takes k.SingleQuoted all) (either_way Takes (b == 34) (quoted k.DoubleQuoted all) _ (quoted_takes k.DoubleQuoted all)
-    (either_way Takes (b == 96) (quoted k.QuotedName all) (marks b (slice_index all 1)) (quoted_takes k.QuotedName all) (marks_take b (slice_index all 1))))))
+    (either_way TakesMore (is_in class.Letter b) (word all) _ (λ _. omega arith) (known_way TakesMore (is_in class.Digit b) (k.Number, past class.Digit all 0) _ (λ d _. digits_take b text d)
+    (either_way TakesMore (b == 39) (quoted k.SingleQuoted all) _ (λ _. quoted_takes k.SingleQuoted all) (either_way TakesMore (b == 34) (quoted k.DoubleQuoted all) _ (λ _. quoted_takes k.DoubleQuoted all)
+    (either_way TakesMore (b == 96) (quoted k.QuotedName all) _ (λ _. quoted_takes k.QuotedName all) (either_way TakesMore (b == 59) (semicolon all) (marks b (slice_index all 1)) (semicolon_takes all)
+    (λ _. marks_take b (slice_index all 1)))))))) e
 
 -- ---- plain names
 
@@ -122,6 +134,9 @@ mark_other b = mark_any OtherKind b refl refl refl refl refl refl refl refl refl
 marks_other : (b next : ℕ) → Other (marks b next)
 marks_other b next = marks_any Other b next refl refl refl refl refl refl refl (mark_other b)
 
+semicolon_other : (text : List ℕ) → Other (semicolon text)
+semicolon_other text = either_way Other (past class.Blank text 1 == length text) (k.End, 0) (k.Unknown, 1) refl refl
+
 closed_other : (kind : Kind) (o : Option ℕ) → OtherKind kind → Other (closed kind o)
 closed_other kind None e = refl
 closed_other kind (Some end) e = e
@@ -141,7 +156,8 @@ fitting (b ∷ text) h =
     (either_way (Fits all) (b == 39) _ _ (unfit all (quoted k.SingleQuoted all) (closed_other k.SingleQuoted (closing (slice_index all 0) false 1 (drop 1 all)) refl))
     (either_way (Fits all) (b == 34) _ _ (unfit all (quoted k.DoubleQuoted all) (closed_other k.DoubleQuoted (closing (slice_index all 0) false 1 (drop 1 all)) refl))
     (either_way (Fits all) (b == 96) _ _ (unfit all (quoted k.QuotedName all) (closed_other k.QuotedName (closing (slice_index all 0) false 1 (drop 1 all)) refl))
-    (unfit all (marks b (slice_index all 1)) (marks_other b (slice_index all 1)))))))) h
+    (either_way (Fits all) (b == 59) _ _ (unfit all (semicolon all) (semicolon_other all))
+    (unfit all (marks b (slice_index all 1)) (marks_other b (slice_index all 1))))))))) h
 
 pub plain_name : (text : List ℕ) → (token text).0 ≡ k.Name → is_utf8 (take (token text).1 text) ≡ true
 plain_name text e = fitting text (ap is_plain e)
@@ -187,11 +203,14 @@ module _ (text : List ℕ) (b : ℕ) (is : b ≡ slice_index text 0) (some : 0 <
   digit_token end e letter digit = subst (λ n. token text ≡ (k.Number, n)) (sym e)
       (at_first ∙ passed (is_in class.Letter b) (word text) _ letter ∙ chosen (is_in class.Digit b) (k.Number, past class.Digit text 0) _ digit)
 
+  abbrev behind_names : Cut
+  behind_names = if b == 59 then semicolon text else marks b (slice_index text 1)
+
   abbrev behind_words : Cut
   behind_words =
       if b == 39 then quoted k.SingleQuoted text
       else (if b == 34 then quoted k.DoubleQuoted text
-      else (if b == 96 then quoted k.QuotedName text else marks b (slice_index text 1)))
+      else (if b == 96 then quoted k.QuotedName text else behind_names))
 
   no_word : is_in class.Letter b ≡ false → is_in class.Digit b ≡ false → token text ≡ behind_words
   no_word letter digit = at_first ∙ passed (is_in class.Letter b) (word text) _ letter ∙ passed (is_in class.Digit b) (k.Number, past class.Digit text 0) _ digit
@@ -205,7 +224,7 @@ module _ (text : List ℕ) (b : ℕ) (is : b ≡ slice_index text 0) (some : 0 <
       ∙ chosen (b == 34) (quoted k.DoubleQuoted text) _ (eq-eqb b 34 quote)
 
   no_text : is_in class.Letter b ≡ false → is_in class.Digit b ≡ false → b ≢ 39 → b ≢ 34
-      → token text ≡ (if b == 96 then quoted k.QuotedName text else marks b (slice_index text 1))
+      → token text ≡ (if b == 96 then quoted k.QuotedName text else behind_names)
   no_text letter digit single double =
       no_word letter digit ∙ passed (b == 39) (quoted k.SingleQuoted text) _ (differ b 39 single)
       ∙ passed (b == 34) (quoted k.DoubleQuoted text) _ (differ b 34 double)
@@ -214,9 +233,17 @@ module _ (text : List ℕ) (b : ℕ) (is : b ≡ slice_index text 0) (some : 0 <
   name_token letter digit single double quote =
       no_text letter digit single double ∙ chosen (b == 96) (quoted k.QuotedName text) _ (eq-eqb b 96 quote)
 
-  pub mark_token : is_in class.Letter b ≡ false → is_in class.Digit b ≡ false → b ≢ 39 → b ≢ 34 → b ≢ 96 → token text ≡ marks b (slice_index text 1)
-  mark_token letter digit single double back =
+  no_name : is_in class.Letter b ≡ false → is_in class.Digit b ≡ false → b ≢ 39 → b ≢ 34 → b ≢ 96 → token text ≡ behind_names
+  no_name letter digit single double back =
       no_text letter digit single double ∙ passed (b == 96) (quoted k.QuotedName text) _ (differ b 96 back)
+
+  pub semicolon_token : is_in class.Letter b ≡ false → is_in class.Digit b ≡ false → b ≢ 39 → b ≢ 34 → b ≢ 96 → b ≡ 59 → token text ≡ semicolon text
+  semicolon_token letter digit single double back is =
+      no_name letter digit single double back ∙ chosen (b == 59) (semicolon text) _ (eq-eqb b 59 is)
+
+  pub mark_token : is_in class.Letter b ≡ false → is_in class.Digit b ≡ false → b ≢ 39 → b ≢ 34 → b ≢ 96 → b ≢ 59 → token text ≡ marks b (slice_index text 1)
+  mark_token letter digit single double back other =
+      no_name letter digit single double back ∙ passed (b == 59) (semicolon text) _ (differ b 59 other)
 
 -- one byte, or two where there are as many
 pub short_fits : (next len n : ℕ) → IsShort next len → (next ≢ 0 → 1 < n) → 0 < n → len ≤ n

@@ -1,6 +1,6 @@
 -- The tokens of a text: which bytes spell which.
 use Rattle.std.specs.Prelude.{ℕ, ◌+◌, ◌≤◌, ◌≡◌, Bool, true, false, ◌&&◌, ◌||◌, if◌then◌else◌, ◌==◌}
-use Rattle.std.specs.Prelude.{List, [], ◌∷◌, take, drop, codes, slice_index, Option, Some, None}
+use Rattle.std.specs.Prelude.{List, [], ◌∷◌, length, take, drop, codes, slice_index, Option, Some, None}
 use Rattle.std.specs.Char.{is_ascii_digit, is_ascii_alphabetic, is_ascii_alphanumeric}
 use Rattle.std.specs.List.{prefix_len}
 use Rattle.std.specs.Str.{str_eq_ignore_ascii_case}
@@ -100,6 +100,10 @@ marks b next =
     if b == 60 then less next else (if b == 62 then greater next
     else (if b == 33 && next == 61 then (k.Ne, 2) else (mark b, 1)))
 
+-- a semicolon that only blanks follow ends the text
+abbrev pub semicolon : List ℕ → Cut
+semicolon text = if past class.Blank text 1 == length text then (k.End, 0) else (k.Unknown, 1)
+
 -- the token at the front of a text that begins with no blank
 abbrev pub token_at : ℕ → List ℕ → Cut
 token_at b text =
@@ -107,7 +111,8 @@ token_at b text =
     else (if is_in class.Digit b then (k.Number, past class.Digit text 0)
     else (if b == 39 then quoted k.SingleQuoted text
     else (if b == 34 then quoted k.DoubleQuoted text
-    else (if b == 96 then quoted k.QuotedName text else marks b (slice_index text 1)))))
+    else (if b == 96 then quoted k.QuotedName text
+    else (if b == 59 then semicolon text else marks b (slice_index text 1))))))
 
 unfoldable pub token : List ℕ → Cut
 token [] = (k.End, 0)

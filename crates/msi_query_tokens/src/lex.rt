@@ -184,6 +184,19 @@ fn marks(byte: u8, next: u8) -> Token
     }
 }
 
+/// Returns the end of the text for a semicolon that only blanks follow.
+fn semicolon(text: &[u8]) -> Token
+    requires { 0 < length text.now }
+    ensures value { result ≡ spec.semicolon text.now }
+    ensures within { result.1 ≤ length text.now }
+{
+    if past(Class::Blank, text, 1) == text.len() {
+        (Kind::End, 0)
+    } else {
+        (Kind::Unknown, 1)
+    }
+}
+
 /// Returns the first token of a text that begins with no blank.
 pub(crate) fn token(text: &[u8]) -> Token
     ensures value { result ≡ spec.token text.now }
@@ -203,6 +216,8 @@ pub(crate) fn token(text: &[u8]) -> Token
         quoted(Kind::DoubleQuoted, text)
     } else if byte == b'`' {
         quoted(Kind::QuotedName, text)
+    } else if byte == b';' {
+        semicolon(text)
     } else {
         marks(byte, byte_at(text, 1))
     }

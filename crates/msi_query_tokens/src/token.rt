@@ -6,7 +6,7 @@ ghost use Rattle.msi_query_tokens.specs.Tokens as spec;
 /// What a token is.
 #[derive(Clone, Copy, PartialEq, Eq)]
 pub enum Kind {
-    /// The end of the text.
+    /// The end of the text, or a semicolon that only blanks follow.
     End,
     /// A byte that begins no token.
     Unknown,
