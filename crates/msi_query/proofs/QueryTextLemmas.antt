@@ -1,14 +1,14 @@
 -- The texts of queries from those of their parts.
-use Rattle.std.proofs.Common.{◌≡◌, ℕ, List, Option, Some, None, Result, Ok, Err, IsErr, IsOk, codes, length, map, [], ◌∷◌, true, false, ◌==◌, refl, ap}
+use Rattle.std.proofs.Common.{◌≡◌, ℕ, List, Option, Some, None, Result, Ok, Err, IsErr, IsOk, codes, length, map, [], ◌∷◌, true, false, ◌==◌, refl, ap, bytes_eq}
 use Rattle.std.specs.Fmt.{DisplaysOnOk, ◌++?◌}
 use Rattle.std.specs.declared.fmt.Error.{Error}
 use Rattle.std.specs.declared.fmt.Formatter.{Formatter}
 use Rattle.std.proofs.Output.{displays_on_IsOk_append, displays_on_ok_of_all, displays_on_ok_of_eq}
 use Rattle.msi_table.specs.Value.{Value}
 use Rattle.msi_query_tokens.specs.Names.{name_text}
-use Rattle.msi_query.specs.Queries.{Query}
+use Rattle.msi_query.specs.Queries.{Query, Side}
 use Rattle.msi_query_expressions.specs.Assignments.{set_text}
-use Rattle.msi_query.specs.QueryTexts.{bare_name, listed, or_bracketed, order_text, row_text, rows_text, sets_text, side_text}
+use Rattle.msi_query.specs.QueryTexts.{bare_name, listed, named_table, or_bracketed, order_text, row_text, rows_text, sets_text, side_text}
 use Rattle.msi_query.proofs.ListedLemmas.{listed-names}
 
 -- a side in brackets
@@ -54,3 +54,11 @@ sets_text-some (set ∷ sets) e = refl
 pub rows_text-some : (rows : List (List Value)) → (length rows == 0) ≡ false → (Some (codes " VALUES ") ++? listed (map row_text rows)) ≡ rows_text rows
 rows_text-some [] e = let no : true ≡ false = e in cc
 rows_text-some (row ∷ rows) e = refl
+
+-- a table of a product whose columns go by its own name, or by another
+pub named_table-same : (side : Side) → bytes_eq side.table side.name ≡ true → Some (name_text side.table) ≡ Some (named_table side)
+named_table-same side e = rw e refl
+
+pub named_table-other : (side : Side) → bytes_eq side.table side.name ≡ false
+    → (Some (name_text side.table) ++? Some (codes " ") ++? Some (name_text side.name)) ≡ Some (named_table side)
+named_table-other side e = rw e refl
