@@ -36,7 +36,7 @@ use msi_base::text::{IntoText, Text};
 use msi_table_values::column::Column;
 use msi_table_values::row::Row;
 use msi_table_values::value::Value;
-use names::{collect_names, knows_names};
+use names::{collect_names, knows_meant_names, knows_names};
 use renaming::renamed_tree;
 use std::alloc::Global;
 use std::collections::HashSet;
@@ -433,6 +433,7 @@ impl Expr {
     ///
     /// # Errors
     /// Fails with `OutOfMemory`.
+    #[tactic(auto, using(crate::proofs::MeaningLemmas::renamed_is_built))]
     pub fn with_meant_names(&self, alloc: Global, scope: Scope<'_>) -> Result<Expr, Error>
         ensures ok { IfOk result (λ expression. expression
             ≡ renamed (meant scope.entry.table.now scope.entry.columns.now) self.now) }
@@ -466,5 +467,12 @@ impl Expr {
         ensures { result ≡ knows_each columns.now self.now }
     {
         knows_names(&self.tree, columns)
+    }
+
+    pub(crate) fn knows_meant_names(&self, scope: Scope<'_>) -> bool
+        ensures { result ≡ knows_each scope.entry.columns.now
+            (renamed (meant scope.entry.table.now scope.entry.columns.now) self.now) }
+    {
+        knows_meant_names(&self.tree, scope)
     }
 }

@@ -23,9 +23,7 @@ pub(crate) fn renamed_tree(
 {
     Ok(match tree {
         Tree::Literal(value) => Tree::Literal(value.clone(alloc)?),
-        Tree::Column(name) => {
-            Tree::Column(meant_name(scope, name.as_str()).into_text(alloc)?)
-        }
+        Tree::Column(name) => { Tree::Column(meant_name(scope, name.as_str()).into_text(alloc)?) }
         Tree::Unary(op, of) => Tree::Unary(*op, renamed_in_box(alloc, scope, of)?),
         Tree::Binary(op, left, right) => {
             let left = renamed_in_box(alloc, scope, left)?;
