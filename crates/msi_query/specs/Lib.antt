@@ -24,6 +24,7 @@ pub use Rattle.msi_query_expressions.specs.Evaluation
 pub use Rattle.msi_query_expressions.specs.Conditions
 pub use Rattle.msi_query_expressions.specs.Equated
 pub use Rattle.msi_query_expressions.specs.Folding
+pub use Rattle.msi_query_expressions.specs.Meaning
 pub use Rattle.msi_query_expressions.specs.Names
 pub use Rattle.msi_query_expressions.specs.Trees
 pub use Rattle.msi_query_expressions.specs.RowFilters

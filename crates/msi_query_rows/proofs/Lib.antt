@@ -6,3 +6,5 @@ pub mod PickingLemmas
 pub mod IndexLemmas
 pub mod EarlyLemmas
 pub mod RefusedLemmas
+pub mod MeantLemmas
+pub mod SidesLemmas

@@ -43,7 +43,7 @@ wide_filter : {X : Type 0} (p : List X → Bool) (n : ℕ) (rows : List (List X)
 wide_filter p n [] w = tt
 wide_filter p n (row ∷ rows) w = one_kept (p row) n row (filter p rows) w.0 (wide_filter p n rows w.1)
 
-wide_append : {X : Type 0} (n : ℕ) (rows others : List (List X)) → HasWidth n rows → HasWidth n others → HasWidth n (rows ++ others)
+pub wide_append : {X : Type 0} (n : ℕ) (rows others : List (List X)) → HasWidth n rows → HasWidth n others → HasWidth n (rows ++ others)
 wide_append n [] others w v = v
 wide_append n (row ∷ rows) others w v = (w.0, wide_append n rows others w.1 v)
 
@@ -120,7 +120,7 @@ given_by_join : (u a b : Bool) (s k : Relation) → unless_refused ((u, InvalidI
 given_by_join true a b s k e = cc
 given_by_join false a b s k e = given a b s k e
 
-narrowed_wide : (c : Clauses) (r k : Relation) → ValuesAreWide r → narrowed c r ≡ Ok k → ValuesAreWide k
+pub narrowed_wide : (c : Clauses) (r k : Relation) → ValuesAreWide r → narrowed c r ≡ Ok k → ValuesAreWide k
 narrowed_wide c r k w e =
     let g = given (not (has_columns r.columns c.columns)) (not (has_columns r.columns (condition_names c.condition))) (selected c r) k e in
     subst ValuesAreWide g.1 (selected_wide c r (not-false (has_columns r.columns c.columns) g.0) w)

@@ -11,5 +11,6 @@ mod reasons;
 mod relation;
 mod rows;
 pub mod selection;
+mod sides;
 
 pub use selection::{Tables, select_rows};

@@ -6,9 +6,12 @@ ghost use Rattle.msi_query_expressions.specs.Conditions.{meets};
 ghost use Rattle.msi_base.specs.Refusals.{IsRefusal, unless_refused};
 ghost use Rattle.msi_table.specs.Rows.{cells_at};
 ghost use Rattle.msi_query.specs.Rows.{projected_cells, relation_values, rows_values};
-ghost use Rattle.msi_query.specs.Selection.{clause_refusals, narrowed as narrowed_by, selected as selected_by};
+ghost use Rattle.msi_query.specs.Selection.{clause_refusals, kept_of as kept_by, meant_clauses};
+ghost use Rattle.msi_query.specs.Selection.{narrowed as narrowed_by, selected as selected_by};
 
-use crate::columns::{columns_of, has_columns, knows_condition, places_of};
+use crate::columns::{
+    columns_of, condition_means_columns, has_columns, knows_condition, mean_columns, places_of,
+};
 use crate::reasons;
 use crate::relation::Relation;
 use msi_base::errors::{Error, ErrorKind};
@@ -16,6 +19,7 @@ use msi_base::text::{Items, Text};
 use msi_pool::stringpool::StringPool;
 use msi_query::parts::Clauses;
 use msi_query_expressions::expr::Expr;
+use msi_query_expressions::meaning::Scope;
 use msi_query_expressions::parts::RowFilter;
 use msi_table::parts::projected_row;
 use msi_table_cells::cell::ValueRef;
@@ -136,4 +140,41 @@ pub(crate) fn narrowed(
 {
     refuse_unknown(relation.columns(), clauses)?;
     selected(alloc, pool, clauses, relation)
+}
+
+/// Refuses clauses where a name means no column. It takes no memory.
+pub(crate) fn refuse_meaningless(scope: Scope<'_>, clauses: &Clauses) -> Result<(), Error>
+    ensures { let columns = scope.entry.columns.now in
+        result ≡ unless_refused (clause_refusals (meant_clauses scope.entry.table.now columns clauses.now) columns) tt }
+{
+    if !mean_columns(scope, clauses.columns()) {
+        return Err(Error::new(ErrorKind::InvalidInput, reasons::KEPT_COLUMN));
+    }
+    if !condition_means_columns(scope, clauses.condition()) {
+        return Err(Error::new(ErrorKind::InvalidInput, reasons::CONDITION_COLUMN));
+    }
+    if !mean_columns(scope, clauses.order()) {
+        return Err(Error::new(ErrorKind::InvalidInput, reasons::ORDER_COLUMN));
+    }
+    Ok(())
+}
+
+/// The names in the clauses may have the relation's in front.
+pub(crate) fn kept_of(
+    alloc: Global,
+    pool: &StringPool,
+    clauses: &Clauses,
+    relation: Relation,
+) -> Result<Relation, Error>
+    ensures ok { let values = relation_values pool.now.places in
+        IfOk result (λ kept. kept_by clauses.now (values relation) ≡ Ok (values kept)) }
+    ensures kind { let values = relation_values pool.now.places in
+        IfErr result (IsRefusal (kept_by clauses.now (values relation))) }
+{
+    let scope = Scope {
+        table: relation.name(),
+        columns: relation.columns(),
+    };
+    let clauses = clauses.with_meant_names(alloc, scope)?;
+    narrowed(alloc, pool, &clauses, relation)
 }
