@@ -3,3 +3,4 @@ pub mod ListedLemmas
 pub mod QueryTextLemmas
 pub mod QueryTextRows
 pub mod SelectionLemmas
+pub mod SelectionRows

@@ -40,7 +40,8 @@ clauses_refused kind on c l r columns others known answer k e u t o a w =
     inr (join_passes kind on c l r columns known e u t ∙ refusals-Err (clause_refusals c (joined_columns kind l r)) tt (selected c (joined kind on l r)) k
     (sym w ∙ a ∙ ap (λ cs. unless_refused (clause_refusals c cs) tt) o))
 
-whole_is : (places : List Place) (whole : RelationCells) (j : Relation) → whole.name ≡ j.name → whole.columns ≡ j.columns → rows_values places whole.rows ≡ j.rows → relation_values places whole ≡ j
+-- a relation by its parts
+pub whole_is : (places : List Place) (whole : RelationCells) (j : Relation) → whole.name ≡ j.name → whole.columns ≡ j.columns → rows_values places whole.rows ≡ j.rows → relation_values places whole ≡ j
 whole_is places whole j n c r =
     ap (λ (x : List ℕ). let s : Relation = record { name = x; columns = whole.columns; rows = rows_values places whole.rows } in s) n
     ∙ ap (λ (x : List ColumnDef). let s : Relation = record { name = j.name; columns = x; rows = rows_values places whole.rows } in s) c

@@ -1,5 +1,6 @@
 -- What clauses keep by the columns that their names mean.
-use Rattle.std.proofs.Common.{◌≡◌, ℕ, List, [], Option, length, Result, Ok, Err, ap, subst, sym, ◌∙◌}
+use Rattle.std.proofs.Common.{◌≡◌, ℕ, List, [], Bool, true, not, ◌==◌, ◌&&◌, Option, length, Result, Ok, Err, ap, subst, sym, ◌∙◌}
+use Rattle.std.proofs.lemmas.List.{length-map}
 use Rattle.std.specs.Prelude.{IfErr, IfOk}
 use Rattle.msi_base.specs.declared.errors.ErrorKind.{ErrorKind}
 use Rattle.msi_base.specs.Refusals.{IsRefusal, ◌>>=◌}
@@ -14,6 +15,7 @@ use Rattle.msi_query.specs.Queries.{Clauses, table}
 use Rattle.msi_query.specs.Rows.{RelationCells, relation_values, tables_values, whole_table}
 use Rattle.msi_query.specs.Selected.{Selects}
 use Rattle.msi_query.specs.Selection.{Relation, joined_columns, joined_narrowed, kept_of, kept_of_join, meant_clauses, narrowed, relation_of}
+use Rattle.msi_query_rows.specs.Picking.{keep_order}
 use Rattle.msi_query_rows.specs.Width.{HasWidth}
 use Rattle.msi_query_rows.proofs.WholeTableLemmas.{table_goes_on}
 use Rattle.msi_query_rows.proofs.WidthLemmas.{join_is_wide, narrowed_is_wide}
@@ -21,6 +23,10 @@ use Rattle.msi_query_rows.proofs.WidthLemmas.{join_is_wide, narrowed_is_wide}
 -- names that were looked up in columns as they are known elsewhere
 pub meant_same : (c m : Clauses) (name known : List ℕ) (columns others : List ColumnDef) → m ≡ meant_clauses name columns c → name ≡ known → columns ≡ others → m ≡ meant_clauses known others c
 meant_same c m name known columns others e n k = e ∙ ap (λ x. meant_clauses x columns c) n ∙ ap (λ cs. meant_clauses known cs c) k
+
+-- the rows stay in their order under the names that are meant
+pub stays_meant : (c m : Clauses) (name : List ℕ) (columns : List ColumnDef) → m ≡ meant_clauses name columns c → keep_order c ≡ true → keep_order m ≡ true
+stays_meant c m name columns e h = ap keep_order e ∙ ap (λ (n : ℕ). (n == 0) && not c.is_distinct) (length-map c.order (meant name columns)) ∙ h
 
 -- what the clauses with the meant names keep, and why they are refused
 pub kept_given : (places : List Place) (c m : Clauses) (relation : RelationCells) (answer : Result RelationCells ErrorKind) → m ≡ meant_clauses relation.name relation.columns c

@@ -2,10 +2,12 @@
 #![tactic(auto)]
 
 mod columns;
+mod distinct;
 mod index;
 mod joining;
 mod joins;
 mod narrowing;
+mod ordering;
 mod picking;
 mod reasons;
 mod relation;

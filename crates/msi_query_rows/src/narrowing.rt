@@ -1,17 +1,21 @@
 //! Selection and projection.
 
-ghost use Rattle.std.specs.Prelude.{◌≡◌, map, filter, IfOk, IfErr, Ok, option_copied};
+ghost use Rattle.std.specs.Prelude.{◌≡◌, List, map, filter, IfOk, IfErr, Ok, option_copied};
 ghost use Rattle.msi_base.specs.Results.{OnlyMemory};
 ghost use Rattle.msi_query_expressions.specs.Conditions.{meets};
 ghost use Rattle.msi_base.specs.Refusals.{IsRefusal, unless_refused};
+ghost use Rattle.msi_pool.specs.Pool.{Place};
 ghost use Rattle.msi_table.specs.Rows.{cells_at};
 ghost use Rattle.msi_query.specs.Rows.{projected_cells, relation_values, rows_values};
-ghost use Rattle.msi_query.specs.Selection.{clause_refusals, kept_of as kept_by, meant_clauses};
-ghost use Rattle.msi_query.specs.Selection.{narrowed as narrowed_by, selected as selected_by};
+ghost use Rattle.msi_query.specs.Selection.{clause_refusals, distinct_if as distinct_by, kept_of as kept_by};
+ghost use Rattle.msi_query.specs.Selection.{meant_clauses, narrowed as narrowed_by, projected as projected_by};
+ghost use Rattle.msi_query.specs.Selection.{selected as selected_by};
 
 use crate::columns::{
     columns_of, condition_means_columns, has_columns, knows_condition, mean_columns, places_of,
 };
+use crate::distinct::distinct_rows;
+use crate::ordering::ordered_rows;
 use crate::reasons;
 use crate::relation::Relation;
 use msi_base::errors::{Error, ErrorKind};
@@ -96,7 +100,38 @@ fn projected(
     Ok(Relation::new(name, kept, rows))
 }
 
-/// Applies the condition before the columns are selected. All names have to be known.
+/// Without names all columns are kept.
+fn with_columns(alloc: Global, names: &[Text], relation: Relation) -> Result<Relation, Error>
+    ensures ok { IfOk result (λ kept. (places : List Place)
+        → relation_values places kept ≡ projected_by names.now (relation_values places relation)) }
+    ensures kind { OnlyMemory result }
+{
+    if names.is_empty() {
+        return Ok(relation);
+    }
+    projected(alloc, names, relation.columns(), relation.rows())
+}
+
+fn distinct_if(
+    alloc: Global,
+    pool: &StringPool,
+    is_distinct: bool,
+    relation: Relation,
+) -> Result<Relation, Error>
+    ensures ok { let values = relation_values pool.now.places in
+        IfOk result (λ kept. values kept ≡ distinct_by is_distinct (values relation)) }
+    ensures kind { OnlyMemory result }
+{
+    if !is_distinct {
+        return Ok(relation);
+    }
+    let (name, columns, rows) = relation.into_parts();
+    let rows = distinct_rows(alloc, pool, rows.as_slice())?;
+    Ok(Relation::new(name, columns, rows))
+}
+
+/// Applies the condition and the order before the columns are selected, and compares rows after that. All names have
+/// to be known.
 pub(crate) fn selected(
     alloc: Global,
     pool: &StringPool,
@@ -109,11 +144,10 @@ pub(crate) fn selected(
 {
     let (name, columns, rows) = relation.into_parts();
     let rows = kept_rows(alloc, pool, columns.as_slice(), clauses.condition(), rows)?;
-    let names = clauses.columns();
-    if names.is_empty() {
-        return Ok(Relation::new(name, columns, rows));
-    }
-    projected(alloc, names, columns.as_slice(), rows.as_slice())
+    let rows = ordered_rows(alloc, pool, columns.as_slice(), clauses.order(), rows)?;
+    let ordered = Relation::new(name, columns, rows);
+    let kept = with_columns(alloc, clauses.columns(), ordered)?;
+    distinct_if(alloc, pool, clauses.is_distinct(), kept)
 }
 
 pub(crate) fn refuse_unknown(columns: &[Column], clauses: &Clauses) -> Result<(), Error>
@@ -124,6 +158,9 @@ pub(crate) fn refuse_unknown(columns: &[Column], clauses: &Clauses) -> Result<()
     }
     if !knows_condition(columns, clauses.condition()) {
         return Err(Error::new(ErrorKind::InvalidInput, reasons::CONDITION_COLUMN));
+    }
+    if !has_columns(columns, clauses.order()) {
+        return Err(Error::new(ErrorKind::InvalidInput, reasons::ORDER_COLUMN));
     }
     Ok(())
 }

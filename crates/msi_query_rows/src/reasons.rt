@@ -13,3 +13,5 @@ pub(crate) const REPEATED_TABLE: Reason = Reason(
 pub(crate) const KEPT_COLUMN: Reason = Reason("a column that is to be kept isn't there");
 
 pub(crate) const CONDITION_COLUMN: Reason = Reason("a condition names a column that isn't there");
+
+pub(crate) const ORDER_COLUMN: Reason = Reason("the order names a column that isn't there");

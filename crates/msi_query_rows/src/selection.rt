@@ -1,6 +1,6 @@
 //! Carries out queries for rows over tables.
 
-ghost use Rattle.std.specs.Prelude.{◌≡◌, IfOk, IfErr, Ok};
+ghost use Rattle.std.specs.Prelude.{◌≡◌, IfOk, IfErr, IsTrue, Ok};
 ghost use Rattle.msi_table.specs.Rows.{AreAsWide};
 ghost use Rattle.msi_query.specs.QueryTrees.{query_of};
 ghost use Rattle.msi_base.specs.Refusals.{AnswersWith, IsRefusal, unless};
@@ -9,11 +9,12 @@ ghost use Rattle.msi_query.specs.Rows.{columns_read, relation_values, tables_val
 ghost use Rattle.msi_query.specs.Selection.{early_refusal, is_table as is_one_table, joined_narrowed};
 ghost use Rattle.msi_query.specs.Selection.{kept_of_join as kept_by_join, relation_of};
 ghost use Rattle.msi_query.specs.Selected.{Selects};
+ghost use Rattle.msi_query_rows.specs.Picking.{keep_order as stay_in_order};
 
 use crate::columns::joined_columns;
 use crate::joining::joined_rows;
 use crate::narrowing::{kept_of, refuse_meaningless, refuse_unknown, selected};
-use crate::picking::narrowed_rows;
+use crate::picking::{keep_order, narrowed_rows};
 use crate::reasons;
 use crate::relation::Relation;
 use crate::sides::{kept_of_product, refuse_repeated, refuse_unread, relations_of};
@@ -210,6 +211,7 @@ fn table_rows<'a, T: Tables>(
     name: &str,
     clauses: &Clauses,
 ) -> Result<Rows<'a>, Error>
+    requires { IsTrue (stay_in_order clauses.now) }
     ensures ok { let values = tables_values pool.now.places (T.table tables.now) in
         IfOk result (Selects (relation_of values (table name.now clauses.now))) }
     ensures kind { let values = tables_values pool.now.places (T.table tables.now) in
@@ -240,14 +242,14 @@ fn tree_rows<'a, T: Tables>(
 }
 
 /// Returns the rows that a query selects from tables, whose texts are in a pool. Those of a query for one table are
-/// decoded as they are asked for; those of a join are made first. Joins go down by recursion, so how deep they may
-/// nest is bounded by the stack alone.
+/// decoded as they are asked for; those of a join, and those that are ordered or distinct, are made first. Joins go
+/// down by recursion, so how deep they may nest is bounded by the stack alone.
 ///
 /// # Errors
 /// Fails with the first of these that applies, for a join those of the left query, then those of the right:
 /// `NotFound` if a table isn't there, `InvalidData` if it can't be read; then `InvalidInput` if a column isn't there,
-/// in a join's condition, then one that is selected, then in the condition. If none applies, it fails with
-/// `OutOfMemory`, which may also come in place of what is refused from the first join's own columns on.
+/// in a join's condition, then one that is selected, then in the condition, then in the order. If none applies, it
+/// fails with `OutOfMemory`, which may also come in place of what is refused from the first join's own columns on.
 pub fn select_rows<'a, T: Tables>(
     alloc: Global,
     pool: &'a StringPool,
@@ -263,10 +265,10 @@ pub fn select_rows<'a, T: Tables>(
     let tree = select_tree(query);
     refuse_early(tables, tree)?;
     match tree {
-        SelectTree::Table { name, clauses } => {
+        SelectTree::Table { name, clauses } if keep_order(clauses) => {
             table_rows(alloc, pool, tables, name.as_str(), clauses)
         }
-        SelectTree::Join { .. } | SelectTree::Product { .. } => {
+        SelectTree::Table { .. } | SelectTree::Join { .. } | SelectTree::Product { .. } => {
             tree_rows(alloc, pool, tables, tree)
         }
     }

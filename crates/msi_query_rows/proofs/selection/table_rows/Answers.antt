@@ -1,7 +1,7 @@
 use Rattle.std.proofs.Common.{refl}
 use Rattle.msi_query.specs.Queries.{table}
 use Rattle.msi_query.specs.Rows.{cells_of, relation_values}
-use Rattle.msi_query_rows.proofs.MeantLemmas.{kept_fails, kept_selects, meant_same, table_selects}
+use Rattle.msi_query_rows.proofs.MeantLemmas.{kept_fails, kept_selects, meant_same, stays_meant, table_selects}
 use Rattle.msi_query_rows.proofs.RefusedLemmas.{table_fails}
 use Rattle.msi_query_rows.proofs.selection.table_rows.Goals as goal
 
@@ -24,3 +24,6 @@ returns-clause-kind g c =
     table_fails places (g.T.Tables.table c.args.tables.now) (table name c.args.clauses.now) name c.args.clauses.now cells c.narrowed_rows.result refl c.in_ok-stored.ensures.ok
     (kept_fails c.args.clauses.now clauses (relation_values places cells) c.narrowed_rows.result
     (meant_same c.args.clauses.now clauses name name c.columns.result.now cells.columns c.in_ok-clauses.ensures.ok refl c.columns.ensures.columns) (c.narrowed_rows.ensures.kind name))
+
+pub narrowed_rows-requires : goal.narrowed_rows-requires
+narrowed_rows-requires g c = stays_meant c.args.clauses.now c.in_ok-clauses.clauses c.args.name.now c.columns.result.now c.in_ok-clauses.ensures.ok c.requires
