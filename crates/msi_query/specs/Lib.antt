@@ -8,6 +8,7 @@ pub mod Product
 pub mod Selection
 pub mod Rows
 pub mod Selected
+pub mod ProductLaws
 -- The words of the crates below, which public clauses cite.
 pub use Rattle.msi_base.specs.declared.errors.ErrorKind
 pub use Rattle.msi_table.specs.Value

@@ -242,14 +242,19 @@ fn tree_rows<'a, T: Tables>(
 }
 
 /// Returns the rows that a query selects from tables, whose texts are in a pool. Those of a query for one table are
-/// decoded as they are asked for; those of a join, and those that are ordered or distinct, are made first. Joins go
-/// down by recursion, so how deep they may nest is bounded by the stack alone.
+/// decoded as they are asked for; those of a join or a product, and those that are ordered or distinct, are made
+/// first. Joins go down by recursion, so how deep they may nest is bounded by the stack alone.
+///
+/// A name that no column has means the only column that has it with the table's name in front, or behind that of a
+/// joined table: `Item.Id` of a query for `Item` means `Id`, and `Id` in a join means `Item.Id` if no other table of the
+/// join has such a column.
 ///
 /// # Errors
-/// Fails with the first of these that applies, for a join those of the left query, then those of the right:
-/// `NotFound` if a table isn't there, `InvalidData` if it can't be read; then `InvalidInput` if a column isn't there,
-/// in a join's condition, then one that is selected, then in the condition, then in the order. If none applies, it
-/// fails with `OutOfMemory`, which may also come in place of what is refused from the first join's own columns on.
+/// Fails with the first of these that applies, for a join those of the left query, then those of the right, for a
+/// product those of its tables in order: `NotFound` if a table isn't there, `InvalidData` if it can't be read; then
+/// `InvalidInput` if two tables of a product go by one name, or if a name means no column: in a join's condition, then
+/// one that is selected, then in the condition, then in the order. If none applies, it fails with `OutOfMemory`, which
+/// may also come in place of what is refused from the first join's or product's own columns on.
 pub fn select_rows<'a, T: Tables>(
     alloc: Global,
     pool: &'a StringPool,
