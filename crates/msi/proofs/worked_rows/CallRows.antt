@@ -150,6 +150,17 @@ selected_rows : rows_in_answer (answer_to filled (calls.select_rows (table (code
 unfolding Rattle.std.specs.Str.chars
 selected_rows = refl
 
+-- in the order of their words, and each word once
+ordered_rows : rows_in_answer (answer_to filled (calls.select_rows (table (codes "Numbers") (record no_clauses { order = codes "Word" ∷ [] }))))
+    ≡ Some ((int 4 ∷ Str (codes "Four") ∷ []) ∷ (int 1 ∷ Str (codes "One") ∷ []) ∷ (int 2 ∷ Str (codes "Two") ∷ []) ∷ [])
+unfolding Rattle.std.specs.Str.chars
+ordered_rows = refl
+
+distinct_words : rows_in_answer (answer_to fives (calls.select_rows (table (codes "Numbers") (record no_clauses { columns = codes "Word" ∷ []; is_distinct = true }))))
+    ≡ Some ((Str (codes "Five") ∷ []) ∷ [])
+unfolding Rattle.std.specs.Str.chars
+distinct_words = refl
+
 still_sound : is_sound fives.kept.database ≡ true
 unfolding Rattle.std.specs.Str.chars
 still_sound = refl
