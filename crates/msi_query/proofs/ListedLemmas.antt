@@ -66,20 +66,23 @@ listed-more {X = X} f items x xs i d whole below is =
     subst (λ (ys : List X). (listed (map f (take (suc i) ys)) ++? separated (f d)) ≡ listed (map f (take (suc (i + 1)) ys))) (sym whole)
     (sym (listed-take f x xs i d below ∙ ap (λ (y : X). listed (map f (take (suc i) (x ∷ xs))) ++? separated (f y)) (sym is)))
 
-all_present-Some : (names : List (List ℕ)) → all_present (map (λ (n : List ℕ). Some (name_text n)) names) ≡ Some (map name_text names)
-all_present-Some [] = refl
-all_present-Some (n ∷ ns) = ap (λ (o : Option (List (List ℕ))). option_map (λ (xs : List (List ℕ)). name_text n ∷ xs) o) (all_present-Some ns)
+all_present-each : {X : Type 0} (text : X → List ℕ) (xs : List X) → all_present (map (λ (x : X). Some (text x)) xs) ≡ Some (map text xs)
+all_present-each text [] = refl
+all_present-each text (x ∷ xs) = ap (λ (o : Option (List (List ℕ))). option_map (λ (ts : List (List ℕ)). text x ∷ ts) o) (all_present-each text xs)
 
--- names, of which each prints
-listed-Some : (names : List (List ℕ)) → listed (map (λ (n : List ℕ). Some (name_text n)) names) ≡ Some (join_by (λ (t : List ℕ). t) (codes ", ") (map name_text names))
-listed-Some names = ap (λ (o : Option (List (List ℕ))). option_map (join_by (λ (t : List ℕ). t) (codes ", ")) o) (all_present-Some names)
+joined_each : {X : Type 0} (text : X → List ℕ) (xs : List X) → joined_behind (map text xs) ≡ flat_map (λ (x : X). codes ", " ++ text x) xs
+joined_each text [] = refl
+joined_each text (x ∷ xs) = ap (λ (t : List ℕ). (codes ", " ++ text x) ++ t) (joined_each text xs)
 
-joined_names : (names : List (List ℕ)) → joined_behind (map name_text names) ≡ flat_map (λ (n : List ℕ). codes ", " ++ name_text n) names
-joined_names [] = refl
-joined_names (n ∷ ns) = ap (λ (t : List ℕ). (codes ", " ++ name_text n) ++ t) (joined_names ns)
+-- items of which each prints
+pub listed-each : {X : Type 0} (text : X → List ℕ) (xs : List X) → listed (map (λ (x : X). Some (text x)) xs) ≡ Some (join_by text (codes ", ") xs)
+listed-each text [] = refl
+listed-each text (x ∷ xs) =
+    ap (λ (o : Option (List (List ℕ))). option_map (join_by (λ (t : List ℕ). t) (codes ", ")) o) (all_present-each text (x ∷ xs))
+    ∙ ap (λ (t : List ℕ). Some (text x ++ t)) (joined_each text xs)
 
 pub listed-names : (n : List ℕ) (ns : List (List ℕ)) → listed (map (λ (n : List ℕ). Some (name_text n)) (n ∷ ns)) ≡ Some (columns_text (n ∷ ns))
-listed-names n ns = listed-Some (n ∷ ns) ∙ ap (λ (t : List ℕ). Some (name_text n ++ t)) (joined_names ns)
+listed-names n ns = listed-each name_text (n ∷ ns)
 
 -- the names of columns, where there are some
 pub listed-columns : (names : List (List ℕ)) → (length names == 0) ≡ false → listed (map (λ (n : List ℕ). Some (name_text n)) names) ≡ Some (columns_text names)

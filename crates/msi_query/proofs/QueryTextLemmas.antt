@@ -1,14 +1,15 @@
 -- The texts of queries from those of their parts.
-use Rattle.std.proofs.Common.{◌≡◌, ℕ, List, Option, Some, None, Result, Ok, Err, IsErr, IsOk, codes, length, map, [], ◌∷◌, true, false, ◌==◌, ◌++◌, refl, ap, sym, ◌∙◌}
+use Rattle.std.proofs.Common.{◌≡◌, ℕ, List, Option, Some, None, Result, Ok, Err, IsErr, IsOk, codes, length, map, [], ◌∷◌, true, false, ◌==◌, ◌++◌, refl, ap, sym, ◌∙◌, bytes_eq}
 use Rattle.std.specs.Fmt.{DisplaysOnOk, ◌++?◌}
 use Rattle.std.specs.declared.fmt.Error.{Error}
 use Rattle.std.specs.declared.fmt.Formatter.{Formatter}
 use Rattle.std.proofs.Output.{displays_on_IsOk_append, displays_on_ok_of_all, displays_on_ok_of_eq, then_text_assoc}
 use Rattle.msi_table.specs.Value.{Value}
 use Rattle.msi_query_tokens.specs.Names.{name_text}
-use Rattle.msi_query.specs.Queries.{Query, InsertQuery}
+use Rattle.msi_query.specs.Queries.{Query, Side, InsertQuery}
 use Rattle.msi_query_expressions.specs.Assignments.{set_text}
-use Rattle.msi_query.specs.QueryTexts.{bare_name, insert_text, listed, named_columns_text, or_bracketed, order_text, row_text, rows_text, sets_text, side_text}
+use Rattle.msi_query.specs.QueryTexts.{bare_name, insert_text, listed, named_columns_text, named_table, or_bracketed, order_text, row_text, rows_text}
+use Rattle.msi_query.specs.QueryTexts.{sets_text, side_text}
 use Rattle.msi_query.proofs.ListedLemmas.{listed-names}
 
 -- a side in brackets
@@ -45,11 +46,6 @@ pub order_text-some : (names : List (List ℕ)) → (length names == 0) ≡ fals
 order_text-some [] e = let no : true ≡ false = e in cc
 order_text-some (n ∷ ns) e = ap (λ (text : Option (List ℕ)). Some (codes " ORDER BY ") ++? text) (listed-names n ns)
 
--- no order
-pub order_text-none : (names : List (List ℕ)) → (length names == 0) ≡ true → [] ≡ order_text names
-order_text-none [] e = refl
-order_text-none (n ∷ ns) e = let no : false ≡ true = e in cc
-
 -- sets, where there are some
 pub sets_text-some : (sets : List (List ℕ × Value)) → (length sets == 0) ≡ false → (Some (codes " SET ") ++? listed (map set_text sets)) ≡ sets_text sets
 sets_text-some [] e = let no : true ≡ false = e in cc
@@ -73,3 +69,11 @@ insert_written took f g h k r s t q table columns names rows new view named valu
     ∙ ap (λ (ns : List (List ℕ)). (front ++? Some (named_columns_text ns)) ++? rows_text new) named
     ∙ ap (λ (rs : List (List Value)). (front ++? Some (named_columns_text columns)) ++? rows_text rs) values
     ∙ ap insert_text view) a b x y z
+
+-- a table of a product whose columns go by its own name, or by another
+pub named_table-same : (side : Side) → bytes_eq side.table side.name ≡ true → Some (name_text side.table) ≡ Some (named_table side)
+named_table-same side e = rw e refl
+
+pub named_table-other : (side : Side) → bytes_eq side.table side.name ≡ false
+    → (Some (name_text side.table) ++? Some (codes " ") ++? Some (name_text side.name)) ≡ Some (named_table side)
+named_table-other side e = rw e refl

@@ -12,9 +12,15 @@ pub record Clauses : Type 0 where
   pub order : List (List ℕ)
   pub is_distinct : Bool
 
+-- a table of a product, and the name that its columns go by there
+pub record Side : Type 0 where
+  pub table : List ℕ
+  pub name : List ℕ
+
 pub data Query : Type 0 where
   table : List ℕ → Clauses → Query
   join : JoinKind → Query → Query → Expression → Clauses → Query
+  product : List Side → Clauses → Query
 
 -- the columns that the values are of, where none stands for all in their order
 pub record InsertQuery : Type 0 where
@@ -44,18 +50,22 @@ narrowed (Some first) e = Some (both first e)
 abbrev pub narrowed_query : Query → Expression → Query
 narrowed_query (table name c) e = table name (record c { condition = narrowed c.condition e })
 narrowed_query (join kind l r on c) e = join kind l r on (record c { condition = narrowed c.condition e })
+narrowed_query (product sides c) e = product sides (record c { condition = narrowed c.condition e })
 
 -- the same query with these columns in place of those that it keeps
 abbrev pub projected_query : Query → List (List ℕ) → Query
 projected_query (table name c) names = table name (record c { columns = names })
 projected_query (join kind l r on c) names = join kind l r on (record c { columns = names })
+projected_query (product sides c) names = product sides (record c { columns = names })
 
 -- the same query with its rows ordered by these columns
 abbrev pub ordered_query : Query → List (List ℕ) → Query
 ordered_query (table name c) names = table name (record c { order = names })
 ordered_query (join kind l r on c) names = join kind l r on (record c { order = names })
+ordered_query (product sides c) names = product sides (record c { order = names })
 
 -- the same query with each of its rows once
 abbrev pub distinct_query : Query → Query
 distinct_query (table name c) = table name (record c { is_distinct = true })
 distinct_query (join kind l r on c) = join kind l r on (record c { is_distinct = true })
+distinct_query (product sides c) = product sides (record c { is_distinct = true })

@@ -1,6 +1,6 @@
 -- How queries print.
 use Rattle.std.specs.Prelude.{ℕ, Bool, not, List, [], ◌∷◌, ◌++◌, map, length, Option, Some, None, option_map, ◌==◌}
-use Rattle.std.specs.Prelude.{◌&&◌, is_none, if◌then◌else◌, codes}
+use Rattle.std.specs.Prelude.{◌&&◌, is_none, if◌then◌else◌, codes, bytes_eq}
 use Rattle.std.specs.List.{join_by}
 use Rattle.std.specs.Fmt.{◌++?◌}
 use Rattle.msi_base.specs.Lists.{all_present}
@@ -12,7 +12,7 @@ use Rattle.msi_query_expressions.specs.declared.joins.JoinKind.TheVariants.{Inne
 use Rattle.msi_query_expressions.specs.Assignments.{set_text}
 use Rattle.msi_query_expressions.specs.Expressions.{Expression}
 use Rattle.msi_query_expressions.specs.Printing.{expression_text}
-use Rattle.msi_query.specs.Queries.{Query, Clauses, table, join, InsertQuery, UpdateQuery, DeleteQuery}
+use Rattle.msi_query.specs.Queries.{Query, Clauses, Side, table, join, product, InsertQuery, UpdateQuery, DeleteQuery}
 
 -- texts with `, ` between them, where none is missing
 abbrev pub listed : List (Option (List ℕ)) → Option (List ℕ)
@@ -55,17 +55,27 @@ keep_all c = (length c.columns == 0) && is_none c.condition && (length c.order =
 -- the name of a table of which all is wanted
 abbrev pub bare_name : Query → Option (List ℕ)
 bare_name (table name c) = if keep_all c then Some name else None
-bare_name _ = None
+bare_name (join kind l r on c) = None
+bare_name (product sides c) = None
 
 -- a side of a join: such a table by its name, all else in brackets
 abbrev pub side_text : Query → Option (List ℕ) → Option (List ℕ)
 side_text q text = or_bracketed (bare_name q) text
+
+-- a table of a product: its name, and the one that its columns go by if that is another
+abbrev pub named_table : Side → List ℕ
+named_table side = if bytes_eq side.table side.name then name_text side.table
+    else name_text side.table ++ 32 ∷ name_text side.name
+
+abbrev pub sides_text : List Side → List ℕ
+sides_text sides = join_by named_table (codes ", ") sides
 
 abbrev pub query_text : Query → Option (List ℕ)
 query_text (table name c) = select_text c (Some (name_text name))
 query_text (join kind l r on c) =
     select_text c (side_text l (query_text l) ++? Some (join_word kind) ++? side_text r (query_text r)
     ++? Some (codes " ON ") ++? expression_text on)
+query_text (product sides c) = select_text c (Some (sides_text sides))
 
 abbrev pub row_text : List Value → Option (List ℕ)
 row_text row = Some (codes "(") ++? listed (map value_text row) ++? Some (codes ")")

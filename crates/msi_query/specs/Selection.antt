@@ -1,11 +1,11 @@
 -- The rows that a query gives: the relational algebra's product, selection and projection.
 use Rattle.std.specs.Prelude.{ℕ, Bool, true, false, not, List, [], ◌∷◌, ◌++◌, map, length, filter, replicate, Option}
-use Rattle.std.specs.Prelude.{Some, None, ◌==◌, if◌then◌else◌, Result}
+use Rattle.std.specs.Prelude.{Some, None, option_map, ◌==◌, if◌then◌else◌, Result, Ok, bytes_eq}
 use Rattle.std.specs.List.{flat_map, list_all, list_any, filter_map}
 use Rattle.std.specs.Ordering.{is_eq}
 use Rattle.std.specs.declared.cmp.Ordering.{Ordering}
 use Rattle.std.specs.Cmp.Lexicographic.{slice_cmp}
-use Rattle.msi_base.specs.Lists.{stable_sort}
+use Rattle.msi_base.specs.Lists.{has_pair, stable_sort}
 use Rattle.msi_base.specs.declared.errors.ErrorKind.{ErrorKind}
 use Rattle.msi_base.specs.declared.errors.ErrorKind.TheVariants.{InvalidData, InvalidInput, NotFound}
 use Rattle.msi_table.specs.Value.{Value}
@@ -17,8 +17,10 @@ use Rattle.msi_query_expressions.specs.declared.joins.JoinKind.TheVariants.{Left
 use Rattle.msi_query_expressions.specs.Joins.{is_left}
 use Rattle.msi_query_expressions.specs.Expressions.{Expression, names_in}
 use Rattle.msi_query_expressions.specs.Conditions.{meets, value_in}
-use Rattle.msi_query.specs.Queries.{Query, Clauses, table, join}
-use Rattle.msi_base.specs.Refusals.{Refusals, earlier, refusal_of, unless_refused, or_refused}
+use Rattle.msi_query_expressions.specs.Meaning.{meant, renamed}
+use Rattle.msi_query.specs.Queries.{Query, Clauses, Side, table, join, product}
+use Rattle.msi_query.specs.Product.{product as rows_of_product}
+use Rattle.msi_base.specs.Refusals.{Refusals, earlier, first_refusal, refusal_of, unless_refused, or_refused}
 use Rattle.msi_base.specs.Refusals.{◌>>=◌}
 
 -- a table as queries see it; no rows where it can't be read
@@ -68,15 +70,21 @@ once_if is_distinct rows = if is_distinct then unseen [] rows else rows
 abbrev pub rows_kept : Clauses → Relation → List (List Value)
 rows_kept c r = in_order r.columns c.order (filter (meets r.columns c.condition) r.rows)
 
--- those rows, then the columns; no columns keeps all. Whether rows are equal is asked of what is kept of them.
+-- the columns of the names; no names keep all
+abbrev pub projected : List (List ℕ) → Relation → Relation
+projected names r = if length names == 0 then r else record {
+  name = [];
+  columns = filter_map (λ name. column_named name r.columns) names;
+  rows = map (projected_row r.columns names) r.rows;
+}
+
+-- each row once
+abbrev pub distinct_if : Bool → Relation → Relation
+distinct_if is_distinct r = record r { rows = once_if is_distinct r.rows }
+
+-- the rows, then the columns. Whether rows are equal is asked of what is kept of them.
 abbrev pub selected : Clauses → Relation → Relation
-selected c r =
-    if length c.columns == 0 then record r { rows = once_if c.is_distinct (rows_kept c r) }
-    else record {
-      name = [];
-      columns = filter_map (λ name. column_named name r.columns) c.columns;
-      rows = once_if c.is_distinct (map (projected_row r.columns c.columns) (rows_kept c r));
-    }
+selected c r = distinct_if c.is_distinct (projected c.columns (record r { rows = rows_kept c r }))
 
 abbrev pub clause_refusals : Clauses → List ColumnDef → Refusals
 clause_refusals c columns = (not (has_columns columns c.columns), InvalidInput)
@@ -86,6 +94,18 @@ clause_refusals c columns = (not (has_columns columns c.columns), InvalidInput)
 -- what the clauses keep of a relation, or their refusal
 abbrev pub narrowed : Clauses → Relation → Result Relation ErrorKind
 narrowed c r = unless_refused (clause_refusals c r.columns) (selected c r)
+
+-- the clauses with the names of the columns that their names mean
+abbrev pub meant_clauses : List ℕ → List ColumnDef → Clauses → Clauses
+meant_clauses name columns c = let mean = meant name columns in record c {
+  columns = map mean c.columns;
+  condition = option_map (renamed mean) c.condition;
+  order = map mean c.order;
+}
+
+-- what the clauses keep of a relation, by the columns that their names mean in it
+abbrev pub kept_of : Clauses → Relation → Result Relation ErrorKind
+kept_of c r = narrowed (meant_clauses r.name r.columns c) r
 
 -- a join names its columns after their side
 abbrev pub prefixed : List ℕ → ColumnDef → ColumnDef
@@ -125,22 +145,65 @@ joined_narrowed kind on c l r = let columns = joined_columns kind l r in
     unless_refused ((not (has_columns columns (names_in on)), InvalidInput) ∷ clause_refusals c columns)
     (selected c (joined kind on l r))
 
+-- the same by the columns that its names mean in the join
+abbrev pub kept_of_join : JoinKind → Expression → Clauses → Relation → Relation → Result Relation ErrorKind
+kept_of_join kind on c l r = let columns = joined_columns kind l r in
+    joined_narrowed kind (renamed (meant [] columns) on) (meant_clauses [] columns c) l r
+
+-- a whole table, under the name that its columns go by
+abbrev pub side_of : (List ℕ → Option TableValues) → Side → Result Relation ErrorKind
+side_of tables side =
+    or_refused NotFound (tables side.table) >>=
+    λ t. or_refused InvalidData t.rows >>=
+    λ rows. Ok (record { name = side.name; columns = t.columns; rows = rows })
+
+-- each of them, or the first refusal
+abbrev pub sides_of : (List ℕ → Option TableValues) → List Side → Result (List Relation) ErrorKind
+sides_of tables [] = Ok []
+sides_of tables (side ∷ sides) = side_of tables side >>= λ r. sides_of tables sides >>= λ rs. Ok (r ∷ rs)
+
+-- a product names its columns after their side, as a join does
+abbrev pub product_columns : List Relation → List ColumnDef
+product_columns relations = flat_map (λ r. map (prefixed r.name) r.columns) relations
+
+abbrev pub product_of : List Relation → Relation
+product_of relations = record {
+  name = [];
+  columns = product_columns relations;
+  rows = rows_of_product (map (λ r. r.rows) relations);
+}
+
+-- no two tables of a product go by one name
+abbrev pub side_refusals : List Side → Refusals
+side_refusals sides = (has_pair bytes_eq (map (λ side. side.name) sides), InvalidInput) ∷ []
+
 -- what the query gives, or its refusal
 abbrev pub relation_of : (List ℕ → Option TableValues) → Query → Result Relation ErrorKind
 relation_of tables (table name c) =
     or_refused NotFound (tables name) >>=
     λ t. or_refused InvalidData t.rows >>=
-    λ rows. narrowed c (record { name = name; columns = t.columns; rows = rows })
+    λ rows. kept_of c (record { name = name; columns = t.columns; rows = rows })
 relation_of tables (join kind left right on c) =
-    relation_of tables left >>= λ l. relation_of tables right >>= λ r. joined_narrowed kind on c l r
+    relation_of tables left >>= λ l. relation_of tables right >>= λ r. kept_of_join kind on c l r
+relation_of tables (product sides c) =
+    sides_of tables sides >>= λ rs. unless_refused (side_refusals sides) (product_of rs) >>= λ r. kept_of c r
 
 abbrev pub is_table : Query → Bool
 is_table (table name c) = true
 is_table (join kind left right on c) = false
+is_table (product sides c) = false
+
+-- the refusal of the first table of a product that can't be read
+abbrev pub first_unread : (List ℕ → Result (List ColumnDef) ErrorKind) → List Side → Option ErrorKind
+first_unread columns [] = None
+first_unread columns (side ∷ sides) = earlier (refusal_of (columns side.table)) (first_unread columns sides)
 
 -- why a query is refused before a row is read, over tables whose columns are these, if they can be read: for the tables
--- and the columns of its first query, and of further ones up to the first join, whose own columns are still to be named
+-- and the columns of its first query, and of further ones up to the first join or product, whose own columns are still
+-- to be named
 abbrev pub early_refusal : (List ℕ → Result (List ColumnDef) ErrorKind) → Query → Option ErrorKind
-early_refusal columns (table name c) = refusal_of (columns name >>= λ cs. unless_refused (clause_refusals c cs) cs)
+early_refusal columns (table name c) =
+    refusal_of (columns name >>= λ cs. unless_refused (clause_refusals (meant_clauses name cs c) cs) cs)
 early_refusal columns (join kind left right on c) =
     earlier (early_refusal columns left) (if is_table left then early_refusal columns right else None)
+early_refusal columns (product sides c) = earlier (first_unread columns sides) (first_refusal (side_refusals sides))

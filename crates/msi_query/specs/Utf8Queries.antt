@@ -4,7 +4,7 @@ use Rattle.std.specs.List.{AllByRecursion}
 use Rattle.msi_table.specs.Utf8Texts.{AreUtf8Texts, AreUtf8Values, IsUtf8Value}
 use Rattle.msi_query_expressions.specs.Expressions.{Expression}
 use Rattle.msi_query_expressions.specs.Utf8Expressions.{IsUtf8Expression}
-use Rattle.msi_query.specs.Queries.{Clauses, Query, table, join, InsertQuery, UpdateQuery, DeleteQuery}
+use Rattle.msi_query.specs.Queries.{Clauses, Query, Side, table, join, product, InsertQuery, UpdateQuery, DeleteQuery}
 
 abbrev pub IsUtf8Condition : Option Expression → Type 0
 IsUtf8Condition None = ⊤
@@ -14,11 +14,15 @@ IsUtf8Condition (Some condition) = IsUtf8Expression condition
 abbrev pub IsUtf8Clauses : Clauses → Type 0
 IsUtf8Clauses clauses = AreUtf8Texts clauses.columns × IsUtf8Condition clauses.condition × AreUtf8Texts clauses.order
 
+abbrev pub IsUtf8Side : Side → Type 0
+IsUtf8Side side = IsUtf8 side.table × IsUtf8 side.name
+
 -- the names of tables, and what stands in conditions and clauses
 abbrev pub IsUtf8Query : Query → Type 0
 IsUtf8Query (table name clauses) = IsUtf8 name × IsUtf8Clauses clauses
 IsUtf8Query (join kind left right on clauses) =
     IsUtf8Query left × IsUtf8Query right × IsUtf8Expression on × IsUtf8Clauses clauses
+IsUtf8Query (product sides clauses) = AllByRecursion IsUtf8Side sides × IsUtf8Clauses clauses
 
 abbrev pub IsUtf8Insert : InsertQuery → Type 0
 IsUtf8Insert query = IsUtf8 query.table × AreUtf8Texts query.columns × AllByRecursion AreUtf8Values query.rows

@@ -8,6 +8,7 @@ ghost use Rattle.msi_query.specs.QueryTrees.{query_of};
 pub use crate::query::clauses::Clauses;
 pub use crate::query::delete::DeleteParts;
 pub use crate::query::insert::{InsertParts, NewRow};
+pub use crate::query::product::Side;
 pub use crate::query::select::SelectTree;
 pub use crate::query::update::UpdateParts;
 use crate::query::{Delete, Insert, Select, Update};

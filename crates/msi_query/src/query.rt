@@ -8,6 +8,7 @@ pub(crate) mod clauses;
 pub(crate) mod delete;
 pub(crate) mod insert;
 mod printing;
+pub(crate) mod product;
 pub(crate) mod select;
 mod texts;
 pub(crate) mod update;

@@ -4,6 +4,7 @@ pub mod FoldingLemmas
 pub mod BuiltLemmas
 pub mod TreeLemmas
 pub mod NamesLemmas
+pub mod MeaningLemmas
 pub mod EquatedLemmas
 pub mod EvaluationRows
 pub mod ReaderLemmas

@@ -10,6 +10,7 @@ pub mod Conditions
 pub mod Equated
 pub mod Folding
 pub mod Names
+pub mod Meaning
 pub mod Trees
 pub mod RowFilters
 pub mod Printing

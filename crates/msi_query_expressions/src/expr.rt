@@ -11,6 +11,7 @@ ghost use Rattle.msi_query_expressions.specs.OperatorValues.{truth};
 ghost use Rattle.msi_query_expressions.specs.Evaluation.{knows_names as knows_each, value_of, value_at};
 ghost use Rattle.msi_query_expressions.specs.Evaluation.{HasColumnsOf};
 ghost use Rattle.msi_query_expressions.specs.Folding.{folded_unary, folded_binary};
+ghost use Rattle.msi_query_expressions.specs.Meaning.{meant, renamed};
 ghost use Rattle.msi_query_expressions.specs.Names.{has_name};
 
 mod column_values;
@@ -21,8 +22,10 @@ pub(crate) mod filter;
 mod folding;
 mod names;
 mod printing;
+mod renaming;
 mod texts;
 
+use crate::meaning::Scope;
 pub use crate::operators::{BinaryOp, UnaryOp};
 use copying::copied;
 use equated::equated_places;
@@ -33,7 +36,8 @@ use msi_base::text::{IntoText, Text};
 use msi_table_values::column::Column;
 use msi_table_values::row::Row;
 use msi_table_values::value::Value;
-use names::{collect_names, knows_names};
+use names::{collect_names, knows_meant_names, knows_names};
+use renaming::renamed_tree;
 use std::alloc::Global;
 use std::collections::HashSet;
 use std::marker::Model;
@@ -425,6 +429,20 @@ impl Expr {
         Ok(Expr { tree })
     }
 
+    /// Returns a copy of the expression whose names are those of the columns that they mean, as `meant_name` has it.
+    ///
+    /// # Errors
+    /// Fails with `OutOfMemory`.
+    #[tactic(auto, using(crate::proofs::MeaningLemmas::renamed_is_built))]
+    pub fn with_meant_names(&self, alloc: Global, scope: Scope<'_>) -> Result<Expr, Error>
+        ensures ok { IfOk result (λ expression. expression
+            ≡ renamed (meant scope.entry.table.now scope.entry.columns.now) self.now) }
+        ensures kind { IfErr result (λ kind. kind ≡ OutOfMemory) }
+    {
+        let tree = renamed_tree(alloc, scope, &self.tree)?;
+        Ok(Expr { tree })
+    }
+
     /// Returns the names of the columns in the expression, each once.
     ///
     /// # Errors
@@ -449,5 +467,12 @@ impl Expr {
         ensures { result ≡ knows_each columns.now self.now }
     {
         knows_names(&self.tree, columns)
+    }
+
+    pub(crate) fn knows_meant_names(&self, scope: Scope<'_>) -> bool
+        ensures { result ≡ knows_each scope.entry.columns.now
+            (renamed (meant scope.entry.table.now scope.entry.columns.now) self.now) }
+    {
+        knows_meant_names(&self.tree, scope)
     }
 }

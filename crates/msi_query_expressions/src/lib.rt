@@ -5,6 +5,7 @@ mod assignment;
 pub mod expr;
 pub mod joins;
 pub mod laws;
+pub mod meaning;
 mod operands;
 pub mod operators;
 pub mod parts;

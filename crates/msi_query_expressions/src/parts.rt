@@ -4,10 +4,12 @@ ghost use Rattle.std.specs.Prelude.{◌≡◌, IfSome, Some};
 ghost use Rattle.msi_query_expressions.specs.Conditions.{meets};
 ghost use Rattle.msi_query_expressions.specs.Equated.{equated, PassesWithEqual};
 ghost use Rattle.msi_query_expressions.specs.Evaluation.{knows_names as knows_each};
+ghost use Rattle.msi_query_expressions.specs.Meaning.{meant, renamed};
 
 pub use crate::assignment::Assignment;
 use crate::expr::Expr;
 pub use crate::expr::filter::RowFilter;
+use crate::meaning::Scope;
 pub use crate::operands::Operand;
 pub use crate::printing::{operator_level, operator_text, prefix_text, right_operand_level};
 pub use crate::results::{binary_value, unary_value};
@@ -18,6 +20,14 @@ pub fn knows_names(condition: &Expr, columns: &[Column]) -> bool
     ensures { result ≡ knows_each columns.now condition.now }
 {
     condition.knows_names(columns)
+}
+
+/// Returns whether each name in a condition means a column, as `meant_name` has it. It takes no memory.
+pub fn knows_meant_names(condition: &Expr, scope: Scope<'_>) -> bool
+    ensures { result ≡ knows_each scope.entry.columns.now
+        (renamed (meant scope.entry.table.now scope.entry.columns.now) condition.now) }
+{
+    condition.knows_meant_names(scope)
 }
 
 /// Returns the places, in two sides of which the left one has so many columns, of the first columns that a condition

@@ -1,14 +1,17 @@
 //! The clauses of a query for rows: its columns, its condition, its order, and whether its rows are distinct.
 
-ghost use Rattle.std.specs.Prelude.{◌≡◌, IfOk, IfErr, option_copied, true};
+ghost use Rattle.std.specs.Prelude.{◌≡◌, IfOk, IfErr, None, map, option_copied, option_map, true};
 ghost use Rattle.msi_base.specs.declared.errors.ErrorKind.TheVariants.{OutOfMemory};
 ghost use Rattle.msi_query.specs.Queries.{narrowed as narrowed_by, no_clauses};
 ghost use Rattle.msi_query.specs.QueryTexts.{keep_all as leave_rows};
+ghost use Rattle.msi_query_expressions.specs.Meaning.{meant, renamed};
+ghost use Rattle.msi_query.specs.Selection.{meant_clauses};
 
 use super::narrowed;
 use msi_base::errors::Error;
-use msi_base::text::{Items, Text};
+use msi_base::text::{IntoText, Items, Text};
 use msi_query_expressions::Expr;
+use msi_query_expressions::parts::{Scope, meant_name, with_meant_names};
 use std::alloc::Global;
 use std::marker::Model;
 
@@ -115,6 +118,46 @@ impl Clauses {
         })
     }
 
+    /// Returns a copy with the names of the columns that the names mean in a relation.
+    ///
+    /// # Errors
+    /// Fails with `OutOfMemory`.
+    pub fn with_meant_names(&self, alloc: Global, scope: Scope<'_>) -> Result<Clauses, Error>
+        ensures ok { IfOk result (λ clauses. clauses
+            ≡ meant_clauses scope.entry.table.now scope.entry.columns.now self.now) }
+        ensures kind { IfErr result (λ kind. kind ≡ OutOfMemory) }
+    {
+        let columns = meant_names(alloc, scope, self.columns())?;
+        let condition = meant_condition(alloc, scope, self.condition())?;
+        let order = meant_names(alloc, scope, self.order())?;
+        Ok(Clauses {
+            columns,
+            condition,
+            order,
+            is_distinct: self.is_distinct,
+        })
+    }
+
+    /// Returns the condition, moved out, and the clauses without one.
+    pub fn split_condition(self) -> (Option<Expr>, Clauses)
+        ensures condition { result.0 ≡ self.condition }
+        ensures others { result.1 ≡ record self { condition = None } }
+    {
+        let Clauses {
+            columns,
+            condition,
+            order,
+            is_distinct,
+        } = self;
+        let others = Clauses {
+            columns,
+            condition: None,
+            order,
+            is_distinct,
+        };
+        (condition, others)
+    }
+
     pub(crate) fn keep_all(&self) -> bool
         ensures { result ≡ leave_rows self.now }
     {
@@ -216,6 +259,33 @@ pub(crate) fn copied_condition(
 {
     match condition {
         Some(condition) => Ok(Some(condition.clone(alloc)?)),
+        None => Ok(None),
+    }
+}
+
+fn meant_names(alloc: Global, scope: Scope<'_>, names: &[Text]) -> Result<Items<Text>, Error>
+    ensures ok { IfOk result (λ copies. copies
+        ≡ map (meant scope.entry.table.now scope.entry.columns.now) names.now) }
+    ensures kind { IfErr result (λ kind. kind ≡ OutOfMemory) }
+{
+    let mut copies = Vec::with_capacity(alloc, names.len())?;
+    for name in names {
+        copies.push(meant_name(scope, name.as_str()).into_text(alloc)?)?;
+    }
+    Ok(Items::from_vec(copies))
+}
+
+fn meant_condition(
+    alloc: Global,
+    scope: Scope<'_>,
+    condition: Option<&Expr>,
+) -> Result<Option<Expr>, Error>
+    ensures ok { IfOk result (λ copy. copy
+        ≡ option_map (renamed (meant scope.entry.table.now scope.entry.columns.now)) (option_copied condition.entry)) }
+    ensures kind { IfErr result (λ kind. kind ≡ OutOfMemory) }
+{
+    match condition {
+        Some(condition) => Ok(Some(with_meant_names(alloc, scope, condition)?)),
         None => Ok(None),
     }
 }

@@ -3,19 +3,20 @@
 ghost use Rattle.std.specs.Prelude.{◌≡◌, ◌++◌, IfOk, IfErr, List, ℕ, Some, codes, map, option_copied};
 ghost use Rattle.std.specs.Fmt.{DisplaysOnOk, ◌++?◌};
 ghost use Rattle.msi_base.specs.declared.errors.ErrorKind.TheVariants.{OutOfMemory};
-ghost use Rattle.msi_query.specs.Queries.{table, join, no_clauses, distinct_query, narrowed_query, ordered_query};
+ghost use Rattle.msi_query.specs.Queries.{table, join, product, no_clauses, distinct_query, narrowed_query, ordered_query};
 ghost use Rattle.msi_query.specs.Queries.{projected_query};
 ghost use Rattle.msi_query.specs.QueryTexts.{bare_name, columns_text, join_word, order_text, query_text, select_word};
-ghost use Rattle.msi_query.specs.QueryTexts.{side_text, where_text};
+ghost use Rattle.msi_query.specs.QueryTexts.{side_text, sides_text, where_text};
 ghost use Rattle.msi_query.specs.QueryTrees.{query_of};
 ghost use Rattle.msi_query.specs.Utf8Queries.{IsUtf8Query};
 
 use super::JoinKind;
 use super::clauses::{Clauses, copied_condition};
-use super::printing::{write_condition, write_name_list};
+use super::printing::{write_condition, write_list, write_name_list};
+use super::product::{Side, copied_sides};
 use super::texts::look_at_tree;
 use msi_base::errors::Error;
-use msi_base::text::{IntoText, Text};
+use msi_base::text::{IntoText, Items, Text};
 use msi_query_expressions::Expr;
 use msi_query_tokens::names::write_name;
 use msi_table::parts::copied_list;
@@ -37,6 +38,11 @@ pub enum SelectTree {
         left: Box<SelectTree>,
         right: Box<SelectTree>,
         on: Expr,
+        clauses: Clauses,
+    },
+    /// The rows of the tables, each with each.
+    Product {
+        sides: Items<Side>,
         clauses: Clauses,
     },
 }
@@ -86,6 +92,32 @@ impl Select {
         Ok(Select {
             alloc,
             tree: SelectTree::Table { name, clauses },
+        })
+    }
+
+    /// Starts a query for the product of tables: each row of each with each row of the others, and the columns of all of
+    /// them. The rows of the last table vary slowest. Each table is given with the name that its columns go by, `C` of a
+    /// table that goes by `T` as `T.C`, so that a table can stand there twice. Equations of columns in the condition
+    /// choose how rows are found, so no product is built that they exclude.
+    ///
+    /// # Errors
+    /// Fails with `OutOfMemory`.
+    pub fn from_tables(alloc: Global, tables: &[(&str, &str)]) -> Result<Select, Error>
+        ensures ok { IfOk result (λ query. query
+            ≡ product (map (λ side. record { table = side.0.now; name = side.1.now }) tables.now) no_clauses) }
+        ensures kind { IfErr result (λ kind. kind ≡ OutOfMemory) }
+    {
+        let mut sides = Vec::with_capacity(alloc, tables.len())?;
+        for (table, name) in tables {
+            let table = (*table).into_text(alloc)?;
+            let name = (*name).into_text(alloc)?;
+            sides.push(Side::new(table, name))?;
+        }
+        let clauses = Clauses::new(alloc);
+        let sides = Items::from_vec(sides);
+        Ok(Select {
+            alloc,
+            tree: SelectTree::Product { sides, clauses },
         })
     }
 
@@ -183,6 +215,10 @@ impl Select {
                 on,
                 clauses: clauses.projected(columns),
             },
+            SelectTree::Product { sides, clauses } => SelectTree::Product {
+                sides,
+                clauses: clauses.projected(columns),
+            },
         };
         Ok(Select { alloc, tree })
     }
@@ -218,6 +254,10 @@ impl Select {
                 on,
                 clauses: clauses.ordered(order),
             },
+            SelectTree::Product { sides, clauses } => SelectTree::Product {
+                sides,
+                clauses: clauses.ordered(order),
+            },
         };
         Ok(Select { alloc, tree })
     }
@@ -243,6 +283,10 @@ impl Select {
                 left,
                 right,
                 on,
+                clauses: clauses.distinct(),
+            },
+            SelectTree::Product { sides, clauses } => SelectTree::Product {
+                sides,
                 clauses: clauses.distinct(),
             },
         };
@@ -275,6 +319,10 @@ impl Select {
                 left,
                 right,
                 on,
+                clauses: clauses.narrowed(alloc, condition)?,
+            },
+            SelectTree::Product { sides, clauses } => SelectTree::Product {
+                sides,
                 clauses: clauses.narrowed(alloc, condition)?,
             },
         };
@@ -312,7 +360,7 @@ impl SelectTree {
     {
         match self {
             SelectTree::Table { name, clauses } if clauses.keep_all() => Some(name.as_str()),
-            _ => None,
+            SelectTree::Table { .. } | SelectTree::Join { .. } | SelectTree::Product { .. } => None,
         }
     }
 }
@@ -338,6 +386,10 @@ fn copied(alloc: Global, tree: &SelectTree) -> Result<SelectTree, Error>
             left: copied_in_box(alloc, left)?,
             right: copied_in_box(alloc, right)?,
             on: on.clone(alloc)?,
+            clauses: clauses.clone(alloc)?,
+        },
+        SelectTree::Product { sides, clauses } => SelectTree::Product {
+            sides: copied_sides(alloc, sides.as_slice())?,
             clauses: clauses.clone(alloc)?,
         },
     })
@@ -408,6 +460,12 @@ fn write_rest<W: fmt::Write>(f: &mut fmt::Formatter<W>, clauses: &Clauses) -> fm
     write_order(f, clauses.order())
 }
 
+fn write_sides<W: fmt::Write>(f: &mut fmt::Formatter<W>, sides: &[Side]) -> fmt::Result
+    ensures { DisplaysOnOk W.write_str_gives f.old result (Some (sides_text sides.now)) f.new }
+{
+    write_list(f, sides)
+}
+
 #[cycle(writing)]
 fn write_query<W: fmt::Write>(f: &mut fmt::Formatter<W>, tree: &SelectTree) -> fmt::Result
     ensures { DisplaysOnOk W.write_str_gives f.old result (query_text (query_of tree.now)) f.new }
@@ -430,6 +488,11 @@ fn write_query<W: fmt::Write>(f: &mut fmt::Formatter<W>, tree: &SelectTree) -> f
             f.write_str(join_words(*kind))?;
             write_side(f, right)?;
             write!(f, " ON {on}")?;
+            write_rest(f, clauses)
+        }
+        SelectTree::Product { sides, clauses } => {
+            write_columns(f, clauses)?;
+            write_sides(f, sides.as_slice())?;
             write_rest(f, clauses)
         }
     }

@@ -5,10 +5,11 @@ ghost use Rattle.std.specs.List.{AllByRecursion};
 ghost use Rattle.std.specs.Option.{option_copied};
 ghost use Rattle.msi_table.specs.Utf8Texts.{AreUtf8Values, IsUtf8Value};
 ghost use Rattle.msi_query.specs.QueryTrees.{query_of};
-ghost use Rattle.msi_query.specs.Utf8Queries.{IsUtf8Clauses, IsUtf8Condition, IsUtf8Query};
+ghost use Rattle.msi_query.specs.Utf8Queries.{IsUtf8Clauses, IsUtf8Condition, IsUtf8Query, IsUtf8Side};
 
 use super::clauses::Clauses;
 use super::insert::NewRow;
+use super::product::Side;
 use super::select::SelectTree;
 use msi_base::laws::texts_are_utf8;
 use msi_query_expressions::Expr;
@@ -32,6 +33,21 @@ fn look_at_clauses(clauses: &Clauses)
     listed_texts_are_utf8(clauses.order());
 }
 
+fn look_at_sides(sides: &[Side])
+    ensures { AllByRecursion IsUtf8Side sides.now }
+{
+    for side in sides {
+        look_at_side(side);
+    }
+}
+
+fn look_at_side(side: &Side)
+    ensures { IsUtf8Side side.now }
+{
+    texts_are_utf8(side.table());
+    texts_are_utf8(side.name());
+}
+
 pub(crate) fn look_at_tree(tree: &SelectTree)
     ensures { IsUtf8Query (query_of tree.now) }
 {
@@ -50,6 +66,10 @@ pub(crate) fn look_at_tree(tree: &SelectTree)
             look_at_tree(left);
             look_at_tree(right);
             expression_texts_are_utf8(on);
+            look_at_clauses(clauses);
+        }
+        SelectTree::Product { sides, clauses } => {
+            look_at_sides(sides.as_slice());
             look_at_clauses(clauses);
         }
     }

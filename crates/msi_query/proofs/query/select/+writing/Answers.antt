@@ -3,7 +3,7 @@ use Rattle.std.specs.Fmt.{◌++?◌}
 use Rattle.msi_query_expressions.specs.Printing.{expression_text}
 use Rattle.msi_query_tokens.specs.Names.{name_text}
 use Rattle.msi_query.specs.Queries.{Clauses, Query}
-use Rattle.msi_query.specs.QueryTexts.{columns_text, order_text, query_text, select_word, side_text, where_text}
+use Rattle.msi_query.specs.QueryTexts.{columns_text, order_text, query_text, select_word, side_text, sides_text, where_text}
 use Rattle.msi_query.specs.QueryTrees.{query_of}
 use Rattle.msi_query.proofs.QueryTextLemmas.{failed_write, four_writes, side_text-None, three_writes}
 use Rattle.msi_query.proofs.query.select.+writing.Goals as goal
@@ -84,3 +84,20 @@ write_side-returns-in_err-write_str-in-None g t c = failed_write g.W.Write.write
 
 pub write_side-returns-in_err-write_query-in-None : goal.write_side-returns-in_err-write_query-in-None
 write_side-returns-in_err-write_query-in-None g t c = failed_write g.W.Write.write_str_gives _ _ _ _ c.from_residual-in_err-write_query-in-None.ensures.0
+
+pub write_query-returns-in_err-write_columns-in-Product : goal.write_query-returns-in_err-write_columns-in-Product
+write_query-returns-in_err-write_columns-in-Product g t c =
+    failed_write g.W.Write.write_str_gives _ _ _ _ c.from_residual-in_err-write_columns-in-Product.ensures.0
+
+pub write_query-returns-in_err-write_sides-in-Product : goal.write_query-returns-in_err-write_sides-in-Product
+write_query-returns-in_err-write_sides-in-Product g t c =
+    failed_write g.W.Write.write_str_gives _ _ _ _ c.from_residual-in_err-write_sides-in-Product.ensures.0
+
+pub write_query-returns-in_ok-write_sides-in-Product : goal.write_query-returns-in_ok-write_sides-in-Product
+write_query-returns-in_ok-write_sides-in-Product g t c =
+    three_writes g.W.Write.write_str_gives c.args.f.now c.write_columns-in-Product.new.f c.write_sides.new.f c.write_rest-in-Product.new.f
+    c.write_columns-in-Product.result c.write_sides.result c.write_rest-in-Product.result
+    (head c.in-Product.clauses) (Some (sides_text c.as_slice.result.now)) (rest c.in-Product.clauses) _
+    (rw (c.in-Product.is, c.as_slice.ensures) refl)
+    (rw c.in_ok-write_columns-in-Product.was refl) (rw c.in_ok-write_sides-in-Product.was refl)
+    c.write_columns-in-Product.ensures c.write_sides.ensures c.write_rest-in-Product.ensures
