@@ -182,8 +182,9 @@ impl<F: Source> Package<F> {
     /// # Errors
     /// Fails with the first of these that applies, for a join those of the left query, then those of the right:
     /// `NotFound` if a table isn't there, `InvalidData` if it can't be read; then `InvalidInput` if a column isn't
-    /// there, in a join's condition, then one that is selected, then in the condition. If none applies, it fails with
-    /// `OutOfMemory`, which may also come in place of what is refused from the first join's own columns on.
+    /// there, in a join's condition, then one that is selected, then in the condition, then in the order. If none
+    /// applies, it fails with `OutOfMemory`, which may also come in place of what is refused from the first join's own
+    /// columns on.
     pub fn select_rows(&self, query: Select) -> Result<Rows<'_>, Error>
         ensures ok { IfOk result (Selects (relation_of (values_of self.now.state.kept.database) query)) }
         ensures kind { IfErr result (IsRefusal (relation_of (values_of self.now.state.kept.database) query)) }

@@ -155,13 +155,15 @@ impl Database {
         }
     }
 
-    /// Returns the rows that a query selects. Those of a query for one table are decoded as they are asked for.
+    /// Returns the rows that a query selects. Those of a query for one table are decoded as they are asked for, unless
+    /// they are ordered or distinct.
     ///
     /// # Errors
     /// Fails with the first of these that applies, for a join those of the left query, then those of the right:
     /// `NotFound` if a table isn't there, `InvalidData` if it can't be read; then `InvalidInput` if a column isn't
-    /// there, in a join's condition, then one that is selected, then in the condition. If none applies, it fails with
-    /// `OutOfMemory`, which may also come in place of what is refused from the first join's own columns on.
+    /// there, in a join's condition, then one that is selected, then in the condition, then in the order. If none
+    /// applies, it fails with `OutOfMemory`, which may also come in place of what is refused from the first join's own
+    /// columns on.
     pub fn select_rows(&self, alloc: Global, query: &Select) -> Result<Rows<'_>, Error>
         ensures ok { IfOk result (Selects (relation_of (values_of self.now.database) query.now)) }
         ensures kind { IfErr result (IsRefusal (relation_of (values_of self.now.database) query.now)) }

@@ -3,3 +3,6 @@ pub mod ListedLemmas
 pub mod QueryTextLemmas
 pub mod QueryTextRows
 pub mod SelectionLemmas
+pub mod ProductLawLemmas
+pub mod ProductRows
+pub mod SelectionRows

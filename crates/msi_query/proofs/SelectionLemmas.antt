@@ -67,13 +67,13 @@ pub projected_is : (places : List Place) (names : List (List ℕ)) (r : Relation
     → relation_values places (projected_cells names r.columns rows) ≡ projected names (relation_values places (record r { rows = rows }))
 projected_is places names r rows some = rw (some, columns_projected r.columns names, rows_projected places r.columns names rows) refl
 
-pub some_projected : (places : List Place) (names : List (List ℕ)) (r : RelationCells) (columns : List ColumnDef) (rows : List (List ValueRef)) (answer : Result RelationCells ErrorKind)
+pub some_projected : (names : List (List ℕ)) (r : RelationCells) (columns : List ColumnDef) (rows : List (List ValueRef)) (answer : Result RelationCells ErrorKind)
     → (length names == 0) ≡ false → columns ≡ r.columns → rows ≡ r.rows → IfOk answer (λ kept. kept ≡ projected_cells names columns rows)
-    → IfOk answer (λ kept. relation_values places kept ≡ projected names (relation_values places r))
-some_projected places names r columns rows (Ok kept) some e f k =
-    ap (relation_values places) (k ∙ ap (λ cs. projected_cells names cs rows) e ∙ ap (λ rs. projected_cells names r.columns rs) f)
+    → IfOk answer (λ kept. (places : List Place) → relation_values places kept ≡ projected names (relation_values places r))
+some_projected names r columns rows (Ok kept) some e f k =
+    λ places. ap (relation_values places) (k ∙ ap (λ cs. projected_cells names cs rows) e ∙ ap (λ rs. projected_cells names r.columns rs) f)
     ∙ projected_is places names r r.rows some
-some_projected places names r columns rows (Err kind) some e f k = k
+some_projected names r columns rows (Err kind) some e f k = k
 
 pub all_projected : (names : List (List ℕ)) (r : Relation) → (length names == 0) ≡ true → r ≡ projected names r
 all_projected names r all = rw all refl

@@ -8,6 +8,7 @@ pub mod Product
 pub mod Selection
 pub mod Rows
 pub mod Selected
+pub mod ProductLaws
 -- The words of the crates below, which public clauses cite.
 pub use Rattle.msi_base.specs.declared.errors.ErrorKind
 pub use Rattle.msi_table.specs.Value
@@ -24,6 +25,7 @@ pub use Rattle.msi_query_expressions.specs.Evaluation
 pub use Rattle.msi_query_expressions.specs.Conditions
 pub use Rattle.msi_query_expressions.specs.Equated
 pub use Rattle.msi_query_expressions.specs.Folding
+pub use Rattle.msi_query_expressions.specs.Meaning
 pub use Rattle.msi_query_expressions.specs.Names
 pub use Rattle.msi_query_expressions.specs.Trees
 pub use Rattle.msi_query_expressions.specs.RowFilters

@@ -1,5 +1,5 @@
 -- Rows of cells, and what they stand for.
-use Rattle.std.specs.Prelude.{ℕ, List, [], map, Option, option_map, option_and_then, unwrap_or, slice_get, Result, Ok}
+use Rattle.std.specs.Prelude.{ℕ, List, [], ◌∷◌, map, Option, option_map, option_and_then, unwrap_or, slice_get, Result, Ok}
 use Rattle.std.specs.List.{filter_map}
 use Rattle.msi_base.specs.declared.errors.ErrorKind.{ErrorKind}
 use Rattle.msi_base.specs.declared.errors.ErrorKind.TheVariants.{InvalidData, NotFound}
@@ -12,6 +12,7 @@ use Rattle.msi_table.specs.CellValues.{row_values}
 use Rattle.msi_base.specs.Refusals.{or_refused, ◌>>=◌}
 use Rattle.msi_table.specs.TableCells.{TableCells}
 use Rattle.msi_table.specs.Rows.{TableRows, cells_at}
+use Rattle.msi_query.specs.Queries.{Side}
 use Rattle.msi_query.specs.Selection.{Relation, TableValues}
 
 -- a relation as it is kept
@@ -42,6 +43,15 @@ whole_table tables name = or_refused NotFound (tables name) >>=
 -- a whole table of its columns and rows
 abbrev pub cells_of : List ℕ → TableRows → RelationCells
 cells_of name t = record { name = name; columns = t.columns; rows = t.rows }
+
+-- a whole table of a product, under the name that its columns go by
+abbrev pub side_cells : (List ℕ → Option TableCells) → Side → Result RelationCells ErrorKind
+side_cells tables side = whole_table tables side.table >>= λ r. Ok (record r { name = side.name })
+
+-- each of them, or the first refusal
+abbrev pub sides_cells : (List ℕ → Option TableCells) → List Side → Result (List RelationCells) ErrorKind
+sides_cells tables [] = Ok []
+sides_cells tables (side ∷ sides) = side_cells tables side >>= λ r. sides_cells tables sides >>= λ rs. Ok (r ∷ rs)
 
 -- the columns of a table that can be read, or its refusal
 abbrev pub columns_read : (List ℕ → Option TableCells) → List ℕ → Result (List ColumnDef) ErrorKind

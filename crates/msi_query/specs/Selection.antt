@@ -175,7 +175,7 @@ product_of relations = record {
 
 -- no two tables of a product go by one name
 abbrev pub side_refusals : List Side → Refusals
-side_refusals sides = (has_pair bytes_eq (map (λ side. side.name) sides), InvalidInput) ∷ []
+side_refusals sides = (has_pair (λ side other. bytes_eq side.name other.name) sides, InvalidInput) ∷ []
 
 -- what the query gives, or its refusal
 abbrev pub relation_of : (List ℕ → Option TableValues) → Query → Result Relation ErrorKind

@@ -1,5 +1,6 @@
 //! Laws of queries: each is the contract of a function that only looks at its query.
 
+ghost use Rattle.msi_query.specs.ProductLaws.{ProductsAreJoins};
 ghost use Rattle.msi_query.specs.Utf8Queries.{IsUtf8Delete, IsUtf8Insert, IsUtf8Query, IsUtf8Update};
 
 use crate::query::{Delete, Insert, Select, Update};
@@ -7,6 +8,12 @@ pub use msi_query_expressions::laws::{
     constructors_fold, expression_texts_are_utf8, folding_keeps_values,
     printed_conditions_are_unambiguous,
 };
+
+/// A product of two tables under a condition has the columns and the rows of their inner join by that condition, the
+/// rows in the order of the product, and is refused where the join is, for the same reason.
+pub fn products_are_joins()
+    ensures { ProductsAreJoins }
+{}
 
 /// Each text of a query for rows is UTF-8: the names of tables and columns, and the texts of conditions.
 pub fn select_texts_are_utf8(query: &Select)

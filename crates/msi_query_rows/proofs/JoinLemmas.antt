@@ -15,7 +15,7 @@ use Rattle.msi_query.specs.Queries.{Clauses, Query, table, join}
 use Rattle.msi_base.specs.Refusals.{IsRefusal, unless_refused, ◌>>=◌}
 use Rattle.msi_table_cells.specs.TableCells.{TableCells}
 use Rattle.msi_query.specs.Rows.{RelationCells, relation_values, rows_values, tables_values, whole_table}
-use Rattle.msi_query.specs.Selection.{Relation, TableValues, narrowed, relation_of, clause_refusals, joined, has_columns, joined_columns, joined_narrowed, rows_of_row, selected}
+use Rattle.msi_query.specs.Selection.{Relation, TableValues, kept_of, kept_of_join, relation_of, clause_refusals, joined, has_columns, joined_columns, joined_narrowed, rows_of_row, selected}
 use Rattle.msi_base.proofs.RefusalLemmas.{first_holds, first_passes, refusals-Err, refusals-Ok}
 use Rattle.msi_query_rows.proofs.WholeTableLemmas.{table_goes_on}
 
@@ -40,7 +40,8 @@ clauses_refused kind on c l r columns others known answer k e u t o a w =
     inr (join_passes kind on c l r columns known e u t ∙ refusals-Err (clause_refusals c (joined_columns kind l r)) tt (selected c (joined kind on l r)) k
     (sym w ∙ a ∙ ap (λ cs. unless_refused (clause_refusals c cs) tt) o))
 
-whole_is : (places : List Place) (whole : RelationCells) (j : Relation) → whole.name ≡ j.name → whole.columns ≡ j.columns → rows_values places whole.rows ≡ j.rows → relation_values places whole ≡ j
+-- a relation by its parts
+pub whole_is : (places : List Place) (whole : RelationCells) (j : Relation) → whole.name ≡ j.name → whole.columns ≡ j.columns → rows_values places whole.rows ≡ j.rows → relation_values places whole ≡ j
 whole_is places whole j n c r =
     ap (λ (x : List ℕ). let s : Relation = record { name = x; columns = whole.columns; rows = rows_values places whole.rows } in s) n
     ∙ ap (λ (x : List ColumnDef). let s : Relation = record { name = j.name; columns = x; rows = rows_values places whole.rows } in s) c
@@ -78,16 +79,16 @@ join_same kind places f columns on n m l left r right e w u v =
 
 -- what a query for a table gives, where the table is found
 pub table_answer : (places : List Place) (tables : List ℕ → Option TableCells) (q : Query) (name : List ℕ) (c : Clauses) (relation : RelationCells) (answer : Result RelationCells ErrorKind) → q ≡ table name c
-    → whole_table tables name ≡ Ok relation → IfOk answer (λ kept. narrowed c (relation_values places relation) ≡ Ok (relation_values places kept))
+    → whole_table tables name ≡ Ok relation → IfOk answer (λ kept. kept_of c (relation_values places relation) ≡ Ok (relation_values places kept))
     → IfOk answer (λ kept. relation_of (tables_values places tables) q ≡ Ok (relation_values places kept))
 table_answer places tables q name c relation (Ok kept) is e h =
-    ap (relation_of (tables_values places tables)) is ∙ table_goes_on places tables name (narrowed c) ∙ ap (λ r. r >>= λ r. narrowed c (relation_values places r)) e ∙ h
+    ap (relation_of (tables_values places tables)) is ∙ table_goes_on places tables name (kept_of c) ∙ ap (λ r. r >>= λ r. kept_of c (relation_values places r)) e ∙ h
 table_answer places tables q name c relation (Err kind) is e h = h
 
 -- what a join gives, where both sides are given
 pub join_answer : (tables : List ℕ → Option TableValues) (places : List Place) (q : Query) (kind : JoinKind) (l r : Query) (on : Expression) (c : Clauses) (left right : RelationCells) (answer : Result RelationCells ErrorKind)
     → q ≡ join kind l r on c → relation_of tables l ≡ Ok (relation_values places left) → relation_of tables r ≡ Ok (relation_values places right)
-    → IfOk answer (λ kept. joined_narrowed kind on c (relation_values places left) (relation_values places right) ≡ Ok (relation_values places kept))
+    → IfOk answer (λ kept. kept_of_join kind on c (relation_values places left) (relation_values places right) ≡ Ok (relation_values places kept))
     → IfOk answer (λ kept. relation_of tables q ≡ Ok (relation_values places kept))
 join_answer tables places q kind l r on c left right (Ok kept) is e f h = ap (relation_of tables) is ∙ rw (e, f) h
 join_answer tables places q kind l r on c left right (Err k) is e f h = h

@@ -6,3 +6,8 @@ pub mod PickingLemmas
 pub mod IndexLemmas
 pub mod EarlyLemmas
 pub mod RefusedLemmas
+pub mod OrderLemmas
+pub mod DistinctLemmas
+pub mod SelectedLemmas
+pub mod MeantLemmas
+pub mod SidesLemmas

@@ -17,12 +17,13 @@ use Rattle.msi_table.specs.Rows.{AreAsWide, AreRowNumbers, RowsDef, TableRows, r
 use Rattle.msi_query_expressions.specs.Expressions.{Expression}
 use Rattle.msi_query_expressions.specs.Conditions.{meets}
 use Rattle.msi_query.specs.Queries.{Clauses}
-use Rattle.msi_query.specs.Rows.{RelationCells, cells_of, relation_values, rows_values}
-use Rattle.msi_query.specs.Selection.{Relation, clause_refusals, narrowed, selected}
+use Rattle.msi_query.specs.Rows.{RelationCells, cells_of, projected_cells, relation_values, rows_values}
+use Rattle.msi_query.specs.Selection.{Relation, clause_refusals, narrowed, projected, selected}
 use Rattle.msi_query.proofs.SelectionLemmas.{projected_is}
-use Rattle.msi_query_rows.specs.Picking.{columns_picked, places_picked}
+use Rattle.msi_query_rows.specs.Picking.{columns_picked, keep_order, places_picked}
 use Rattle.msi_query.specs.Selected.{Selects}
 use Rattle.msi_query_rows.proofs.RefusedLemmas.{narrowed_given}
+use Rattle.msi_query_rows.proofs.SelectedLemmas.{selected_in_place}
 use Rattle.msi_query_rows.proofs.WidthLemmas.{narrowed_is_wide}
 
 -- WHICH ROWS
@@ -74,22 +75,26 @@ picked_cells name c t numbers = let places = places_picked c.columns t.columns i
   rows = rows_picked numbers places t.rows;
 }
 
-picked_is : (places : List Place) (c : Clauses) (name : List ℕ) (t : TableRows) (numbers : Option (List ℕ))
+picked_is : (places : List Place) (c : Clauses) (name : List ℕ) (t : TableRows) (numbers : Option (List ℕ)) → keep_order c ≡ true
     → rows_values places (rows_numbered numbers t.rows) ≡ filter (meets t.columns c.condition) (rows_values places t.rows)
     → relation_values places (picked_cells name c t numbers) ≡ selected c (relation_values places (cells_of name t))
-picked_is places c name t numbers k = ⊎_elim
-    (λ all. rw all (ap (λ (rs : List (List Value)). let s : Relation = record { name = name; columns = t.columns; rows = rs } in s)
-    (ap (rows_values places) (map-id (rows_numbered numbers t.rows)) ∙ k)))
-    (λ some. projected_is places c (cells_of name t) (picked_cells name c t numbers) (rows_numbered numbers t.rows) some k (rw some refl))
-    (cases_Bool (length c.columns == 0))
+picked_is places c name t numbers stay k =
+    let with_rows : List (List Value) → Relation = λ rows. record { name = name; columns = t.columns; rows = rows } in
+    let met : List (List Value) = filter (meets t.columns c.condition) (rows_values places t.rows) in
+    let picked : relation_values places (picked_cells name c t numbers) ≡ projected c.columns (with_rows met) = ⊎_elim
+    (λ all. rw all (ap with_rows (ap (rows_values places) (map-id (rows_numbered numbers t.rows)) ∙ k)))
+    (λ some. let cells : picked_cells name c t numbers ≡ projected_cells c.columns t.columns (rows_numbered numbers t.rows) = rw some refl in
+    ap (relation_values places) cells ∙ projected_is places c.columns (cells_of name t) (rows_numbered numbers t.rows) some ∙ ap (λ rows. projected c.columns (with_rows rows)) k)
+    (cases_Bool (length c.columns == 0)) in
+    picked ∙ sym (selected_in_place c (relation_values places (cells_of name t)) stay)
 
 -- what is picked is what the clauses keep
-pub picked_narrowed : (places : List Place) (c : Clauses) (name : List ℕ) (t : TableRows) (numbers : Option (List ℕ)) (columns : List ColumnDef) (answer : Result (Unit {0}) ErrorKind) → columns ≡ t.columns
+pub picked_narrowed : (places : List Place) (c : Clauses) (name : List ℕ) (t : TableRows) (numbers : Option (List ℕ)) (columns : List ColumnDef) (answer : Result (Unit {0}) ErrorKind) → keep_order c ≡ true → columns ≡ t.columns
     → answer ≡ unless_refused (clause_refusals c columns) tt → answer ≡ Ok tt
     → rows_values places (rows_numbered numbers t.rows) ≡ filter (meets t.columns c.condition) (rows_values places t.rows)
     → narrowed c (relation_values places (cells_of name t)) ≡ Ok (relation_values places (picked_cells name c t numbers))
-picked_narrowed places c name t numbers columns answer e a w k =
-    narrowed_given places c (cells_of name t) columns answer (Ok (picked_cells name c t numbers)) e a w (picked_is places c name t numbers k)
+picked_narrowed places c name t numbers columns answer stay e a w k =
+    narrowed_given places c (cells_of name t) columns answer (Ok (picked_cells name c t numbers)) e a w (picked_is places c name t numbers stay k)
 
 -- what a call picked, by what it was given
 pub record IsPicked (places : List Place) (c : Clauses) (t : TableRows) (columns : List ColumnDef) (at : Option (List (Option ℕ))) (numbers : Option (List ℕ)) : Type 0 where
@@ -99,11 +104,11 @@ pub record IsPicked (places : List Place) (c : Clauses) (t : TableRows) (columns
 
 pub is_picked : (places : List Place) (c : Clauses) (t : TableRows) (columns : List ColumnDef) (at : Option (List (Option ℕ))) (numbers : Option (List ℕ))
     (first second : List ColumnDef) (answer : Result (Unit {0}) ErrorKind) (names : List (List ℕ)) (condition : Option Expression)
-    → first ≡ t.columns → answer ≡ unless_refused (clause_refusals c first) tt → answer ≡ Ok tt → second ≡ t.columns → names ≡ c.columns → at ≡ places_picked names second → columns ≡ columns_picked at second
+    → keep_order c ≡ true → first ≡ t.columns → answer ≡ unless_refused (clause_refusals c first) tt → answer ≡ Ok tt → second ≡ t.columns → names ≡ c.columns → at ≡ places_picked names second → columns ≡ columns_picked at second
     → condition ≡ c.condition → rows_values places (rows_numbered numbers t.rows) ≡ filter (meets t.columns condition) (rows_values places t.rows)
     → IsPicked places c t columns at numbers
-is_picked places c t columns at numbers first second answer names condition f a w s n p q m k = record {
-  known = λ name. picked_narrowed places c name t numbers first answer f a w (k ∙ ap (λ o. filter (meets t.columns o) (rows_values places t.rows)) m);
+is_picked places c t columns at numbers first second answer names condition stay f a w s n p q m k = record {
+  known = λ name. picked_narrowed places c name t numbers first answer stay f a w (k ∙ ap (λ o. filter (meets t.columns o) (rows_values places t.rows)) m);
   columns_are = q ∙ ap (λ o. columns_picked o second) (p ∙ ap (λ ns. places_picked ns second) n) ∙ ap (λ cs. columns_picked (places_picked c.columns cs) cs) s;
   places_are = p ∙ ap (λ ns. places_picked ns second) n ∙ ap (places_picked c.columns) s;
 }

@@ -11,7 +11,7 @@ use Rattle.msi_query.specs.Queries.{Clauses, Query, table, join}
 use Rattle.msi_base.specs.Refusals.{IsRefusal, unless_refused, ◌>>=◌}
 use Rattle.msi_table_cells.specs.TableCells.{TableCells}
 use Rattle.msi_query.specs.Rows.{RelationCells, relation_values, tables_values, whole_table}
-use Rattle.msi_query.specs.Selection.{Relation, TableValues, narrowed, relation_of, clause_refusals, joined_narrowed, selected}
+use Rattle.msi_query.specs.Selection.{Relation, TableValues, kept_of, kept_of_join, narrowed, relation_of, clause_refusals, selected}
 use Rattle.msi_base.proofs.RefusalLemmas.{refusals-Err, refusals-Ok}
 use Rattle.msi_query_rows.proofs.WholeTableLemmas.{table_goes_on}
 
@@ -48,16 +48,16 @@ pub table_refused : (places : List Place) (tables : List ℕ → Option TableCel
     → IsRefusal (whole_table tables name) k → IsRefusal (relation_of (tables_values places tables) q) k
 table_refused places tables q name c k is (inl m) = inl m
 table_refused places tables q name c k is (inr e) =
-    inr (ap (relation_of (tables_values places tables)) is ∙ table_goes_on places tables name (narrowed c) ∙ ap (λ r. r >>= λ r. narrowed c (relation_values places r)) e)
+    inr (ap (relation_of (tables_values places tables)) is ∙ table_goes_on places tables name (kept_of c) ∙ ap (λ r. r >>= λ r. kept_of c (relation_values places r)) e)
 
 pub clauses_refuse : (places : List Place) (tables : List ℕ → Option TableCells) (q : Query) (name : List ℕ) (c : Clauses) (relation : RelationCells) (k : ErrorKind) → q ≡ table name c
-    → whole_table tables name ≡ Ok relation → IsRefusal (narrowed c (relation_values places relation)) k → IsRefusal (relation_of (tables_values places tables) q) k
+    → whole_table tables name ≡ Ok relation → IsRefusal (kept_of c (relation_values places relation)) k → IsRefusal (relation_of (tables_values places tables) q) k
 clauses_refuse places tables q name c relation k is e (inl m) = inl m
 clauses_refuse places tables q name c relation k is e (inr h) =
-    inr (ap (relation_of (tables_values places tables)) is ∙ table_goes_on places tables name (narrowed c) ∙ ap (λ r. r >>= λ r. narrowed c (relation_values places r)) e ∙ h)
+    inr (ap (relation_of (tables_values places tables)) is ∙ table_goes_on places tables name (kept_of c) ∙ ap (λ r. r >>= λ r. kept_of c (relation_values places r)) e ∙ h)
 
 pub table_fails : {A : Type 0} (places : List Place) (tables : List ℕ → Option TableCells) (q : Query) (name : List ℕ) (c : Clauses) (relation : RelationCells) (answer : Result A ErrorKind) → q ≡ table name c
-    → whole_table tables name ≡ Ok relation → IfErr answer (IsRefusal (narrowed c (relation_values places relation))) → IfErr answer (IsRefusal (relation_of (tables_values places tables) q))
+    → whole_table tables name ≡ Ok relation → IfErr answer (IsRefusal (kept_of c (relation_values places relation))) → IfErr answer (IsRefusal (relation_of (tables_values places tables) q))
 table_fails places tables q name c relation (Ok kept) is e h = tt
 table_fails places tables q name c relation (Err k) is e h = clauses_refuse places tables q name c relation k is e h
 
@@ -73,11 +73,11 @@ right_refused tables q kind l r on c left k is e (inl m) = inl m
 right_refused tables q kind l r on c left k is e (inr f) = inr (ap (relation_of tables) is ∙ rw (e, f) refl)
 
 pub join_refuses : (tables : List ℕ → Option TableValues) (q : Query) (kind : JoinKind) (l r : Query) (on : Expression) (c : Clauses) (left right : Relation) (k : ErrorKind) → q ≡ join kind l r on c
-    → relation_of tables l ≡ Ok left → relation_of tables r ≡ Ok right → IsRefusal (joined_narrowed kind on c left right) k → IsRefusal (relation_of tables q) k
+    → relation_of tables l ≡ Ok left → relation_of tables r ≡ Ok right → IsRefusal (kept_of_join kind on c left right) k → IsRefusal (relation_of tables q) k
 join_refuses tables q kind l r on c left right k is e f (inl m) = inl m
 join_refuses tables q kind l r on c left right k is e f (inr h) = inr (ap (relation_of tables) is ∙ rw (e, f) h)
 
 pub join_fails : (tables : List ℕ → Option TableValues) (q : Query) (kind : JoinKind) (l r : Query) (on : Expression) (c : Clauses) (left right : Relation) (answer : Result RelationCells ErrorKind) → q ≡ join kind l r on c
-    → relation_of tables l ≡ Ok left → relation_of tables r ≡ Ok right → IfErr answer (IsRefusal (joined_narrowed kind on c left right)) → IfErr answer (IsRefusal (relation_of tables q))
+    → relation_of tables l ≡ Ok left → relation_of tables r ≡ Ok right → IfErr answer (IsRefusal (kept_of_join kind on c left right)) → IfErr answer (IsRefusal (relation_of tables q))
 join_fails tables q kind l r on c left right (Ok kept) is e f h = tt
 join_fails tables q kind l r on c left right (Err k) is e f h = join_refuses tables q kind l r on c left right k is e f h

@@ -1,18 +1,20 @@
 -- What is selected of rows that are as wide as their columns is so too.
 use Rattle.std.proofs.Common.{◌≡◌, ℕ, ◌+◌, List, [], ◌∷◌, ◌++◌, length, map, filter, replicate, get_or, Bool, true, false, not, Option, Some, None, cond, suc, refl, ap, subst, sym, ◌∙◌, length-append}
 use Rattle.std.specs.Prelude.{Result, Ok, Err, IfOk, if◌then◌else◌, option_and_then, slice_get, is_some, bytes_eq, ◌==◌}
-use Rattle.std.specs.List.{filter_map, flat_map, cons_option}
+use Rattle.std.specs.List.{filter_map, flat_map, cons_option, list_any}
 use mathlib.Core.Bool.{true≢false}
 use Rattle.std.proofs.lemmas.List.{length-map, length-replicate}
 use Rattle.std.proofs.lemmas.List.Quantifiers.{position-Some}
 use Rattle.std.proofs.lemmas.Option.{slice_get-get_or}
 use Rattle.std.proofs.lemmas.Bool.{and_parts, not-false}
+use Rattle.msi_base.proofs.BoolLemmas.{by_test}
 use Rattle.msi_base.specs.declared.errors.ErrorKind.{ErrorKind}
 use Rattle.msi_base.specs.declared.errors.ErrorKind.TheVariants.{InvalidInput}
 use Rattle.msi_pool.specs.Pool.{Place}
 use Rattle.msi_table_values.specs.declared.value.Value.{Value}
 use Rattle.msi_table_values.specs.declared.value.Value.TheVariants.{Null}
 use Rattle.msi_table_cells.specs.declared.cell.ValueRef.{ValueRef}
+use Rattle.msi_table_cells.proofs.StableSortLemmas.{all_sorted}
 use Rattle.msi_table_values.specs.Columns.{ColumnDef, begun_column, column_index, column_named, has_column}
 use Rattle.msi_table_values.proofs.ColumnLemmas.{column_found}
 use Rattle.msi_query_expressions.specs.declared.joins.JoinKind.{JoinKind}
@@ -23,8 +25,9 @@ use Rattle.msi_query_expressions.specs.Conditions.{meets}
 use Rattle.msi_query.specs.Queries.{Clauses}
 use Rattle.msi_base.specs.Refusals.{unless_refused}
 use Rattle.msi_query.specs.Rows.{RelationCells, relation_values, rows_values}
-use Rattle.msi_query.specs.Selection.{Relation, condition_names, has_columns, joined, joined_columns, joined_narrowed, narrowed, nullable_if, or_nulls, pairs_of, prefixed, projected_row, rows_of_row, selected}
+use Rattle.msi_query.specs.Selection.{Relation, condition_names, distinct_if, has_columns, in_order, joined, joined_columns, joined_narrowed, narrowed, nullable_if, or_nulls, order_cmp, pairs_of, prefixed, projected, projected_row, rows_kept, rows_of_row, same_row, selected, unseen}
 use Rattle.msi_query_rows.specs.Width.{HasWidth, ValuesAreWide}
+use Rattle.msi_query_rows.proofs.OrderLemmas.{order_cmp-weak}
 
 -- rows of cells are as wide as the rows that they stand for
 pub wide_values : (places : List Place) (n : ℕ) (rows : List (List ValueRef)) → HasWidth n rows → HasWidth n (rows_values places rows)
@@ -43,7 +46,7 @@ wide_filter : {X : Type 0} (p : List X → Bool) (n : ℕ) (rows : List (List X)
 wide_filter p n [] w = tt
 wide_filter p n (row ∷ rows) w = one_kept (p row) n row (filter p rows) w.0 (wide_filter p n rows w.1)
 
-wide_append : {X : Type 0} (n : ℕ) (rows others : List (List X)) → HasWidth n rows → HasWidth n others → HasWidth n (rows ++ others)
+pub wide_append : {X : Type 0} (n : ℕ) (rows others : List (List X)) → HasWidth n rows → HasWidth n others → HasWidth n (rows ++ others)
 wide_append n [] others w v = v
 wide_append n (row ∷ rows) others w v = (w.0, wide_append n rows others w.1 v)
 
@@ -74,15 +77,33 @@ either_wide : (b : Bool) (r s : Relation) → ValuesAreWide r → ValuesAreWide 
 either_wide true r s w v = w
 either_wide false r s w v = v
 
-selected_wide : (c : Clauses) (r : Relation) → has_columns r.columns c.columns ≡ true → ValuesAreWide r → ValuesAreWide (selected c r)
-selected_wide c r known w =
-    let kept = wide_filter (meets r.columns c.condition) (length r.columns) r.rows w in
-    either_wide (length c.columns == 0) (record r { rows = filter (meets r.columns c.condition) r.rows })
+wide_unseen : (n : ℕ) (seen rows : List (List Value)) → HasWidth n rows → HasWidth n (unseen seen rows)
+wide_unseen n seen [] w = tt
+wide_unseen n seen (row ∷ rows) w = by_test (list_any (same_row row) seen)
+    (λ t. rw t (wide_unseen n seen rows w.1))
+    (λ t. rw t (w.0, wide_unseen n (row ∷ seen) rows w.1))
+
+distinct_wide : (b : Bool) (r : Relation) → ValuesAreWide r → ValuesAreWide (distinct_if b r)
+distinct_wide true r w = wide_unseen (length r.columns) [] r.rows w
+distinct_wide false r w = w
+
+projected_wide : (names : List (List ℕ)) (r : Relation) → has_columns r.columns names ≡ true → ValuesAreWide r → ValuesAreWide (projected names r)
+projected_wide names r known w =
+    either_wide (length names == 0) r
     (record {
       name = [];
-      columns = filter_map (λ n. column_named n r.columns) c.columns;
-      rows = map (projected_row r.columns c.columns) (filter (meets r.columns c.condition) r.rows);
-    }) kept (wide_projected r.columns c.columns _ (filter (meets r.columns c.condition) r.rows) (sym (length_kept r.columns c.columns known)))
+      columns = filter_map (λ n. column_named n r.columns) names;
+      rows = map (projected_row r.columns names) r.rows;
+    }) w (wide_projected r.columns names _ r.rows (sym (length_kept r.columns names known)))
+
+ordered_wide : (columns : List ColumnDef) (names : List (List ℕ)) (n : ℕ) (rows : List (List Value)) → HasWidth n rows → HasWidth n (in_order columns names rows)
+ordered_wide columns names n rows w = all_sorted (order_cmp columns names) (order_cmp-weak columns names) (λ row. length row ≡ n) rows w
+
+selected_wide : (c : Clauses) (r : Relation) → has_columns r.columns c.columns ≡ true → ValuesAreWide r → ValuesAreWide (selected c r)
+selected_wide c r known w =
+    let whole : Relation = record r { rows = rows_kept c r } in
+    distinct_wide c.is_distinct (projected c.columns whole) (projected_wide c.columns whole known
+    (ordered_wide r.columns c.order (length r.columns) (filter (meets r.columns c.condition) r.rows) (wide_filter (meets r.columns c.condition) (length r.columns) r.rows w)))
 
 wide_pairs : (row : List Value) (n : ℕ) (others : List (List Value)) → HasWidth n others → HasWidth (length row + n) (map (λ other. row ++ other) others)
 wide_pairs row n [] w = tt
@@ -111,26 +132,28 @@ joined_wide kind on l r w v =
     (wide_rows kind (meets (joined_columns kind l r) (Some on)) (length l.columns) (length r.columns) r.rows l.rows v w)
 
 -- what is given was not refused
-given : (a b : Bool) (s k : Relation) → unless_refused ((a, InvalidInput) ∷ (b, InvalidInput) ∷ []) s ≡ Ok k → (a ≡ false) × (s ≡ k)
-given true b s k e = cc
-given false true s k e = cc
-given false false s k e = (refl, (cc))
+given : (a b o : Bool) (s k : Relation) → unless_refused ((a, InvalidInput) ∷ (b, InvalidInput) ∷ (o, InvalidInput) ∷ []) s ≡ Ok k → (a ≡ false) × (s ≡ k)
+given true b o s k e = cc
+given false true o s k e = cc
+given false false true s k e = cc
+given false false false s k e = (refl, (cc))
 
-given_by_join : (u a b : Bool) (s k : Relation) → unless_refused ((u, InvalidInput) ∷ (a, InvalidInput) ∷ (b, InvalidInput) ∷ []) s ≡ Ok k → (a ≡ false) × (s ≡ k)
-given_by_join true a b s k e = cc
-given_by_join false a b s k e = given a b s k e
+given_by_join : (u a b o : Bool) (s k : Relation) → unless_refused ((u, InvalidInput) ∷ (a, InvalidInput) ∷ (b, InvalidInput) ∷ (o, InvalidInput) ∷ []) s ≡ Ok k → (a ≡ false) × (s ≡ k)
+given_by_join true a b o s k e = cc
+given_by_join false a b o s k e = given a b o s k e
 
-narrowed_wide : (c : Clauses) (r k : Relation) → ValuesAreWide r → narrowed c r ≡ Ok k → ValuesAreWide k
+pub narrowed_wide : (c : Clauses) (r k : Relation) → ValuesAreWide r → narrowed c r ≡ Ok k → ValuesAreWide k
 narrowed_wide c r k w e =
-    let g = given (not (has_columns r.columns c.columns)) (not (has_columns r.columns (condition_names c.condition))) (selected c r) k e in
-    subst ValuesAreWide g.1 (selected_wide c r (not-false (has_columns r.columns c.columns) g.0) w)
+    let known : List (List ℕ) → Bool = has_columns r.columns in
+    let g = given (not (known c.columns)) (not (known (condition_names c.condition))) (not (known c.order)) (selected c r) k e in
+    subst ValuesAreWide g.1 (selected_wide c r (not-false (known c.columns) g.0) w)
 
 join_wide : (kind : JoinKind) (on : Expression) (c : Clauses) (l r k : Relation) → ValuesAreWide l → ValuesAreWide r → joined_narrowed kind on c l r ≡ Ok k → ValuesAreWide k
 join_wide kind on c l r k w v e =
-    let columns = joined_columns kind l r in
-    let g = given_by_join (not (has_columns columns (names_in on))) (not (has_columns columns c.columns)) (not (has_columns columns (condition_names c.condition)))
+    let known : List (List ℕ) → Bool = has_columns (joined_columns kind l r) in
+    let g = given_by_join (not (known (names_in on))) (not (known c.columns)) (not (known (condition_names c.condition))) (not (known c.order))
     (selected c (joined kind on l r)) k e in
-    subst ValuesAreWide g.1 (selected_wide c (joined kind on l r) (not-false (has_columns columns c.columns) g.0) (joined_wide kind on l r w v))
+    subst ValuesAreWide g.1 (selected_wide c (joined kind on l r) (not-false (known c.columns) g.0) (joined_wide kind on l r w v))
 
 -- so the cells of what clauses keep are as many as its columns
 pub narrowed_is_wide : (places : List Place) (c : Clauses) (relation : RelationCells) (answer : Result RelationCells ErrorKind) → HasWidth (length relation.columns) relation.rows

@@ -1,14 +1,16 @@
 //! The columns of relations.
 
 ghost use Rattle.std.specs.Prelude.{◌≡◌, ◌++◌, ◌∷◌, ◌==◌, map, IfOk, OnOk, if◌then◌else◌, length, List, option_copied};
-ghost use Rattle.std.specs.Prelude.{string_bytes};
+ghost use Rattle.std.specs.Prelude.{option_map, string_bytes};
 ghost use Rattle.std.specs.List.{filter_map};
 ghost use Rattle.msi_pool.specs.Pool.{Place};
 ghost use Rattle.msi_base.specs.Results.{OnlyMemory};
-ghost use Rattle.msi_table_values.specs.Columns.{column_index as index_of};
+ghost use Rattle.msi_table_values.specs.Columns.{column_index as index_of, has_column as has_named};
+ghost use Rattle.msi_query_expressions.specs.Meaning.{meant, renamed as with_names};
 ghost use Rattle.msi_query.specs.Rows.{column_at as column_there, relation_values};
 ghost use Rattle.msi_query.specs.Selection.{condition_names, has_columns as has_each};
 ghost use Rattle.msi_query.specs.Selection.{joined_columns as joined_by, nullable_if, prefixed as prefixed_by};
+ghost use Rattle.msi_query.specs.Selection.{product_columns as product_by};
 
 use crate::relation::Relation;
 use msi_base::errors::Error;
@@ -16,7 +18,8 @@ use msi_base::text::{Items, Text};
 use msi_query::query::JoinKind;
 use msi_query_expressions::expr::Expr;
 use msi_query_expressions::joins::is_left;
-use msi_query_expressions::parts::knows_names;
+use msi_query_expressions::meaning::{Scope, meant_name};
+use msi_query_expressions::parts::{knows_meant_names, knows_names};
 use msi_table_values::column::Column;
 use msi_table_values::parts::{column_index, has_column, nullable, renamed};
 use std::alloc::Global;
@@ -32,6 +35,30 @@ pub(crate) fn knows_condition(columns: &[Column], condition: Option<&Expr>) -> b
 {
     match condition {
         Some(condition) => knows_names(condition, columns),
+        None => true,
+    }
+}
+
+fn means_column(scope: Scope<'_>, name: &str) -> bool
+    ensures { result ≡ has_named (meant scope.entry.table.now scope.entry.columns.now name.now) scope.entry.columns.now }
+{
+    has_column(scope.columns, meant_name(scope, name))
+}
+
+/// Returns whether each name means a column.
+pub(crate) fn mean_columns(scope: Scope<'_>, names: &[Text]) -> bool
+    ensures { result ≡ has_each scope.entry.columns.now
+        (map (meant scope.entry.table.now scope.entry.columns.now) names.now) }
+{
+    names.iter().all(|name| means_column(scope, name.as_str()))
+}
+
+pub(crate) fn condition_means_columns(scope: Scope<'_>, condition: Option<&Expr>) -> bool
+    ensures { result ≡ has_each scope.entry.columns.now (condition_names (option_map
+        (with_names (meant scope.entry.table.now scope.entry.columns.now)) (option_copied condition.entry))) }
+{
+    match condition {
+        Some(condition) => knows_meant_names(condition, scope),
         None => true,
     }
 }
@@ -132,5 +159,23 @@ pub(crate) fn joined_columns(
     let mut columns = Vec::new(alloc);
     add_columns(alloc, left.name(), false, left.columns(), &mut columns)?;
     add_columns(alloc, name, nulls, right.columns(), &mut columns)?;
+    Ok(Items::from_vec(columns))
+}
+
+pub(crate) fn product_columns(alloc: Global, relations: &[Relation]) -> Result<Items<Column>, Error>
+    ensures ok { IfOk result (λ columns. (places : List Place)
+        → columns ≡ product_by (map (relation_values places) relations.now)) }
+    ensures kind { OnlyMemory result }
+{
+    let mut columns = Vec::new(alloc);
+    for relation in relations {
+        add_columns(
+            alloc,
+            relation.name(),
+            false,
+            relation.columns(),
+            &mut columns,
+        )?;
+    }
     Ok(Items::from_vec(columns))
 }

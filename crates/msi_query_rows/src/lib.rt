@@ -2,14 +2,17 @@
 #![tactic(auto)]
 
 mod columns;
+mod distinct;
 mod index;
 mod joining;
 mod joins;
 mod narrowing;
+mod ordering;
 mod picking;
 mod reasons;
 mod relation;
 mod rows;
 pub mod selection;
+mod sides;
 
 pub use selection::{Tables, select_rows};

@@ -1,14 +1,21 @@
 //! Selection and projection.
 
-ghost use Rattle.std.specs.Prelude.{◌≡◌, map, filter, IfOk, IfErr, Ok, option_copied};
+ghost use Rattle.std.specs.Prelude.{◌≡◌, List, map, filter, IfOk, IfErr, Ok, option_copied};
 ghost use Rattle.msi_base.specs.Results.{OnlyMemory};
 ghost use Rattle.msi_query_expressions.specs.Conditions.{meets};
 ghost use Rattle.msi_base.specs.Refusals.{IsRefusal, unless_refused};
+ghost use Rattle.msi_pool.specs.Pool.{Place};
 ghost use Rattle.msi_table.specs.Rows.{cells_at};
 ghost use Rattle.msi_query.specs.Rows.{projected_cells, relation_values, rows_values};
-ghost use Rattle.msi_query.specs.Selection.{clause_refusals, narrowed as narrowed_by, selected as selected_by};
+ghost use Rattle.msi_query.specs.Selection.{clause_refusals, distinct_if as distinct_by, kept_of as kept_by};
+ghost use Rattle.msi_query.specs.Selection.{meant_clauses, narrowed as narrowed_by, projected as projected_by};
+ghost use Rattle.msi_query.specs.Selection.{selected as selected_by};
 
-use crate::columns::{columns_of, has_columns, knows_condition, places_of};
+use crate::columns::{
+    columns_of, condition_means_columns, has_columns, knows_condition, mean_columns, places_of,
+};
+use crate::distinct::distinct_rows;
+use crate::ordering::ordered_rows;
 use crate::reasons;
 use crate::relation::Relation;
 use msi_base::errors::{Error, ErrorKind};
@@ -16,6 +23,7 @@ use msi_base::text::{Items, Text};
 use msi_pool::stringpool::StringPool;
 use msi_query::parts::Clauses;
 use msi_query_expressions::expr::Expr;
+use msi_query_expressions::meaning::Scope;
 use msi_query_expressions::parts::RowFilter;
 use msi_table::parts::projected_row;
 use msi_table_cells::cell::ValueRef;
@@ -92,7 +100,38 @@ fn projected(
     Ok(Relation::new(name, kept, rows))
 }
 
-/// Applies the condition before the columns are selected. All names have to be known.
+/// Without names all columns are kept.
+fn with_columns(alloc: Global, names: &[Text], relation: Relation) -> Result<Relation, Error>
+    ensures ok { IfOk result (λ kept. (places : List Place)
+        → relation_values places kept ≡ projected_by names.now (relation_values places relation)) }
+    ensures kind { OnlyMemory result }
+{
+    if names.is_empty() {
+        return Ok(relation);
+    }
+    projected(alloc, names, relation.columns(), relation.rows())
+}
+
+fn distinct_if(
+    alloc: Global,
+    pool: &StringPool,
+    is_distinct: bool,
+    relation: Relation,
+) -> Result<Relation, Error>
+    ensures ok { let values = relation_values pool.now.places in
+        IfOk result (λ kept. values kept ≡ distinct_by is_distinct (values relation)) }
+    ensures kind { OnlyMemory result }
+{
+    if !is_distinct {
+        return Ok(relation);
+    }
+    let (name, columns, rows) = relation.into_parts();
+    let rows = distinct_rows(alloc, pool, rows.as_slice())?;
+    Ok(Relation::new(name, columns, rows))
+}
+
+/// Applies the condition and the order before the columns are selected, and compares rows after that. All names have
+/// to be known.
 pub(crate) fn selected(
     alloc: Global,
     pool: &StringPool,
@@ -105,11 +144,10 @@ pub(crate) fn selected(
 {
     let (name, columns, rows) = relation.into_parts();
     let rows = kept_rows(alloc, pool, columns.as_slice(), clauses.condition(), rows)?;
-    let names = clauses.columns();
-    if names.is_empty() {
-        return Ok(Relation::new(name, columns, rows));
-    }
-    projected(alloc, names, columns.as_slice(), rows.as_slice())
+    let rows = ordered_rows(alloc, pool, columns.as_slice(), clauses.order(), rows)?;
+    let ordered = Relation::new(name, columns, rows);
+    let kept = with_columns(alloc, clauses.columns(), ordered)?;
+    distinct_if(alloc, pool, clauses.is_distinct(), kept)
 }
 
 pub(crate) fn refuse_unknown(columns: &[Column], clauses: &Clauses) -> Result<(), Error>
@@ -120,6 +158,9 @@ pub(crate) fn refuse_unknown(columns: &[Column], clauses: &Clauses) -> Result<()
     }
     if !knows_condition(columns, clauses.condition()) {
         return Err(Error::new(ErrorKind::InvalidInput, reasons::CONDITION_COLUMN));
+    }
+    if !has_columns(columns, clauses.order()) {
+        return Err(Error::new(ErrorKind::InvalidInput, reasons::ORDER_COLUMN));
     }
     Ok(())
 }
@@ -136,4 +177,41 @@ pub(crate) fn narrowed(
 {
     refuse_unknown(relation.columns(), clauses)?;
     selected(alloc, pool, clauses, relation)
+}
+
+/// Refuses clauses where a name means no column. It takes no memory.
+pub(crate) fn refuse_meaningless(scope: Scope<'_>, clauses: &Clauses) -> Result<(), Error>
+    ensures { let columns = scope.entry.columns.now in
+        result ≡ unless_refused (clause_refusals (meant_clauses scope.entry.table.now columns clauses.now) columns) tt }
+{
+    if !mean_columns(scope, clauses.columns()) {
+        return Err(Error::new(ErrorKind::InvalidInput, reasons::KEPT_COLUMN));
+    }
+    if !condition_means_columns(scope, clauses.condition()) {
+        return Err(Error::new(ErrorKind::InvalidInput, reasons::CONDITION_COLUMN));
+    }
+    if !mean_columns(scope, clauses.order()) {
+        return Err(Error::new(ErrorKind::InvalidInput, reasons::ORDER_COLUMN));
+    }
+    Ok(())
+}
+
+/// The names in the clauses may have the relation's in front.
+pub(crate) fn kept_of(
+    alloc: Global,
+    pool: &StringPool,
+    clauses: &Clauses,
+    relation: Relation,
+) -> Result<Relation, Error>
+    ensures ok { let values = relation_values pool.now.places in
+        IfOk result (λ kept. kept_by clauses.now (values relation) ≡ Ok (values kept)) }
+    ensures kind { let values = relation_values pool.now.places in
+        IfErr result (IsRefusal (kept_by clauses.now (values relation))) }
+{
+    let scope = Scope {
+        table: relation.name(),
+        columns: relation.columns(),
+    };
+    let clauses = clauses.with_meant_names(alloc, scope)?;
+    narrowed(alloc, pool, &clauses, relation)
 }

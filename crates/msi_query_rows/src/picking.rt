@@ -1,13 +1,13 @@
 //! What a query for one table picks of its rows, which stay in the table's stream.
 
-ghost use Rattle.std.specs.Prelude.{◌≡◌, ℕ, IfErr, IfOk, List, Some, filter, length, option_copied};
+ghost use Rattle.std.specs.Prelude.{◌≡◌, ℕ, IfErr, IfOk, IsTrue, List, Some, filter, length, option_copied};
 ghost use Rattle.msi_base.specs.Refusals.{IsRefusal};
 ghost use Rattle.msi_base.specs.Results.{OnlyMemory};
 ghost use Rattle.msi_table.specs.Rows.{AreRowNumbers, rows_numbered};
 ghost use Rattle.msi_query_expressions.specs.Conditions.{meets};
 ghost use Rattle.msi_query.specs.Rows.{rows_values};
 ghost use Rattle.msi_query.specs.Selection.{narrowed as narrowed_by};
-ghost use Rattle.msi_query_rows.specs.Picking.{columns_picked, places_picked};
+ghost use Rattle.msi_query_rows.specs.Picking.{columns_picked, keep_order as stay_in_order, places_picked};
 ghost use Rattle.msi_query.specs.Selected.{Selects};
 
 use crate::columns::{columns_of, places_of};
@@ -23,6 +23,13 @@ use msi_table::row::Rows;
 use msi_table_values::column::Column;
 use msi_table_values::parts::copied_columns;
 use std::alloc::Global;
+
+/// Returns whether the rows that are picked stay in their order, and none is left out for another.
+pub(crate) fn keep_order(clauses: &Clauses) -> bool
+    ensures { result ≡ stay_in_order clauses.now }
+{
+    clauses.order().is_empty() && !clauses.is_distinct()
+}
 
 /// Decodes one row at a time.
 fn filtered_numbers(
@@ -93,6 +100,7 @@ pub(crate) fn narrowed_rows<'a>(
     clauses: &Clauses,
     stored: StoredRows<'a>,
 ) -> Result<Rows<'a>, Error>
+    requires { IsTrue (stay_in_order clauses.now) }
     ensures ok { (name : List ℕ) → IfOk result (Selects (narrowed_by clauses.now (record {
       name = name;
       columns = stored.entry.columns;

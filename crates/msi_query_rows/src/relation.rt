@@ -52,6 +52,22 @@ impl Relation {
         }
     }
 
+    /// Returns the relation with another name.
+    pub(crate) fn under(self, name: Text) -> Relation
+        ensures { result ≡ record self { name = name } }
+    {
+        let Relation {
+            name: _before,
+            columns,
+            rows,
+        } = self;
+        Relation {
+            name,
+            columns,
+            rows,
+        }
+    }
+
     pub(crate) fn name(&self) -> &str
         ensures { result.now ≡ self.now.name }
     {

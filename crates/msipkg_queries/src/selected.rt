@@ -44,5 +44,13 @@ fn add_tables<'a>(
             add_tables(package, left, tables)?;
             add_tables(package, right, tables)
         }
+        SelectTree::Product { sides, .. } => {
+            for side in sides.as_slice() {
+                if let Some(table) = package.get_table(side.table().as_str()) {
+                    tables.push(table)?;
+                }
+            }
+            Ok(())
+        }
     }
 }

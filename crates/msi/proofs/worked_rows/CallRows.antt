@@ -11,7 +11,7 @@ use Rattle.msi_table_values.specs.declared.column.ColumnType.TheVariants as colt
 use Rattle.msi_table_values.specs.Columns.{ColumnDef}
 use Rattle.msi_database_schema.specs.Keys.{table_key}
 use Rattle.msi_database.specs.Database.{is_sound}
-use Rattle.msi_query.specs.Queries.{table}
+use Rattle.msi_query.specs.Queries.{no_clauses, table}
 use Rattle.msi.specs.declared.kinds.PackageType.TheVariants as kind
 use Rattle.msi_database_schema.specs.System.{plain_column, key, nullable}
 use Rattle.msi.specs.State.{State}
@@ -125,10 +125,21 @@ abbrev rows_in_answer : Result Answer ErrorKind → Option (List (List Value))
 rows_in_answer (Ok (calls.rows_are columns rows)) = Some rows
 rows_in_answer _ = None
 
-selected_rows : rows_in_answer (answer_to filled (calls.select_rows (table (codes "Numbers") (record { columns = []; condition = None }))))
+selected_rows : rows_in_answer (answer_to filled (calls.select_rows (table (codes "Numbers") no_clauses)))
     ≡ Some ((int 1 ∷ Str (codes "One") ∷ []) ∷ (int 2 ∷ Str (codes "Two") ∷ []) ∷ (int 4 ∷ Str (codes "Four") ∷ []) ∷ [])
 unfolding Rattle.std.specs.Str.chars
 selected_rows = refl
+
+-- in the order of their words, and each word once
+ordered_rows : rows_in_answer (answer_to filled (calls.select_rows (table (codes "Numbers") (record no_clauses { order = codes "Word" ∷ [] }))))
+    ≡ Some ((int 4 ∷ Str (codes "Four") ∷ []) ∷ (int 1 ∷ Str (codes "One") ∷ []) ∷ (int 2 ∷ Str (codes "Two") ∷ []) ∷ [])
+unfolding Rattle.std.specs.Str.chars
+ordered_rows = refl
+
+distinct_words : rows_in_answer (answer_to fives (calls.select_rows (table (codes "Numbers") (record no_clauses { columns = codes "Word" ∷ []; is_distinct = true }))))
+    ≡ Some ((Str (codes "Five") ∷ []) ∷ [])
+unfolding Rattle.std.specs.Str.chars
+distinct_words = refl
 
 still_sound : is_sound fives.kept.database ≡ true
 unfolding Rattle.std.specs.Str.chars

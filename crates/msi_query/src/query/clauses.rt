@@ -11,7 +11,7 @@ use super::narrowed;
 use msi_base::errors::Error;
 use msi_base::text::{IntoText, Items, Text};
 use msi_query_expressions::Expr;
-use msi_query_expressions::parts::{Scope, meant_name, with_meant_names};
+use msi_query_expressions::meaning::{Scope, meant_name};
 use std::alloc::Global;
 use std::marker::Model;
 
@@ -285,7 +285,7 @@ fn meant_condition(
     ensures kind { IfErr result (λ kind. kind ≡ OutOfMemory) }
 {
     match condition {
-        Some(condition) => Ok(Some(with_meant_names(alloc, scope, condition)?)),
+        Some(condition) => Ok(Some(condition.with_meant_names(alloc, scope)?)),
         None => Ok(None),
     }
 }

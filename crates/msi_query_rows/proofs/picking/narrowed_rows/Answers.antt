@@ -8,7 +8,7 @@ rows_of_picked-requires-clause-wide c =
     picked_wide c.args.pool.now.places c.args.clauses.now c.args.stored c.in_ok-columns.columns c.in_ok-columns.places c.in_ok-numbers.numbers c.columns.ensures.wide
     (is_picked c.args.pool.now.places c.args.clauses.now c.args.stored c.in_ok-columns.columns c.in_ok-columns.places c.in_ok-numbers.numbers
     c.columns.result.now c.columns-2.result.now c.refuse_unknown.result c.columns-3.result.now (option_copied c.condition.result)
-    c.columns.ensures.columns c.refuse_unknown.ensures c.in_ok-refuse_unknown.was c.columns-2.ensures.columns c.columns-3.ensures
+    c.requires c.columns.ensures.columns c.refuse_unknown.ensures c.in_ok-refuse_unknown.was c.columns-2.ensures.columns c.columns-3.ensures
     c.in_ok-columns.ensures.places c.in_ok-columns.ensures.columns (search rules) c.in_ok-numbers.ensures.ok)
 
 pub returns-clause-ok : goal.returns-clause-ok
@@ -16,6 +16,6 @@ returns-clause-ok c =
     picked_selects c.args.pool.now.places c.args.clauses.now c.args.stored c.in_ok-columns.columns c.in_ok-columns.places c.in_ok-numbers.numbers c.rows_of_picked.result
     (is_picked c.args.pool.now.places c.args.clauses.now c.args.stored c.in_ok-columns.columns c.in_ok-columns.places c.in_ok-numbers.numbers
     c.columns.result.now c.columns-2.result.now c.refuse_unknown.result c.columns-3.result.now (option_copied c.condition.result)
-    c.columns.ensures.columns c.refuse_unknown.ensures c.in_ok-refuse_unknown.was c.columns-2.ensures.columns c.columns-3.ensures
+    c.requires c.columns.ensures.columns c.refuse_unknown.ensures c.in_ok-refuse_unknown.was c.columns-2.ensures.columns c.columns-3.ensures
     c.in_ok-columns.ensures.places c.in_ok-columns.ensures.columns (search rules) c.in_ok-numbers.ensures.ok)
     c.rows_of_picked.ensures.ok
