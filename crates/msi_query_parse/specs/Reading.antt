@@ -213,9 +213,9 @@ own_name = λ i. if is_name (kind i) then (Some <$> name expected.Name) i else O
 
 unfoldable pub from_table : Reader FromTable
 from_table = do
-  table ← name expected.Side
+  first ← name expected.Side
   own ← own_name
-  pure (record { table = table; own = own })
+  pure (record { table = first; own = own })
 
 abbrev pub one_table : List FromTable → Reader (List FromTable)
 one_table found = (λ from. found ++ from ∷ []) <$> from_table

@@ -90,9 +90,10 @@ pub(crate) fn alone(tables: &[FromTable]) -> Option<&Text>
     if tables.len() != 1 {
         return None;
     }
-    match &tables[0].own {
+    let first = &tables[0];
+    match &first.own {
         Some(_) => None,
-        None => Some(&tables[0].table),
+        None => Some(&first.table),
     }
 }
 
