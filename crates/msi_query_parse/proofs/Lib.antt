@@ -8,6 +8,7 @@ pub mod ExpressionsRead
 pub mod ListLemmas
 pub mod ValueLemmas
 pub mod ColumnLemmas
+pub mod TableLemmas
 pub mod ChangesSpelled
 pub mod ChangesRead
 pub mod SourcesSpelled

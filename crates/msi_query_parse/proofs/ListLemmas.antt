@@ -1,6 +1,7 @@
 -- Lists with commas between their items: what is read is spelled, and what is spelled is read.
 use Rattle.std.proofs.Common.{◌≡◌, ℕ, zero, suc, ◌+◌, ◌≤◌, Bool, true, false, if◌then◌else◌, List, [], ◌∷◌, map, length, Ok, Err, refl, sym, ◌∙◌, ap, subst, arith}
 use Rattle.std.specs.List.{list_all}
+use Rattle.msi_query_tokens.specs.declared.token.Kind.{Kind}
 use Rattle.msi_query_tokens.specs.declared.token.Kind.TheVariants as k
 use Rattle.msi_query_tokens.specs.declared.refusal.Expected.{Expected}
 use Rattle.msi_query_tokens.specs.declared.refusal.ParseError.{ParseError}
@@ -77,8 +78,12 @@ module _ (A X : Type 0) (missing : Expected) (item : A → Reader A) (symbols : 
 
   -- ---- the other way
 
+  -- where a kind comes next that no item goes on with
+  abbrev pub ReadsItemsTo : (Kind → Type 0) → Type 0
+  ReadsItemsTo Stops = (found : A) (x : X) (i : Input) (b : List ℕ) → is_good x ≡ true → Leads i.ahead (symbols x) b → Stops (first_kind b) → item found i ≡ Ok (added found (x ∷ []), at i b i.height)
+
   abbrev pub ReadsItems : Type 0
-  ReadsItems = (found : A) (x : X) (i : Input) (b : List ℕ) → is_good x ≡ true → Leads i.ahead (symbols x) b → (first_kind b ≡ k.Dot → ⊥) → item found i ≡ Ok (added found (x ∷ []), at i b i.height)
+  ReadsItems = ReadsItemsTo (λ c. c ≡ k.Dot → ⊥)
 
   abbrev pub HaveSymbols : Type 0
   HaveSymbols = (x : X) → 1 ≤ length (symbols x)
@@ -91,19 +96,19 @@ module _ (A X : Type 0) (missing : Expected) (item : A → Reader A) (symbols : 
   unfolding next
   next_shorter i a others b h = behind_shorter a h.spans.0
 
-  pub listed_read : ReadsItems → HaveSymbols → Goes → (xs : List X) (x : X) (n : ℕ) (found : A) (i : Input) (b : List ℕ) → length i.ahead ≤ n → list_all is_good (x ∷ xs) ≡ true
-      → Leads i.ahead (separated (map symbols (x ∷ xs))) b → (first_kind b ≡ k.Comma → ⊥) → (first_kind b ≡ k.Dot → ⊥) → listed_from missing item n found i ≡ Ok (added found (x ∷ xs), at i b i.height)
+  pub listed_read_to : (Stops : Kind → Type 0) → Stops k.Comma → ReadsItemsTo Stops → HaveSymbols → Goes → (xs : List X) (x : X) (n : ℕ) (found : A) (i : Input) (b : List ℕ) → length i.ahead ≤ n → list_all is_good (x ∷ xs) ≡ true
+      → Leads i.ahead (separated (map symbols (x ∷ xs))) b → (first_kind b ≡ k.Comma → ⊥) → Stops (first_kind b) → listed_from missing item n found i ≡ Ok (added found (x ∷ xs), at i b i.height)
   unfolding listed_from
-  listed_read reads some goes [] x zero found i b short good h no_comma no_dot = let l = spans_shorter (symbols x) i.ahead b h.spans in let one = some x in absurd (omega arith)
-  listed_read reads some goes [] x (suc n) found i b short good h no_comma no_dot =
+  listed_read_to Stops at_comma reads some goes [] x zero found i b short good h no_comma stops = let l = spans_shorter (symbols x) i.ahead b h.spans in let one = some x in absurd (omega arith)
+  listed_read_to Stops at_comma reads some goes [] x (suc n) found i b short good h no_comma stops =
       let m = at i b i.height in
       let off = sees_no k.Comma m (λ e. no_comma (sym (kind_at m b refl) ∙ e)) in
-      then_read _ (reads found x i b (both_left _ _ good) h no_dot)
+      then_read _ (reads found x i b (both_left _ _ good) h stops)
       (ap (λ t. (if t then listed_from missing item n (added found (x ∷ [])) else pure (added found (x ∷ []))) (after k.Comma m)) off ∙ ap (λ y. Ok (added found (x ∷ []), y)) (after_no k.Comma m off))
-  listed_read reads some goes (y ∷ ys) x zero found i b short good h no_comma no_dot =
+  listed_read_to Stops at_comma reads some goes (y ∷ ys) x zero found i b short good h no_comma stops =
       let s = leads_split (symbols x) (mark k.Comma ∷ separated (map symbols (y ∷ ys))) i.ahead b h in
       let l = spans_shorter (symbols x) i.ahead s.0 s.1.spans in let one = some x in absurd (omega arith)
-  listed_read reads some goes (y ∷ ys) x (suc n) found i b short good h no_comma no_dot =
+  listed_read_to Stops at_comma reads some goes (y ∷ ys) x (suc n) found i b short good h no_comma stops =
       let s = leads_split (symbols x) (mark k.Comma ∷ separated (map symbols (y ∷ ys))) i.ahead b h in
       let m = at i s.0 i.height in
       let c = leads_next m (mark k.Comma) (separated (map symbols (y ∷ ys))) b s.2 in
@@ -112,9 +117,13 @@ module _ (A X : Type 0) (missing : Expected) (item : A → Reader A) (symbols : 
       let one = some x in
       let l = spans_shorter (symbols x) i.ahead s.0 s.1.spans in
       let fewer = next_shorter i s.0 (separated (map symbols (y ∷ ys))) b s.2 in
-      then_read _ (reads found x i s.0 (both_left _ _ good) s.1 (λ e. let f : k.Comma ≡ k.Dot = sym is ∙ kind_at m s.0 refl ∙ e in cc))
+      then_read _ (reads found x i s.0 (both_left _ _ good) s.1 (subst Stops (sym is ∙ kind_at m s.0 refl) at_comma))
       (ap (λ t. (if t then listed_from missing item n (added found (x ∷ [])) else pure (added found (x ∷ []))) (after k.Comma m)) on
       ∙ ap (listed_from missing item n (added found (x ∷ []))) (after_yes k.Comma m on)
-      ∙ listed_read reads some goes ys y n (added found (x ∷ [])) (next m) b (omega arith) (both_right _ _ good) c.1 no_comma no_dot
+      ∙ listed_read_to Stops at_comma reads some goes ys y n (added found (x ∷ [])) (next m) b (omega arith) (both_right _ _ good) c.1 no_comma stops
       ∙ ap (λ z. Ok (z, at (next m) b (next m).height)) (goes found x (y ∷ ys))
       ∙ ap (λ z. Ok (added found (x ∷ y ∷ ys), z)) (after_comma i s.0 b))
+
+  pub listed_read : ReadsItems → HaveSymbols → Goes → (xs : List X) (x : X) (n : ℕ) (found : A) (i : Input) (b : List ℕ) → length i.ahead ≤ n → list_all is_good (x ∷ xs) ≡ true
+      → Leads i.ahead (separated (map symbols (x ∷ xs))) b → (first_kind b ≡ k.Comma → ⊥) → (first_kind b ≡ k.Dot → ⊥) → listed_from missing item n found i ≡ Ok (added found (x ∷ xs), at i b i.height)
+  listed_read reads some goes xs x n found i b short good h no_comma no_dot = listed_read_to (λ c. c ≡ k.Dot → ⊥) (λ e. cc) reads some goes xs x n found i b short good h no_comma no_dot

@@ -1,8 +1,8 @@
 -- Each rule goes from token to token, and refuses one: so a refused text has its place in front of a token.
-use Rattle.std.proofs.Common.{◌≡◌, ℕ, zero, suc, ◌+◌, ◌-◌, ◌^◌, max, min, Bool, true, false, if◌then◌else◌, nat_le, nat_lt, ◌==◌, List, [], ◌∷◌, ◌++◌, length, drop, Option, Some, None, pos, neg_ℤ, Ok, Err, refl, sym, ◌∙◌, ap, arith}
+use Rattle.std.proofs.Common.{◌≡◌, ℕ, zero, suc, ◌+◌, ◌-◌, ◌^◌, max, min, Bool, true, false, if◌then◌else◌, nat_le, nat_lt, ◌==◌, List, [], ◌∷◌, ◌++◌, map, length, drop, Option, Some, None, pos, neg_ℤ, Ok, Err, refl, sym, ◌∙◌, ap, arith}
 use Rattle.msi_table_values.specs.declared.value.Value.{Value}
 use Rattle.msi_query_expressions.specs.Expressions.{Expression}
-use Rattle.msi_query.specs.Queries.{Query, UpdateQuery, narrowed_query, projected_query, ordered_query}
+use Rattle.msi_query.specs.Queries.{Query, UpdateQuery, table, product, no_clauses, narrowed_query, projected_query, ordered_query}
 use Rattle.msi_query_tokens.specs.declared.token.Kind.{Kind}
 use Rattle.msi_query_tokens.specs.declared.token.Kind.TheVariants as k
 use Rattle.msi_query_tokens.specs.declared.refusal.Expected.{Expected}
@@ -14,6 +14,7 @@ use Rattle.msi_query_tokens.specs.Tokens.{token, skip_blanks, same_kind, is_name
 use Rattle.msi_query_tokens.specs.Input.{Input, Outcome, start_of, Reader, and_then, ◌>>=◌, ◌>>◌, ◌<$>◌, pure, refuse, refusal, peek, take_token, eat, expect, kind, spelling, next, left, sees, after, turns, enter, rise, leave, lower, restore}
 use Rattle.msi_query_tokens.specs.Texts.{text, checked, taken, plain_bytes, utf8_text, positive, negative, number_of}
 use Rattle.msi_query_parse.specs.Operators.{binds, null_compared}
+use Rattle.msi_query_parse.specs.Tables.{FromTable, side_of, alone}
 use Rattle.msi_query_parse.specs.Reading as r
 use Rattle.msi_query_parse.specs.Places.{past_tokens, IsAtToken, RefusesTokens}
 
@@ -297,6 +298,17 @@ s_table_named : Steps r.table_named
 unfolding r.table_named
 s_table_named = s_map _ (r.name expected.Side) (s_name expected.Side)
 
+s_own_name : Steps r.own_name
+unfolding r.own_name
+s_own_name = s_when (λ i. is_name (kind i)) _ (pure None) (s_map _ (r.name expected.Name) (s_name expected.Name)) (s_pure None)
+
+s_from_table : Steps r.from_table
+unfolding r.from_table
+s_from_table = s_then (r.name expected.Side) _ (s_name expected.Side) (λ first. s_then r.own_name _ s_own_name (λ own. s_pure (record { table = first; own = own })))
+
+s_tables : Steps r.tables
+s_tables = s_listed expected.Side r.one_table (λ found. s_map (λ from. found ++ from ∷ []) r.from_table s_from_table) []
+
 s_narrowed : (q : Query) → Steps (r.narrowed q)
 unfolding r.narrowed
 s_narrowed q = s_then (eat k.Where) _ (s_eat k.Where) (λ b. s_if b _ _ (s_map (narrowed_query q) r.condition s_condition) (s_pure q))
@@ -330,9 +342,17 @@ module _ (depth : ℕ) (below : Reader Query) (h : Steps below) where
   s_joins_behind : (first : Query) → Steps (r.joins_behind depth below first)
   s_joins_behind first = s_when r.sees_join (r.joins depth below first) (refuse expected.JoinKind) (s_joins first) (s_refuse expected.JoinKind)
 
+  s_tables_by : (found : List FromTable) (o : Option (List ℕ)) → Steps (r.tables_by depth below found o)
+  s_tables_by found (Some name) = s_joins (table name no_clauses)
+  s_tables_by found None = s_pure (product (map side_of found) no_clauses)
+
+  s_from_tables : (found : List FromTable) → Steps (r.from_tables depth below found)
+  unfolding r.from_tables
+  s_from_tables found = s_tables_by found (alone found)
+
   s_source : Steps (r.source depth below)
   unfolding r.source
-  s_source = s_when (λ i. is_name (kind i)) (r.table_named >>= r.joins depth below) (r.first_bracketed depth below) (s_then r.table_named (r.joins depth below) s_table_named s_joins)
+  s_source = s_when (λ i. is_name (kind i)) (r.tables >>= r.from_tables depth below) (r.first_bracketed depth below) (s_then r.tables (r.from_tables depth below) s_tables s_from_tables)
       (s_then (r.side depth below) _ s_side (λ first. s_then lower _ s_lower (λ _. s_joins_behind first)))
 
   s_selection : (b : Bool) → Steps (r.selection depth below b)

@@ -4,7 +4,7 @@ use Rattle.std.specs.List.{list_all}
 use Rattle.std.proofs.lemmas.Bool.{leb-true}
 use Rattle.msi_query_expressions.specs.declared.joins.JoinKind.{JoinKind}
 use Rattle.msi_query_expressions.specs.declared.joins.JoinKind.TheVariants.{Inner, Left}
-use Rattle.msi_query.specs.Queries.{Query, table, join, no_clauses, narrowed_query, projected_query, ordered_query}
+use Rattle.msi_query.specs.Queries.{Query, table, join, product, no_clauses, narrowed_query, projected_query, ordered_query}
 use Rattle.msi_query_tokens.specs.declared.token.Kind.{Kind}
 use Rattle.msi_query_tokens.specs.declared.token.Kind.TheVariants as k
 use Rattle.msi_query_tokens.specs.declared.refusal.Expected.TheVariants as expected
@@ -15,12 +15,14 @@ use Rattle.msi_query_tokens.specs.Symbols.{Symbol, mark, named}
 use Rattle.msi_query_tokens.proofs.SymbolLemmas.{spans_shorter}
 use Rattle.msi_query_tokens.proofs.StepLemmas.{Next, Leads, leads_on, risen, risen_height, after_yes, after_no}
 use Rattle.msi_query_parse.specs.Operators.{binds}
+use Rattle.msi_query_parse.specs.Tables.{FromTable, side_of}
 use Rattle.msi_query_parse.specs.Reading as reading
-use Rattle.msi_query_parse.specs.Reading.{selected, order, condition, table_named, narrowed, once_each, joined_by, sees_join, bracketed_query, side, joined_at, joined, joins_from, joins, joins_behind, first_bracketed, source, selection, select, query, whole}
-use Rattle.msi_query_parse.specs.Grammar.{Phrase, ColumnName, SelectClauses, Source, whole as whole_table, both_of, query_of, bytes_of, name_symbols, separated, distinct_symbols, column_symbols, order_symbols, front_symbols, back_symbols, in_brackets, join_mark, source_symbols, is_query, is_join, is_source, is_where, source_height, query_meant, where_symbols, phrase_symbols, expression_of, SpellsSelect}
+use Rattle.msi_query_parse.specs.Reading.{selected, order, condition, table_named, narrowed, once_each, joined_by, sees_join, bracketed_query, side, joined_at, joined, joins_from, joins, joins_behind, first_bracketed, tables, tables_by, from_tables, source, selection, select, query, whole}
+use Rattle.msi_query_parse.specs.Grammar.{Phrase, ColumnName, SelectClauses, Source, whole as whole_table, tables_of, both_of, query_of, bytes_of, name_symbols, separated, table_symbols, distinct_symbols, column_symbols, order_symbols, front_symbols, back_symbols, in_brackets, join_mark, source_symbols, is_query, is_join, is_product, is_source, is_where, source_height, query_meant, where_symbols, phrase_symbols, expression_of, SpellsSelect}
 use Rattle.msi_query_parse.proofs.NamesRead.{first_kind, at, kind_at, next_at, leads_next, then_read, mark_kind, sees_yes, sees_no, expect_read, risen_then, name_read, named_here, whole_read, end_kind}
 use Rattle.msi_query_parse.proofs.ExpressionsRead.{both_left, both_right, denied, leads_split, condition_read}
 use Rattle.msi_query_parse.proofs.ColumnLemmas.{not_distinct, selected_read, order_read}
+use Rattle.msi_query_parse.proofs.TableLemmas.{tables_read, begins_named, none_alone}
 use Rattle.msi_query_parse.proofs.ChangesRead.{where_read}
 use Rattle.msi_query_parse.proofs.SourcesSpelled.{side_height, side_high, narrowed_is, join_rest, join_value}
 
@@ -54,6 +56,13 @@ source_loose k.End e = refl
 source_loose k.Close e = refl
 source_loose _ e = absurd (cc)
 
+source_unnamed : (c : Kind) → ends_source c ≡ true → is_name c ≡ false
+source_unnamed k.Where e = refl
+source_unnamed k.Order e = refl
+source_unnamed k.End e = refl
+source_unnamed k.Close e = refl
+source_unnamed _ e = absurd (cc)
+
 as_condition_end : (c : Kind) → ends_query c ≡ true → ends_condition c ≡ true
 as_condition_end k.Order e = refl
 as_condition_end c e = e
@@ -78,6 +87,14 @@ join_loose Left = refl
 join_no_dot : (kind_seen : JoinKind) → join_mark kind_seen ≡ k.Dot → ⊥
 join_no_dot Inner e = cc
 join_no_dot Left e = cc
+
+join_no_comma : (kind_seen : JoinKind) → join_mark kind_seen ≡ k.Comma → ⊥
+join_no_comma Inner e = cc
+join_no_comma Left e = cc
+
+join_unnamed : (kind_seen : JoinKind) → is_name (join_mark kind_seen) ≡ false
+join_unnamed Inner = refl
+join_unnamed Left = refl
 
 join_known : (kind_seen : JoinKind) → join_mark kind_seen ≡ k.Unknown → ⊥
 join_known Inner e = cc
@@ -150,16 +167,12 @@ leads_up i c symbols b h = let l = leads_next i (mark c) symbols b h in (l.0, l.
 
 side_low : {d : ℕ} (s : Source) → source_height s < d → side_height s ≤ d
 side_low (whole_table n) h = omega arith
+side_low (tables_of found) h = omega arith
 side_low (query_of c from) h = omega arith
 side_low (both_of kind_seen l r on) h = omega arith
 
 plain_low : {d : ℕ} (s : Source) → is_query s ≡ false → side_height s ≤ d
 plain_low {d} s e = let none : side_height s ≡ 0 = ap (λ t. if t then source_height s + 1 else 0) e in omega arith
-
-plain_leads : (s : Source) (a b : List ℕ) → is_query s ≡ false → Leads a (source_symbols s) b → Leads a (in_brackets s (source_symbols s)) b
-plain_leads (whole_table n) a b e h = h
-plain_leads (both_of kind_seen l r on) a b e h = h
-plain_leads (query_of c from) a b e h = absurd (cc)
 
 module _ (d : ℕ) (below : Reader Query) (reads : ReadsQuery d below) where
   side_read : (s : Source) (i : Input) (b : List ℕ) → is_join s ≡ false → is_source s ≡ true → side_height s ≤ d → Leads i.ahead (in_brackets s (source_symbols s)) b
@@ -184,6 +197,7 @@ module _ (d : ℕ) (below : Reader Query) (reads : ReadsQuery d below) where
       ∙ then_read _ (reads s m p.0 refl rules (omega arith) p.1 (ap ends_query (sym (kind_at place p.0 refl) ∙ is)))
       (then_read _ (expect_read k.Close expected.CloseBracket place is) (ap (λ y. Ok (query_meant s, y)) (close_at i p.0 b (source_height s + 1) close.1.spans)))
   side_read (both_of kind_seen l r on) i b no_join rules low h = absurd (cc)
+  side_read (tables_of found) i b no_join rules low h = absurd (cc)
 
   -- ---- joins
 
@@ -231,18 +245,19 @@ module _ (d : ℕ) (below : Reader Query) (reads : ReadsQuery d below) where
         read = e ∙ ap (λ t. if t then (joined d below (query_meant l) >>= joins_from d below n) m else Ok (query_meant l, m)) (join_seen kind_seen m is) ∙ then_read _ o refl;
       }
 
-  source_reached : (s : Source) (i : Input) (b : List ℕ) → is_source s ≡ true → source_height s ≤ d → side_height s ≤ d → i.height ≡ 0 → Leads i.ahead (in_brackets s (source_symbols s)) b
-      → (is_query s ≡ true → sees_join (at i b (source_height s)) ≡ true) → binds (first_kind b) ≡ 0 → (first_kind b ≡ k.Dot → ⊥) → SourceReached s i b
-  unfolding source joins left
-  source_reached (whole_table n) i b rules low room flat h more loose no_dot =
-      let l = leads_next i (named n) [] b h in
+  source_reached : (s : Source) (i : Input) (b : List ℕ) → is_source s ≡ true → is_product s ≡ false → source_height s ≤ d → side_height s ≤ d → i.height ≡ 0 → Leads i.ahead (in_brackets s (source_symbols s)) b
+      → (is_query s ≡ true → sees_join (at i b (source_height s)) ≡ true) → binds (first_kind b) ≡ 0 → (first_kind b ≡ k.Dot → ⊥) → (first_kind b ≡ k.Comma → ⊥) → is_name (first_kind b) ≡ false → SourceReached s i b
+  unfolding source from_tables joins left
+  source_reached (tables_of found) i b rules no_product low room flat h more loose no_dot no_comma unnamed = absurd (cc)
+  source_reached (whole_table n) i b rules no_product low room flat h more loose no_dot no_comma unnamed =
+      let one : FromTable = record { table = n; own = None } in
       record {
         turns_left = length b;
         enough = omega arith;
-        read = ap (λ t. if t then (table_named >>= joins d below) i else first_bracketed d below i) (named_here i n l.0).0
-            ∙ then_read _ (table_read n i l.0) (ap (joins d below (table n no_clauses)) (next_at i b 0 l.1.spans flat));
+        read = ap (λ t. if t then (tables >>= from_tables d below) i else first_bracketed d below i) (begins_named one [] i b h)
+            ∙ then_read _ (tables_read one [] i b h no_comma unnamed) (ap (λ x. joins d below (table n no_clauses) (at i b x)) flat);
       }
-  source_reached (query_of c from) i b rules low room flat h more loose no_dot =
+  source_reached (query_of c from) i b rules no_product low room flat h more loose no_dot no_comma unnamed =
       let s = query_of c from in
       let l = leads_next i (mark k.Open) (source_symbols s ++ mark k.Close ∷ []) b h in
       let opens = mark_kind {i = i} {other = k.Open} l.0 (λ x. cc) in
@@ -251,12 +266,12 @@ module _ (d : ℕ) (below : Reader Query) (reads : ReadsQuery d below) where
       record {
         turns_left = length b;
         enough = omega arith;
-        read = ap (λ t. if t then (table_named >>= joins d below) i else first_bracketed d below i) (not_name i k.Open opens refl)
+        read = ap (λ t. if t then (tables >>= from_tables d below) i else first_bracketed d below i) (not_name i k.Open opens refl)
             ∙ then_read _ (side_read s i b refl rules room h)
             (ap (λ x. joins_behind d below (query_meant s) (at i b x)) lowered
             ∙ ap (λ t. if t then joins d below (query_meant s) m else Err (refusal expected.JoinKind m)) (more refl));
       }
-  source_reached (both_of kind_seen l r on) i b rules low room flat h more loose no_dot =
+  source_reached (both_of kind_seen l r on) i b rules no_product low room flat h more loose no_dot no_comma unnamed =
       let outer = leads_split (in_brackets l (source_symbols l) ++ mark (join_mark kind_seen) ∷ mark k.Join ∷ in_brackets r (source_symbols r)) (mark k.On ∷ phrase_symbols on) i.ahead b h in
       let inner = leads_split (in_brackets l (source_symbols l)) (mark (join_mark kind_seen) ∷ mark k.Join ∷ in_brackets r (source_symbols r)) i.ahead outer.0 outer.1 in
       let a = inner.0 in
@@ -269,8 +284,10 @@ module _ (d : ℕ) (below : Reader Query) (reads : ReadsQuery d below) where
       let parts = both_left _ _ rules in
       let no_join = denied _ (both_right _ _ parts) in
       let sides = both_left _ _ parts in
+      let left_side = both_left _ _ sides in
       let high = side_low l (omega arith) in
-      let before = source_reached l i a (both_left _ _ sides) (omega arith) high flat inner.1 (λ e. join_seen kind_seen m is) (ap binds first ∙ join_loose kind_seen) (λ e. join_no_dot kind_seen (sym first ∙ e)) in
+      let before = source_reached l i a (both_left _ _ left_side) (denied _ (both_right _ _ left_side)) (omega arith) high flat inner.1 (λ e. join_seen kind_seen m is) (ap binds first ∙ join_loose kind_seen) (λ e. join_no_dot kind_seen (sym first ∙ e))
+      (λ e. join_no_comma kind_seen (sym first ∙ e)) (ap is_name first ∙ join_unnamed kind_seen) in
       reached kind_seen l r on i a b ((mark k.Join ∷ in_brackets r (source_symbols r)) ++ mark k.On ∷ phrase_symbols on) rest is
       (joined_read kind_seen l r on i a b is n.1 (both_right _ _ sides) no_join where_part (omega arith) (omega arith) loose no_dot) before.turns_left before.enough before.read
 
@@ -278,6 +295,24 @@ module _ (d : ℕ) (below : Reader Query) (reads : ReadsQuery d below) where
   unfolding joins_from
   joins_stop zero q m e = refl
   joins_stop (suc n) q m e = ap (λ t. if t then (joined d below q >>= joins_from d below n) m else Ok (q, m)) e
+
+  -- a source behind which no join comes
+  source_read : (s : Source) (i : Input) (b : List ℕ) → is_source s ≡ true → is_query s ≡ false → source_height s ≤ d → i.height ≡ 0 → Leads i.ahead (source_symbols s) b → sees_join (at i b (source_height s)) ≡ false
+      → binds (first_kind b) ≡ 0 → (first_kind b ≡ k.Dot → ⊥) → (first_kind b ≡ k.Comma → ⊥) → is_name (first_kind b) ≡ false → source d below i ≡ Ok (query_meant s, at i b (source_height s))
+  unfolding source from_tables
+  source_read (query_of c from) i b rules no_query low flat h unseen loose no_dot no_comma unnamed = absurd (cc)
+  source_read (tables_of []) i b rules no_query low flat h unseen loose no_dot no_comma unnamed = absurd (cc)
+  source_read (tables_of (t ∷ ts)) i b rules no_query low flat h unseen loose no_dot no_comma unnamed =
+      ap (λ y. if y then (tables >>= from_tables d below) i else first_bracketed d below i) (begins_named t ts i b h)
+      ∙ then_read _ (tables_read t ts i b h no_comma unnamed) (ap (λ o. tables_by d below (t ∷ ts) o (at i b i.height)) (none_alone t ts rules) ∙ ap (λ x. Ok (product (map side_of (t ∷ ts)) no_clauses, at i b x)) flat)
+  source_read (whole_table n) i b rules no_query low flat h unseen loose no_dot no_comma unnamed =
+      let s = whole_table n in
+      let r = source_reached s i b rules refl low (plain_low s no_query) flat h (λ e. let g : true ≡ false = sym e ∙ no_query in cc) loose no_dot no_comma unnamed in
+      r.read ∙ joins_stop r.turns_left (query_meant s) (at i b (source_height s)) unseen
+  source_read (both_of kind_seen l r on) i b rules no_query low flat h unseen loose no_dot no_comma unnamed =
+      let s = both_of kind_seen l r on in
+      let r = source_reached s i b rules refl low (plain_low s no_query) flat h (λ e. let g : true ≡ false = sym e ∙ no_query in cc) loose no_dot no_comma unnamed in
+      r.read ∙ joins_stop r.turns_left (query_meant s) (at i b (source_height s)) unseen
 
   -- ---- queries
 
@@ -302,8 +337,8 @@ module _ (d : ℕ) (below : Reader Query) (reads : ReadsQuery d below) where
       let stop = where_starts c.condition place back.0 back.1 order_end in
       let first_stop : ends_source (first_kind outer.0) ≡ true = ap ends_source (sym (kind_at place outer.0 refl)) ∙ stop in
       let unseen = join_unseen place (differs ends_source (kind place) k.Inner stop refl) (differs ends_source (kind place) k.Left stop refl) in
-      let reached_source = source_reached s flat outer.0 (both_left _ _ parts) low (plain_low s no_query) refl (plain_leads s flat.ahead outer.0 no_query f.1) (λ e. let g : true ≡ false = sym e ∙ no_query in cc)
-      (source_loose (first_kind outer.0) first_stop) (differs ends_source (first_kind outer.0) k.Dot first_stop refl) in
+      let read_source = source_read s flat outer.0 (both_left _ _ parts) no_query low refl f.1 unseen
+      (source_loose (first_kind outer.0) first_stop) (differs ends_source (first_kind outer.0) k.Dot first_stop refl) (differs ends_source (first_kind outer.0) k.Comma first_stop refl) (source_unnamed (first_kind outer.0) first_stop) in
       let o = option_map expression_of c.condition in
       let left_at = at flat outer.0 (max (next cols).height (min (source_height s + 1) (2 ^ 64 - 1))) in
       let order_stop = as_source_end (first_kind back.0) order_end in
@@ -314,7 +349,7 @@ module _ (d : ℕ) (below : Reader Query) (reads : ReadsQuery d below) where
       let capped : max i.height (min (source_height s + 1) (2 ^ 64 - 1)) ≡ max i.height (source_height s + 1) = omega arith in
       then_read _ (selected_read c.columns i inner.0 inner.1 (sym (kind_at cols inner.0 refl) ∙ from))
       (then_read _ (expect_read k.From expected.From cols from)
-      (then_read _ (reached_source.read ∙ joins_stop reached_source.turns_left (query_meant s) place unseen)
+      (then_read _ read_source
       (then_read _ read_where
       (then_read _ read_order
       (ap (λ q. Ok (ordered_query (once_each c.is_distinct (projected_query q (map bytes_of c.columns))) (map bytes_of c.order), at order_at b order_at.height)) (narrowed_is (query_meant s) o)
@@ -348,6 +383,7 @@ unfolding query
 query_read zero deep s i b is rules low h end = absurd (omega arith)
 query_read (suc d) deep (query_of c s) i b is rules low h end = select_read d (query d) (query_read d (omega arith)) c s i b (omega arith) rules (omega arith) h end
 query_read (suc d) deep (whole_table n) i b is rules low h end = absurd (cc)
+query_read (suc d) deep (tables_of found) i b is rules low h end = absurd (cc)
 query_read (suc d) deep (both_of kind_seen l r on) i b is rules low h end = absurd (cc)
 
 pub select_spells : (text : List ℕ) (q : Query) → SpellsSelect text q → whole (query 201) text ≡ Ok q

@@ -13,14 +13,16 @@ use Rattle.msi_query_tokens.specs.Input.{Input, Reader, ◌<$>◌, ◌>>=◌, �
 use Rattle.msi_query_tokens.specs.Symbols.{Symbol, mark, named}
 use Rattle.msi_query_tokens.proofs.SymbolLemmas.{behind_shorter}
 use Rattle.msi_query_tokens.proofs.StepLemmas.{Next, Leads, stays, leads_on, then_ok, ok_value, ok_place, refused, next_to, next_height, next_mark, sees_ok, after_yes, after_no, expect_ok, risen, rise_then, risen_to, risen_height}
+use Rattle.msi_query_parse.specs.Tables.{FromTable, alone}
 use Rattle.msi_query_parse.specs.Reading as reading
-use Rattle.msi_query_parse.specs.Reading.{name, selected, order, condition, table_named, narrowed, once_each, joined_by, sees_join, bracketed_query, side, joined_at, joined, joins_from, joins, joins_behind, first_bracketed, source, selection, select, query, whole}
-use Rattle.msi_query_parse.specs.Grammar.{Phrase, SelectClauses, Source, whole as whole_table, both_of, query_of, bytes_of, distinct_symbols, column_symbols, order_symbols, back_symbols, in_brackets, join_mark, source_symbols, is_query, is_join, is_source, is_where, source_height, query_meant, narrowed_by, where_symbols, phrase_symbols, expression_of, SpellsSelect}
+use Rattle.msi_query_parse.specs.Reading.{name, selected, order, condition, table_named, narrowed, once_each, joined_by, sees_join, bracketed_query, side, joined_at, joined, joins_from, joins, joins_behind, first_bracketed, tables, tables_by, from_tables, source, selection, select, query, whole}
+use Rattle.msi_query_parse.specs.Grammar.{Phrase, SelectClauses, Source, whole as whole_table, tables_of, both_of, query_of, bytes_of, separated, table_symbols, distinct_symbols, column_symbols, order_symbols, back_symbols, in_brackets, join_mark, source_symbols, is_query, is_join, is_product, is_source, is_where, source_height, query_meant, narrowed_by, where_symbols, phrase_symbols, expression_of, SpellsSelect}
 use Rattle.msi_query_parse.proofs.Wholes.{whole_ok}
 use Rattle.msi_query_parse.proofs.NamesSpelled.{name_ok}
 use Rattle.msi_query_parse.proofs.ExpressionsSpelled.{both_true, condition_ok}
 use Rattle.msi_query_parse.proofs.ExpressionsRead.{leads_split}
 use Rattle.msi_query_parse.proofs.ColumnLemmas.{ListRead, selected_ok, order_ok}
+use Rattle.msi_query_parse.proofs.TableLemmas.{tables_ok, alone_symbols, product_made}
 use Rattle.msi_query_parse.proofs.ChangesSpelled.{chosen, where_ok}
 
 -- ---- sides
@@ -33,15 +35,25 @@ pub side_high : (s : Source) → is_join s ≡ false → max 1 (side_height s) �
 side_high (whole_table name) e = omega arith
 side_high (query_of c from) e = omega arith
 side_high (both_of kind l r on) e = absurd (cc)
+side_high (tables_of found) e = absurd (cc)
+
+-- a side of a join is no product
+side_no_product : (s : Source) → is_join s ≡ false → is_product s ≡ false
+side_no_product (whole_table name) e = refl
+side_no_product (query_of c from) e = refl
+side_no_product (both_of kind l r on) e = refl
+side_no_product (tables_of found) e = absurd (cc)
 
 bracket_symbols : (s : Source) (symbols : List Symbol) → is_query s ≡ true → in_brackets s symbols ≡ mark k.Open ∷ symbols ++ mark k.Close ∷ []
 bracket_symbols (query_of c from) symbols e = refl
 bracket_symbols (whole_table name) symbols e = absurd (cc)
+bracket_symbols (tables_of found) symbols e = absurd (cc)
 bracket_symbols (both_of kind l r on) symbols e = absurd (cc)
 
 query_no_join : (s : Source) → is_query s ≡ true → is_join s ≡ false
 query_no_join (query_of c from) e = refl
 query_no_join (whole_table name) e = absurd (cc)
+query_no_join (tables_of found) e = absurd (cc)
 query_no_join (both_of kind l r on) e = absurd (cc)
 
 pub record QueryRead (d : ℕ) (i j : Input) (q : Query) : Type 0 where
@@ -69,6 +81,7 @@ pub record SideRead (d : ℕ) (i j : Input) (q : Query) : Type 0 where
 pub record From (d : ℕ) (a : List ℕ) (i : Input) (q : Query) : Type 0 where
   pub source : Source
   pub rules : is_source source ≡ true
+  pub no_product : is_product source ≡ false
   pub height : source_height source ≡ i.height
   pub low : i.height ≤ d
   pub leads : Leads a (in_brackets source (source_symbols source)) i.ahead
@@ -77,6 +90,33 @@ pub record From (d : ℕ) (a : List ℕ) (i : Input) (q : Query) : Type 0 where
 pub record Joined (d : ℕ) (a : List ℕ) (i : Input) (q : Query) : Type 0 where
   pub from : From d a i q
   pub no_query : is_query from.source ≡ false
+
+-- what a query selects from
+pub record SourceRead (d : ℕ) (a : List ℕ) (i : Input) (q : Query) : Type 0 where
+  pub source : Source
+  pub rules : is_source source ≡ true
+  pub no_query : is_query source ≡ false
+  pub height : source_height source ≡ i.height
+  pub low : i.height ≤ d
+  pub leads : Leads a (source_symbols source) i.ahead
+  pub value : query_meant source ≡ q
+
+plain_source : (s : Source) (symbols : List Symbol) → is_query s ≡ false → in_brackets s symbols ≡ symbols
+plain_source (whole_table name) symbols e = refl
+plain_source (tables_of found) symbols e = refl
+plain_source (both_of kind_seen l r on) symbols e = refl
+plain_source (query_of c from) symbols e = absurd (cc)
+
+as_source : {d : ℕ} {a : List ℕ} {i : Input} {q : Query} → Joined d a i q → SourceRead d a i q
+as_source {d} {a} {i} {q} j = let s = j.from in record {
+  source = s.source;
+  rules = s.rules;
+  no_query = j.no_query;
+  height = s.height;
+  low = s.low;
+  leads = subst (λ x. Leads a x i.ahead) (plain_source s.source (source_symbols s.source) j.no_query) s.leads;
+  value = s.value;
+}
 
 pub record TableRead (i j : Input) (q : Query) : Type 0 where
   pub name : List ℕ
@@ -163,8 +203,8 @@ module _ (d : ℕ) (below : Reader Query) (gives : GivesQuery d below) where
 
   -- ---- joins
 
-  both_rules : (kind_seen : JoinKind) (l r : Source) (on : Phrase) → is_source l ≡ true → is_source r ≡ true → is_join r ≡ false → is_where (Some on) ≡ true → is_source (both_of kind_seen l r on) ≡ true
-  both_rules kind_seen l r on f g h w = both_true _ _ (both_true _ _ (both_true _ _ f g) (ap not h)) w
+  both_rules : (kind_seen : JoinKind) (l r : Source) (on : Phrase) → is_source l ≡ true → is_product l ≡ false → is_source r ≡ true → is_join r ≡ false → is_where (Some on) ≡ true → is_source (both_of kind_seen l r on) ≡ true
+  both_rules kind_seen l r on f p g h w = both_true _ _ (both_true _ _ (both_true _ _ (both_true _ _ f (ap not p)) g) (ap not h)) w
 
   -- the height of a join, from step to step
   join_height : {hi hr hw hs ho hg hj hl side : ℕ} (right : ℕ) → hr ≡ hi + 1 → hw ≡ hr → hs ≡ max hw side → ho ≡ hs → hg ≡ ho → hg ≡ hj → hl ≡ hi → max 1 side ≡ right + 1 → hi < d → side ≤ d → (max hl right + 1 ≡ hj) × (hj ≤ d)
@@ -196,7 +236,8 @@ module _ (d : ℕ) (below : Reader Query) (gives : GivesQuery d below) where
         no_query = refl;
         from = record {
           source = both_of kind_seen l.source right.source c.phrase;
-          rules = both_rules kind_seen l.source right.source c.phrase l.rules right.rules right.no_join (both_true _ _ c.rules (le-leb _ 200 c.low));
+          no_product = refl;
+          rules = both_rules kind_seen l.source right.source c.phrase l.rules l.no_product right.rules right.no_join (both_true _ _ c.rules (le-leb _ 200 c.low));
           height = heights.0;
           low = heights.1;
           leads = leads;
@@ -237,16 +278,39 @@ module _ (d : ℕ) (below : Reader Query) (gives : GivesQuery d below) where
   behind_from a i j before q true s l h = first_join (length i.ahead) a i j before q (omega arith) s l h
   behind_from a i j before q false s l h = refused (refusal expected.JoinKind i) q j h
 
-  source_from : (i j : Input) (q : Query) (t : Bool) → i.height ≡ 0 → (if t then (table_named >>= joins d below) i else first_bracketed d below i) ≡ Ok (q, j) → Joined d i.ahead j q
+  tables_from : (a : List ℕ) (i j : Input) (t : FromTable) (ts : List FromTable) (q : Query) (o : Option (List ℕ)) → i.height ≡ 0 → alone (t ∷ ts) ≡ o → Leads a (separated (map table_symbols (t ∷ ts))) i.ahead
+      → tables_by d below (t ∷ ts) o i ≡ Ok (q, j) → SourceRead d a j q
+  unfolding joins left
+  tables_from a i j t ts q (Some n) flat is l h = as_source (joins_ok (length i.ahead) a i j (table n no_clauses) q (record {
+      no_query = refl;
+      from = record { source = whole_table n; rules = refl; no_product = refl; height = omega arith; low = omega arith; leads = subst (λ s. Leads a s i.ahead) (alone_symbols t ts n is) l; value = refl };
+    }) h)
+  tables_from a i j t ts q None flat is l h =
+      let past = ok_place _ q i j h in
+      let same : i.height ≡ j.height = ap (λ (y : Input). y.height) past in
+      record {
+        source = tables_of (t ∷ ts);
+        rules = product_made t ts is;
+        no_query = refl;
+        height = omega arith;
+        low = omega arith;
+        leads = subst (λ (y : Input). Leads a (separated (map table_symbols (t ∷ ts))) y.ahead) past l;
+        value = ok_value _ q i j h;
+      }
+
+  tables_then : (i m j : Input) (found : List FromTable) (q : Query) → i.height ≡ 0 → tables i ≡ Ok (found, m) → from_tables d below found m ≡ Ok (q, j) → SourceRead d i.ahead j q
+  unfolding from_tables
+  tables_then i m j found q flat e h =
+      let t = tables_ok i m found e in
+      let level = t.height in
+      tables_from i.ahead m j t.first t.others q (alone (t.first ∷ t.others)) (omega arith) refl t.leads
+      (subst (λ ts. tables_by d below ts (alone ts) m ≡ Ok (q, j)) (sym t.value) h)
+
+  source_from : (i j : Input) (q : Query) (t : Bool) → i.height ≡ 0 → (if t then (tables >>= from_tables d below) i else first_bracketed d below i) ≡ Ok (q, j) → SourceRead d i.ahead j q
   unfolding joins left
   source_from i j q true flat h =
-      let g = then_ok (table_named i) _ q j h in
-      let t = table_ok i g.place g.found g.first in
-      let same = next_height i g.place t.past in
-      joins_ok (length g.place.ahead) i.ahead g.place j g.found q (record {
-        no_query = refl;
-        from = record { source = whole_table t.name; rules = refl; height = omega arith; low = omega arith; leads = next_to t.here t.past (stays refl); value = t.value };
-      }) g.second
+      let g = then_ok (tables i) _ q j h in
+      tables_then i g.place j g.found q flat g.first g.second
   source_from i j q false flat h =
       let g = then_ok (side d below i) _ q j h in
       let s = side_ok i g.place g.found g.first in
@@ -254,9 +318,9 @@ module _ (d : ℕ) (below : Reader Query) (gives : GivesQuery d below) where
       let height = s.height in
       let low = s.low in
       let high = side_high s.source s.no_join in
-      behind_from i.ahead m j g.found q (sees_join m) refl (record { source = s.source; rules = s.rules; height = omega arith; low = omega arith; leads = s.leads; value = s.value }) g.second
+      as_source (behind_from i.ahead m j g.found q (sees_join m) refl (record { source = s.source; rules = s.rules; no_product = side_no_product s.source s.no_join; height = omega arith; low = omega arith; leads = s.leads; value = s.value }) g.second)
 
-  source_ok : (i j : Input) (q : Query) → i.height ≡ 0 → source d below i ≡ Ok (q, j) → Joined d i.ahead j q
+  source_ok : (i j : Input) (q : Query) → i.height ≡ 0 → source d below i ≡ Ok (q, j) → SourceRead d i.ahead j q
   unfolding source
   source_ok i j q flat h = source_from i j q (is_name (kind i)) flat h
 
@@ -264,11 +328,6 @@ module _ (d : ℕ) (below : Reader Query) (gives : GivesQuery d below) where
 
   query_rules : (c : SelectClauses) (s : Source) → is_source s ≡ true → is_query s ≡ false → is_where c.condition ≡ true → is_source (query_of c s) ≡ true
   query_rules c s f g h = both_true _ _ (both_true _ _ f (ap not g)) h
-
-  plain_source : (s : Source) (symbols : List Symbol) → is_query s ≡ false → in_brackets s symbols ≡ symbols
-  plain_source (whole_table name) symbols e = refl
-  plain_source (both_of kind_seen l r on) symbols e = refl
-  plain_source (query_of c from) symbols e = absurd (cc)
 
   -- what stands behind SELECT, or SELECT DISTINCT
   record SelectionRead (is_distinct : Bool) (i j : Input) (q : Query) : Type 0 where
@@ -290,8 +349,7 @@ module _ (d : ℕ) (below : Reader Query) (gives : GivesQuery d below) where
       let from = expect_ok k.From expected.From b.place c.place c.found c.first in
       let flat = record c.place { height = 0 } in
       let g = then_ok (source d below flat) _ q j c.second in
-      let joined_read = source_ok flat g.place g.found refl g.first in
-      let s = joined_read.from in
+      let s = source_ok flat g.place g.found refl g.first in
       let up = record g.place { height = max c.place.height (min (g.place.height + 1) (2 ^ 64 - 1)) } in
       let n = then_ok (narrowed g.found up) _ q j g.second in
       let w = where_ok (narrowed_query g.found) g.found up n.place n.found n.first in
@@ -305,7 +363,6 @@ module _ (d : ℕ) (below : Reader Query) (gives : GivesQuery d below) where
       let h6 = w.height in
       let h7 = names.height in
       let h8 : o.place.height ≡ j.height = ap (λ (y : Input). y.height) past in
-      let src = subst (λ x. Leads flat.ahead x g.place.ahead) (plain_source s.source (source_symbols s.source) joined_read.no_query) s.leads in
       let last = subst (λ (y : Input). Leads n.place.ahead (order_symbols names.it) y.ahead) past names.leads in
       let narrow : narrowed_by (query_meant s.source) (option_map expression_of w.condition) ≡ n.found =
       ap (λ x. narrowed_by x (option_map expression_of w.condition)) s.value ∙ sym (narrowed_is g.found (option_map expression_of w.condition)) ∙ w.value in
@@ -314,10 +371,10 @@ module _ (d : ℕ) (below : Reader Query) (gives : GivesQuery d below) where
         clauses = made;
         distinct = refl;
         source = s.source;
-        rules = query_rules made s.source s.rules joined_read.no_query w.good;
+        rules = query_rules made s.source s.rules s.no_query w.good;
         low = omega arith;
         height = omega arith;
-        leads = leads_on (leads_on cols.leads (next_to (next_mark b.place k.From (mark k.From) from.0 (λ x. cc) refl) from.1 src)) (leads_on w.leads last);
+        leads = leads_on (leads_on cols.leads (next_to (next_mark b.place k.From (mark k.From) from.0 (λ x. cc) refl) from.1 s.leads)) (leads_on w.leads last);
         value = ap (λ x. ordered_query (once_each is_distinct (projected_query x (map bytes_of cols.it))) (map bytes_of names.it)) narrow
             ∙ ap₂ (λ x y. ordered_query (once_each is_distinct (projected_query n.found x)) y) cols.value names.value ∙ ok_value _ q o.place j o.second;
       }

@@ -10,12 +10,14 @@ use Rattle.msi_query_expressions.specs.Expressions.{Expression, literal, column}
 use Rattle.msi_query_expressions.specs.Folding.{folded_unary}
 use Rattle.msi_query_expressions.specs.declared.joins.JoinKind.{JoinKind}
 use Rattle.msi_query_expressions.specs.declared.joins.JoinKind.TheVariants.{Inner, Left}
-use Rattle.msi_query.specs.Queries.{Query, table, join, no_clauses, narrowed_query, projected_query, ordered_query}
+use Rattle.msi_query.specs.Queries.{Query, table, join, product, no_clauses}
+use Rattle.msi_query.specs.Queries.{narrowed_query, projected_query, ordered_query}
 use Rattle.msi_query.specs.Queries.{InsertQuery, UpdateQuery, DeleteQuery}
 use Rattle.msi_query_tokens.specs.declared.token.Kind.{Kind}
 use Rattle.msi_query_tokens.specs.declared.token.Kind.TheVariants as k
 use Rattle.msi_query_tokens.specs.Symbols.{Symbol, mark, named, number, quote, AreSymbols}
 use Rattle.msi_query_parse.specs.Operators.{binds, links, linked, null_compared}
+use Rattle.msi_query_parse.specs.Tables.{FromTable, side_of, make_product}
 use Rattle.msi_query_parse.specs.Reading.{dotted, once_each}
 
 -- ---- names and literals
@@ -157,9 +159,10 @@ pub record SelectClauses : Type 0 where
   pub condition : Option Phrase
   pub order : List ColumnName
 
--- where rows come from: a table, a join, or a query
+-- where rows come from: a table, a product of tables, a join, or a query
 pub data Source : Type 0 where
   whole : List ℕ → Source
+  tables_of : List FromTable → Source
   both_of : JoinKind → Source → Source → Phrase → Source
   query_of : SelectClauses → Source → Source
 
@@ -174,6 +177,13 @@ where_symbols (Some p) = mark k.Where ∷ phrase_symbols p
 abbrev pub distinct_symbols : Bool → List Symbol
 distinct_symbols false = []
 distinct_symbols true = mark k.Distinct ∷ []
+
+abbrev pub own_symbols : Option (List ℕ) → List Symbol
+own_symbols None = []
+own_symbols (Some name) = named name ∷ []
+
+abbrev pub table_symbols : FromTable → List Symbol
+table_symbols from = named from.table ∷ own_symbols from.own
 
 -- a star for all columns
 abbrev pub column_symbols : List ColumnName → List Symbol
@@ -198,6 +208,7 @@ in_brackets _ symbols = symbols
 
 abbrev pub source_symbols : Source → List Symbol
 source_symbols (whole name) = named name ∷ []
+source_symbols (tables_of tables) = separated (map table_symbols tables)
 source_symbols (both_of kind l r on) = in_brackets l (source_symbols l) ++ mark (join_mark kind) ∷ mark k.Join
     ∷ in_brackets r (source_symbols r) ++ mark k.On ∷ phrase_symbols on
 source_symbols (query_of c from) = front_symbols c ++ source_symbols from ++ back_symbols c
@@ -206,22 +217,31 @@ abbrev pub is_query : Source → Bool
 is_query (query_of c from) = true
 is_query _ = false
 
+-- tables with commas between them are joined as well
 abbrev pub is_join : Source → Bool
 is_join (both_of kind l r on) = true
+is_join (tables_of tables) = true
 is_join _ = false
+
+abbrev pub is_product : Source → Bool
+is_product (tables_of tables) = true
+is_product _ = false
 
 abbrev pub is_where : Option Phrase → Bool
 is_where None = true
 is_where (Some p) = is_phrase p && nat_le (phrase_height p) 200
 
--- joins without brackets group to the left, and a query selects from a table or a join
+-- joins without brackets group to the left, none begins with a product, and a query selects from no query
 abbrev pub is_source : Source → Bool
 is_source (whole name) = true
-is_source (both_of kind l r on) = is_source l && is_source r && not (is_join r) && is_where (Some on)
+is_source (tables_of tables) = make_product tables
+is_source (both_of kind l r on) =
+    is_source l && not (is_product l) && is_source r && not (is_join r) && is_where (Some on)
 is_source (query_of c from) = is_source from && not (is_query from) && is_where c.condition
 
 abbrev pub source_height : Source → ℕ
 source_height (whole name) = 0
+source_height (tables_of tables) = 0
 source_height (both_of kind l r on) = max (source_height l) (source_height r) + 1
 source_height (query_of c from) = source_height from
 
@@ -237,6 +257,7 @@ clauses_given c query =
 
 abbrev pub query_meant : Source → Query
 query_meant (whole name) = table name no_clauses
+query_meant (tables_of tables) = product (map side_of tables) no_clauses
 query_meant (both_of kind l r on) = join kind (query_meant l) (query_meant r) (expression_of on) no_clauses
 query_meant (query_of c from) = clauses_given c (query_meant from)
 

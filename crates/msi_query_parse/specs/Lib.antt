@@ -1,5 +1,6 @@
 -- The words of this crate.
 pub mod Operators
+pub mod Tables
 pub mod Reading
 pub mod Nests
 pub mod Grammar

@@ -1,6 +1,6 @@
 -- What prints is read back: the phrases that expressions and queries print as, and those whose text spells them again.
 use Rattle.std.specs.Prelude.{◌≡◌, ℕ, Bool, true, List, map, Option, Some, None, option_map, ◌&&◌, nat_lt, nat_le}
-use Rattle.std.specs.Prelude.{if◌then◌else◌, IsTrue}
+use Rattle.std.specs.Prelude.{if◌then◌else◌, IsTrue, bytes_eq}
 use Rattle.std.specs.List.{list_all}
 use Rattle.std.specs.Str.{is_utf8}
 use Rattle.msi_query_expressions.specs.declared.operators.BinaryOp.{BinaryOp}
@@ -9,14 +9,16 @@ use Rattle.msi_query_expressions.specs.OperatorTexts.{op_level, right_level}
 use Rattle.msi_query_expressions.specs.Expressions.{Expression, literal, column, unary, binary, both, either, names_in}
 use Rattle.msi_query_expressions.specs.Folding.{is_built}
 use Rattle.msi_query_expressions.specs.Printing.{level, expression_text}
-use Rattle.msi_query.specs.Queries.{Clauses, Query, table, join, InsertQuery, UpdateQuery, DeleteQuery}
+use Rattle.msi_query.specs.Queries.{Clauses, Side, Query, table, join, product, InsertQuery, UpdateQuery, DeleteQuery}
 use Rattle.msi_query.specs.QueryTexts.{bare_name, query_text, insert_text, update_text, delete_text}
 use Rattle.msi_query_tokens.specs.declared.token.Kind.{Kind}
 use Rattle.msi_query_tokens.specs.declared.token.Kind.TheVariants as k
 use Rattle.msi_query_parse.specs.declared.statement.Statement.{Statement}
 use Rattle.msi_query_parse.specs.declared.statement.Statement.TheVariants as any
 use Rattle.msi_query_parse.specs.Grammar.{Phrase, constant, reference, grouped, front, link, plain, phrase_height}
-use Rattle.msi_query_parse.specs.Grammar.{is_value, Source, SelectClauses, whole, both_of, query_of, source_height}
+use Rattle.msi_query_parse.specs.Tables.{FromTable, make_product}
+use Rattle.msi_query_parse.specs.Grammar.{is_value, Source, SelectClauses, whole, tables_of, both_of, query_of}
+use Rattle.msi_query_parse.specs.Grammar.{source_height}
 use Rattle.msi_query_parse.specs.Grammar.{SpellsExpression, SpellsSelect, SpellsInsert, SpellsUpdate, SpellsDelete}
 
 -- ---- expressions
@@ -87,17 +89,31 @@ printed_clauses c = record {
 abbrev pub selected : Clauses → Source → Source
 selected c from = query_of (printed_clauses c) from
 
+-- with a name of its own where its columns go by another one than the table's
+abbrev pub printed_table : Side → FromTable
+printed_table side = record {
+  table = side.table;
+  own = if bytes_eq side.table side.name then None else Some side.name;
+}
+
 abbrev pub or_whole : Option (List ℕ) → Source → Source
 or_whole (Some name) source = whole name
 or_whole None source = source
 
 abbrev pub source_of : Query → Source
 source_of (table name c) = selected c (whole name)
+source_of (product sides c) = selected c (tables_of (map printed_table sides))
 source_of (join kind l r on c) = selected c
     (both_of kind (or_whole (bare_name l) (source_of l)) (or_whole (bare_name r) (source_of r)) (phrase_of on))
 
+abbrev pub is_readable_side : Side → Bool
+is_readable_side side = is_readable_name side.table && is_readable_name side.name
+
+-- a product prints as a table if it has one alone, whose columns go by its name
 abbrev pub has_readable_parts : Query → Bool
 has_readable_parts (table name c) = is_readable_name name && are_readable_clauses c
+has_readable_parts (product sides c) =
+    list_all is_readable_side sides && make_product (map printed_table sides) && are_readable_clauses c
 has_readable_parts (join kind l r on c) =
     has_readable_parts l && has_readable_parts r && is_readable on && are_readable_clauses c
 

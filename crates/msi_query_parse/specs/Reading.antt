@@ -1,13 +1,13 @@
 -- How a text is read: each rule goes past the tokens that it takes, or refuses the first that fits nowhere.
 use Rattle.std.specs.Prelude.{◌≡◌, ◌≢◌, ℕ, zero, suc, ◌+◌, Bool, true, false, ◌||◌, if◌then◌else◌, ◌==◌, nat_lt}
-use Rattle.std.specs.Prelude.{List, [], ◌∷◌, ◌++◌, Option, Some, None, Result, Ok, Err, codes}
+use Rattle.std.specs.Prelude.{List, [], ◌∷◌, ◌++◌, map, Option, Some, None, Result, Ok, Err, codes}
 use Rattle.msi_table_values.specs.declared.value.Value.{Value}
 use Rattle.msi_table_values.specs.declared.value.Value.TheVariants as v
 use Rattle.msi_query_expressions.specs.declared.operators.UnaryOp.TheVariants as one
 use Rattle.msi_query_expressions.specs.Expressions.{Expression, literal, column as column_of}
 use Rattle.msi_query_expressions.specs.Folding.{folded_unary}
 use Rattle.msi_query_expressions.specs.declared.joins.JoinKind.TheVariants.{Inner, Left}
-use Rattle.msi_query.specs.Queries.{Query, table, join, no_clauses, narrowed as narrowed_by, narrowed_query}
+use Rattle.msi_query.specs.Queries.{Query, table, join, product, no_clauses, narrowed as narrowed_by, narrowed_query}
 use Rattle.msi_query.specs.Queries.{projected_query, ordered_query, distinct_query}
 use Rattle.msi_query.specs.Queries.{InsertQuery, UpdateQuery, DeleteQuery}
 use Rattle.msi_query_tokens.specs.declared.token.Kind.{Kind}
@@ -24,6 +24,7 @@ use Rattle.msi_query_tokens.specs.Texts.{text, positive, negative}
 use Rattle.msi_query_parse.specs.declared.statement.Statement.{Statement}
 use Rattle.msi_query_parse.specs.declared.statement.Statement.TheVariants as any
 use Rattle.msi_query_parse.specs.Operators.{binds, linked, null_compared}
+use Rattle.msi_query_parse.specs.Tables.{FromTable, side_of, alone}
 
 -- ---- names
 
@@ -206,6 +207,22 @@ condition = do
 unfoldable pub table_named : Reader Query
 table_named = (λ name. table name no_clauses) <$> name expected.Side
 
+-- none where no name follows
+unfoldable pub own_name : Reader (Option (List ℕ))
+own_name = λ i. if is_name (kind i) then (Some <$> name expected.Name) i else Ok (None, i)
+
+unfoldable pub from_table : Reader FromTable
+from_table = do
+  first ← name expected.Side
+  own ← own_name
+  pure (record { table = first; own = own })
+
+abbrev pub one_table : List FromTable → Reader (List FromTable)
+one_table found = (λ from. found ++ from ∷ []) <$> from_table
+
+abbrev pub tables : Reader (List FromTable)
+tables = listed expected.Side one_table []
+
 unfoldable pub narrowed : Query → Reader Query
 narrowed query = do
   is_narrowed ← eat k.Where
@@ -266,8 +283,16 @@ module _ (depth : ℕ) (below : Reader Query) where
     lower
     joins_behind first
 
+  -- joins may follow a table that stands alone, and no product
+  abbrev pub tables_by : List FromTable → Option (List ℕ) → Reader Query
+  tables_by found (Some name) = joins (table name no_clauses)
+  tables_by found None = pure (product (map side_of found) no_clauses)
+
+  unfoldable pub from_tables : List FromTable → Reader Query
+  from_tables found = tables_by found (alone found)
+
   unfoldable pub source : Reader Query
-  source = λ i. if is_name (kind i) then (table_named >>= joins) i else first_bracketed i
+  source = λ i. if is_name (kind i) then (tables >>= from_tables) i else first_bracketed i
 
   -- behind SELECT, or SELECT DISTINCT
   unfoldable pub selection : Bool → Reader Query

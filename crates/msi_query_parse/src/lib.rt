@@ -13,6 +13,7 @@ mod parse;
 mod queries;
 mod sources;
 mod statement;
+mod tables;
 mod values;
 
 pub use msi_query_tokens::{Expected, ParseError, Refused, refusal};

@@ -8,6 +8,7 @@ ghost use Rattle.msi_query_parse.specs.Nests.{NestsQueries};
 
 use crate::grammar::condition;
 use crate::names::{borrowed, name, order, selected};
+use crate::tables::{FromTable, alone, product_of, tables};
 use msi_base::errors::Error;
 use msi_base::text::Text;
 use msi_query::Select;
@@ -133,14 +134,31 @@ impl<F: Fn(Global, &mut Tokens<'_>, usize) -> Result<Select, ParseError>> Source
         Ok(left)
     }
 
+    #[tactic(auto, unfolding(crate::specs::Reading::from_tables))]
+    fn from_tables(
+        &self,
+        tokens: &mut Tokens<'_>,
+        found: &[FromTable],
+    ) -> Result<Select, ParseError>
+        requires { NestsQueries self.now.depth (F.pre self.now.query) (F.post self.now.query) }
+        ensures { Reads (spec.from_tables self.now.depth (spec.query self.now.depth) found.now tokens.old) result
+            tokens.new }
+    {
+        let Some(name) = alone(found) else {
+            return Ok(product_of(self.alloc, found)?);
+        };
+        let first = Select::table(self.alloc, name.as_str())?;
+        self.joins(tokens, first)
+    }
+
     #[tactic(auto, unfolding(crate::specs::Reading::source))]
     fn source(&self, tokens: &mut Tokens<'_>) -> Result<Select, ParseError>
         requires { NestsQueries self.now.depth (F.pre self.now.query) (F.post self.now.query) }
         ensures { Reads (spec.source self.now.depth (spec.query self.now.depth) tokens.old) result tokens.new }
     {
         if tokens.peek().is_name() {
-            let first = table(self.alloc, tokens)?;
-            return self.joins(tokens, first);
+            let found = tables(self.alloc, tokens)?;
+            return self.from_tables(tokens, found.as_slice());
         }
         let first = self.side(tokens)?;
         tokens.lower();
