@@ -5,7 +5,7 @@ use crate::matching::{Finder, Wanted};
 use msipkg_format::Style;
 use msipkg_packages::msi::{Package, Rows, Table, ValueView};
 use msipkg_packages::output::{Failure, Opened, Output, System};
-use msipkg_packages::{PackageFile, open_to_look, rows_of};
+use msipkg_packages::{PackageFile, is_list, open_to_look, rows_of};
 use std::alloc::{AllocError, Global};
 
 /// What is searched for, and where.
@@ -74,7 +74,7 @@ fn search_package(
 }
 
 fn describes_tables(table: &Table) -> bool {
-    matches!(table.name(), "_Columns" | "_Tables" | "_Validation")
+    is_list(table) || table.name() == "_Validation"
 }
 
 /// Returns whether a table can be read.

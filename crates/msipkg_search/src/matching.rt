@@ -38,21 +38,26 @@ impl<'a> Wanted<'a> {
     /// # Errors
     /// Fails if the text is no regular expression, at the text, and with `OutOfMemory`.
     pub(crate) fn regex(self, alloc: Global) -> Result<Option<Regex>, Failure> {
-        let built = match self.way {
-            Way::Regex => RegexBuilder::new(self.text)
-                .case_insensitive(self.ignores_case)
-                .build(alloc),
-            Way::Part | Way::Whole if !self.ignores_case => return Ok(None),
-            Way::Part => caseless(alloc, escape(alloc, self.text)?.as_str()),
-            Way::Whole => {
-                let text = escape(alloc, self.text)?;
-                caseless(alloc, format!(in alloc; "\\A(?:{text})\\z")?.as_str())
-            }
-        };
-        match built {
+        if !self.ignores_case && !matches!(self.way, Way::Regex) {
+            return Ok(None);
+        }
+        let pattern = self.pattern(alloc)?;
+        let builder = RegexBuilder::new(pattern.as_str()).case_insensitive(self.ignores_case);
+        match builder.build(alloc) {
             Ok(regex) => Ok(Some(regex)),
             Err(Error::OutOfMemory) => Err(Failure::from(AllocError)),
             Err(error) => Err(Failure::shown(alloc, &error).at(alloc, "pattern", self.text)),
+        }
+    }
+
+    fn pattern(self, alloc: Global) -> Result<String, AllocError> {
+        match self.way {
+            Way::Part => escape(alloc, self.text),
+            Way::Whole => {
+                let text = escape(alloc, self.text)?;
+                format!(in alloc; "\\A(?:{text})\\z")
+            }
+            Way::Regex => String::from_str(alloc, self.text),
         }
     }
 
@@ -68,12 +73,6 @@ impl<'a> Wanted<'a> {
             (None, Way::Part | Way::Regex) => Ok(Finder::Part(self.text)),
         }
     }
-}
-
-fn caseless(alloc: Global, pattern: &str) -> Result<Regex, Error> {
-    RegexBuilder::new(pattern)
-        .case_insensitive(true)
-        .build(alloc)
 }
 
 impl Finder<'_> {
