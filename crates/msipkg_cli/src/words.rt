@@ -10,6 +10,8 @@ pub enum Verb {
     Tables,
     Schema,
     Query,
+    Find,
+    Refs,
     Streams,
     Extract,
     Summary,
@@ -195,6 +197,67 @@ static TABLE_COMMANDS: [Row; 4] = [
                 help: "Prints tabs and line feeds in values as they are, but for a terminal",
             },
             FOR_SPREADSHEETS,
+            PAGE,
+            ESCAPE,
+        ],
+    },
+];
+
+/// The commands that search the values of tables.
+static SEARCH_COMMANDS: [Row; 2] = [
+    Row {
+        verb: Verb::Find,
+        name: "find",
+        about: "Prints the values that have a text; the status is 1 where there is none",
+        arguments: &[
+            FILE,
+            Argument {
+                id: "TEXT",
+                form: Form::Word,
+                help: "The text; numbers are searched as they print",
+            },
+            Argument {
+                id: "exact",
+                form: Form::Instead(&["regex"]),
+                help: "Finds values that equal the text",
+            },
+            Argument {
+                id: "regex",
+                form: Form::Flag,
+                help: "Takes the text as a regular expression",
+            },
+            Argument {
+                id: "ignore-case",
+                form: Form::Flag,
+                help: "Takes large and small letters for the same",
+            },
+            Argument {
+                id: "all",
+                form: Form::Flag,
+                help: "Searches _Columns, _Tables and _Validation, too",
+            },
+            JSON,
+            PAGE,
+            ESCAPE,
+        ],
+    },
+    Row {
+        verb: Verb::Refs,
+        name: "refs",
+        about: "Prints what refers to a row; the status is 1 where nothing does",
+        arguments: &[
+            FILE,
+            Argument {
+                id: "TABLE",
+                form: Form::Word,
+                help: "The table of the row",
+            },
+            Argument {
+                id: "KEY",
+                form: Form::Word,
+                help: "Its key, as find prints it, or the first value of that",
+            },
+            JSON,
             PAGE,
             ESCAPE,
         ],
@@ -464,10 +527,11 @@ static EXCHANGE_COMMANDS: [Row; 4] = [
 ];
 
 /// Returns the commands. Proofs go through all rows in each function that names a table, with a cost by their square.
-/// So there are four tables, and a function for each.
-fn commands() -> [&'static [Row]; 4] {
+/// So there are five tables, and a function for each.
+fn commands() -> [&'static [Row]; 5] {
     [
         table_commands(),
+        search_commands(),
         part_commands(),
         change_commands(),
         exchange_commands(),
@@ -476,6 +540,10 @@ fn commands() -> [&'static [Row]; 4] {
 
 fn table_commands() -> &'static [Row] {
     TABLE_COMMANDS.as_slice()
+}
+
+fn search_commands() -> &'static [Row] {
+    SEARCH_COMMANDS.as_slice()
 }
 
 fn part_commands() -> &'static [Row] {
