@@ -24,7 +24,7 @@ pub enum Change<'a, 'b> {
         is_signature: bool,
     },
     /// Statements are carried out.
-    Execute(Vec<PreparedStatement<'a>>),
+    Execute(Vec<PreparedStatement<'b>>),
     /// It gets what files have.
     Import(Import<'a, 'b>),
     /// Properties of its summary are set, each given as `NAME=VALUE`, and then others are cleared.

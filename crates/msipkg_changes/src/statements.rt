@@ -6,23 +6,27 @@ use crate::outcome::{Carried, Outcome};
 use msipkg_import::add_validation;
 use msipkg_packages::msi::{Package, Statement};
 use msipkg_packages::output::{Failure, Opened};
-use msipkg_queries::{explained, read_statement};
-use std::alloc::Global;
+use msipkg_queries::{
+    Written, check_marks, explained, fitted_statement, mark_count, read_statement,
+};
+use std::alloc::{AllocError, Global};
 
 /// How many characters of a statement a message has at most.
 const MOST_SHOWN: usize = 200;
 
 /// A statement that was read.
 pub struct PreparedStatement<'a> {
-    /// How it is written.
-    text: &'a str,
+    written: Written<'a>,
     work: Work<'a>,
 }
 
 /// Written out, so that a function that owns one calls one drop, and its proof doesn't go through those of the parts.
 impl Drop for PreparedStatement<'_> {
     fn drop(self) {
-        let PreparedStatement { text: _, work: _ } = self;
+        let PreparedStatement {
+            written: _,
+            work: _,
+        } = self;
     }
 }
 
@@ -33,33 +37,50 @@ enum Work<'a> {
     Tables(Definition<'a>),
 }
 
-/// Reads statements: inserts, updates, deletes and changes of tables.
+/// Reads statements: inserts, updates, deletes and changes of tables. The literals take the places of their marks, in
+/// order over all statements.
 ///
 /// # Errors
-/// Fails at the first text that is none of them, and if memory is refused.
+/// Fails if there are more or fewer literals than marks, at the first text that is no statement, and if memory is
+/// refused.
 pub fn prepare_statements<'a>(
     alloc: Global,
     texts: &[&'a str],
+    literals: &'a [String],
 ) -> Result<Vec<PreparedStatement<'a>>, Failure> {
+    check_marks(alloc, mark_count_of(alloc, texts)?, literals.len())?;
     let mut statements = Vec::with_capacity(alloc, texts.len())?;
+    let mut left = literals;
     for text in texts {
-        statements.push(prepared(alloc, *text)?)?;
+        let count = mark_count(alloc, text)?.min(left.len());
+        let (literals, others) = left.split_at(count);
+        left = others;
+        statements.push(prepared(alloc, Written { text, literals })?)?;
     }
     Ok(statements)
 }
 
-fn prepared<'a>(alloc: Global, text: &'a str) -> Result<PreparedStatement<'a>, Failure> {
-    match work_of(alloc, text) {
-        Ok(work) => Ok(PreparedStatement { text, work }),
-        Err(failure) => Err(at_statement(alloc, failure, text)),
+/// Returns how many marks texts have.
+fn mark_count_of(alloc: Global, texts: &[&str]) -> Result<usize, AllocError> {
+    let mut count = 0usize;
+    for text in texts {
+        count = count.saturating_add(mark_count(alloc, text)?);
+    }
+    Ok(count)
+}
+
+fn prepared<'a>(alloc: Global, written: Written<'a>) -> Result<PreparedStatement<'a>, Failure> {
+    match work_of(alloc, written) {
+        Ok(work) => Ok(PreparedStatement { written, work }),
+        Err(failure) => Err(at_statement(alloc, failure, written.text)),
     }
 }
 
-fn work_of<'a>(alloc: Global, text: &'a str) -> Result<Work<'a>, Failure> {
-    if is_definition(text) {
-        Ok(Work::Tables(definition_of(alloc, text)?))
+fn work_of<'a>(alloc: Global, written: Written<'a>) -> Result<Work<'a>, Failure> {
+    if is_definition(alloc, written.text) {
+        Ok(Work::Tables(definition_of(alloc, written.text)?))
     } else {
-        Ok(Work::Rows(read_statement(alloc, text)?))
+        Ok(Work::Rows(read_statement(alloc, written)?))
     }
 }
 
@@ -79,14 +100,14 @@ pub(crate) fn carry_out_statements(
 
 impl PreparedStatement<'_> {
     fn carry_out(self, alloc: Global, package: &mut Package<Opened>) -> Result<Carried, Failure> {
-        let PreparedStatement { text, work } = self;
+        let PreparedStatement { written, work } = self;
         let carried = match work {
-            Work::Rows(statement) => apply_rows(alloc, package, statement, text),
+            Work::Rows(statement) => apply_rows(alloc, package, statement, written),
             Work::Tables(definition) => apply_tables(alloc, package, definition),
         };
         match carried {
             Ok(carried) => Ok(carried),
-            Err(failure) => Err(at_statement(alloc, failure, text)),
+            Err(failure) => Err(at_statement(alloc, failure, written.text)),
         }
     }
 }
@@ -108,12 +129,13 @@ fn apply_rows(
     alloc: Global,
     package: &mut Package<Opened>,
     statement: Statement,
-    text: &str,
+    written: Written<'_>,
 ) -> Result<Carried, Failure> {
+    let statement = fitted_statement(alloc, package, statement)?;
     let carried = counted(package, &statement);
     match apply_statement(package, statement) {
         Ok(()) => Ok(carried?),
-        Err(failure) => Err(explained(alloc, package, text, failure)),
+        Err(failure) => Err(explained(alloc, package, written, failure)),
     }
 }
 

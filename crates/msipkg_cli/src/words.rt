@@ -130,6 +130,12 @@ const FOR_SPREADSHEETS: Argument = Argument {
     help: "Puts an apostrophe in front of texts in CSV that a spreadsheet would run as formulas",
 };
 
+const VALUE: Argument = Argument {
+    id: "value",
+    form: Form::Values("TEXT"),
+    help: "Takes the place of the next ?: NULL, a whole number, or else a text; may be repeated",
+};
+
 /// How `query` is called: its files and its text are one argument, so that options may be anywhere between them.
 pub const QUERY_USAGE: &str = "msipkg query [OPTIONS] <FILE>... <TEXT>";
 
@@ -194,6 +200,7 @@ static TABLE_COMMANDS: [Row; 4] = [
                 form: Form::Instead(&["escape"]),
                 help: "Prints tabs and line feeds in values as they are, but for a terminal",
             },
+            VALUE,
             FOR_SPREADSHEETS,
             PAGE,
             ESCAPE,
@@ -356,6 +363,7 @@ static CHANGE_COMMANDS: [Row; 4] = [
                 form: Form::Flag,
                 help: "Prints how many rows each statement changed as JSON",
             },
+            VALUE,
             PAGE,
             RECODE,
             STRICT,
