@@ -38,7 +38,7 @@ fn missing_table(
         return format!(in alloc; "table {name} isn't there{near}");
     }
     let count = names.len();
-    format!(in alloc; "table {name} isn't there; msipkg tables FILE lists all {count}")
+    format!(in alloc; "table {name} isn't there; msipkg tables FILE lists the {count} tables")
 }
 
 pub(crate) fn tables_in<'a>(
