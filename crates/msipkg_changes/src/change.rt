@@ -102,6 +102,9 @@ fn changed_package(
     if let Some(added) = before.added(rt, file.path, &package)? {
         outcome.add_validation(added);
     }
+    if outcome.is_anew() {
+        before.check_listed(rt, file.path)?;
+    }
     recode(&mut package, file.purpose, manner, outcome)?;
     Ok((package, state))
 }

@@ -3,11 +3,11 @@
 use crate::applied::{apply_definition, apply_statement, counted};
 use crate::definition::{Definition, definition_of, is_definition};
 use crate::outcome::{Carried, Outcome};
-use msipkg_import::add_validation;
+use msipkg_import::{VALIDATION, add_validation, change_validation};
 use msipkg_packages::msi::{Package, Statement};
 use msipkg_packages::output::{Failure, Opened};
 use msipkg_queries::{
-    Written, check_marks, explained, fitted_statement, mark_count, read_statement,
+    Written, changes_table, check_marks, explained, fitted_statement, mark_count, read_statement,
 };
 use std::alloc::{AllocError, Global};
 
@@ -93,9 +93,18 @@ pub(crate) fn carry_out_statements(
     outcome: &mut Outcome,
 ) -> Result<(), Failure> {
     for statement in statements {
+        if describes(alloc, statement.written)? {
+            outcome.note_anew();
+        }
         outcome.add_carried(statement.carry_out(alloc, package)?)?;
     }
     Ok(())
+}
+
+/// Returns whether a statement changes what `_Validation` says of columns. The library itself only takes their
+/// descriptions.
+fn describes(alloc: Global, written: Written<'_>) -> Result<bool, AllocError> {
+    changes_table(alloc, written, VALIDATION, "Description")
 }
 
 impl PreparedStatement<'_> {
@@ -133,9 +142,25 @@ fn apply_rows(
 ) -> Result<Carried, Failure> {
     let statement = fitted_statement(alloc, package, statement)?;
     let carried = counted(package, &statement);
-    match apply_statement(package, statement) {
+    match apply_change(alloc, package, statement, written) {
         Ok(()) => Ok(carried?),
         Err(failure) => Err(explained(alloc, package, written, failure)),
+    }
+}
+
+fn apply_change(
+    alloc: Global,
+    package: &mut Package<Opened>,
+    statement: Statement,
+    written: Written<'_>,
+) -> Result<(), Failure> {
+    if !matches!(statement, Statement::Select(_))
+        && package.has_table(VALIDATION)
+        && describes(alloc, written)?
+    {
+        change_validation(alloc, package, statement)
+    } else {
+        apply_statement(package, statement)
     }
 }
 

@@ -2,9 +2,10 @@
 //! and a number for a column of texts.
 
 use crate::inserting::valued_columns;
-use msi_query::parts::{NewRow, insert_parts, update_parts};
+use msi_query::parts::{NewRow, delete_parts, insert_parts, update_parts};
 use msipkg_packages::msi::{
-    Column, ColumnType, Error, Insert, Items, Package, Statement, Table, Text, Update, Value,
+    Column, ColumnType, Delete, Error, Insert, Items, Package, Statement, Table, Text, Update,
+    Value,
 };
 use msipkg_packages::output::Opened;
 use std::alloc::{AllocError, Global};
@@ -22,6 +23,54 @@ pub fn fitted_statement(
         Statement::Insert(insert) => Ok(Statement::Insert(fitted_insert(alloc, package, insert)?)),
         Statement::Update(update) => Ok(Statement::Update(fitted_update(alloc, package, update)?)),
         Statement::Select(_) | Statement::Delete(_) => Ok(statement),
+    }
+}
+
+/// Returns a statement with the table of this name in the place of its own.
+///
+/// # Errors
+/// Fails if memory is refused.
+pub fn moved_statement(
+    alloc: Global,
+    table: &str,
+    statement: Statement,
+) -> Result<Statement, Error> {
+    match statement {
+        Statement::Insert(insert) => {
+            let rows = values_of(alloc, insert_parts(insert).rows)?;
+            Ok(Statement::Insert(Insert::into(alloc, table)?.rows(rows)?))
+        }
+        Statement::Update(update) => Ok(Statement::Update(moved_update(alloc, table, update)?)),
+        Statement::Delete(delete) => Ok(Statement::Delete(moved_delete(alloc, table, delete)?)),
+        Statement::Select(_) => Ok(statement),
+    }
+}
+
+fn values_of(alloc: Global, rows: Items<NewRow>) -> Result<Vec<Vec<Value>>, AllocError> {
+    let mut values = Vec::new(alloc);
+    for row in rows.into_vec() {
+        values.push(row.into_values())?;
+    }
+    Ok(values)
+}
+
+fn moved_update(alloc: Global, table: &str, update: Update) -> Result<Update, Error> {
+    let parts = update_parts(update);
+    let mut moved = Update::table(alloc, table)?;
+    for set in parts.sets.into_vec() {
+        moved = moved.set(set.column(), set.value().clone(alloc)?)?;
+    }
+    match parts.condition {
+        Some(condition) => moved.with(condition),
+        None => Ok(moved),
+    }
+}
+
+fn moved_delete(alloc: Global, table: &str, delete: Delete) -> Result<Delete, Error> {
+    let moved = Delete::from(alloc, table)?;
+    match delete_parts(delete).condition {
+        Some(condition) => moved.with(condition),
+        None => Ok(moved),
     }
 }
 

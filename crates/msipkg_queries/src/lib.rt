@@ -20,7 +20,7 @@ mod values;
 pub mod written;
 
 pub use caret::refused_at;
-pub use fitting::fitted_statement;
+pub use fitting::{fitted_statement, moved_statement};
 pub use marks::{check_marks, literals_of};
 pub use mistakes::session_sentence;
 pub use near::near_text;
@@ -28,4 +28,4 @@ pub use reading::{read_select, read_statement};
 pub use reasons::explained;
 pub use selected::{selected_tables, wide_select};
 pub use showing::{said, shown_value};
-pub use written::{Written, mark_count};
+pub use written::{Written, changes_table, mark_count};

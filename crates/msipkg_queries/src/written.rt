@@ -32,6 +32,33 @@ pub(crate) fn pieces_of<'a>(
     }
 }
 
+/// Returns whether a text is a change of a table's rows, other than one that only sets this column.
+///
+/// # Errors
+/// Fails if memory is refused.
+pub fn changes_table(
+    alloc: Global,
+    written: Written<'_>,
+    table: &str,
+    column: &str,
+) -> Result<bool, AllocError> {
+    let pieces = pieces_of(alloc, written)?;
+    Ok(only_table(pieces.as_slice()) == Some(table) && !sets_only(pieces.as_slice(), column))
+}
+
+/// Returns whether a text only sets a column.
+fn sets_only(pieces: &[Piece<'_>], column: &str) -> bool {
+    let end = pieces.iter().position(|piece| piece.kind == Kind::Where);
+    let sets = pieces.iter().take(end.unwrap_or(pieces.len()));
+    let mut is_only = is_at(pieces, 0, Kind::Update);
+    for (place, piece) in sets.enumerate() {
+        if is_at(pieces, place.saturating_add(1), Kind::Eq) {
+            is_only = is_only && piece.name() == Some(column);
+        }
+    }
+    is_only
+}
+
 /// Returns how many marks a text has.
 ///
 /// # Errors
