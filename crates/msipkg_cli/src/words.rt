@@ -59,6 +59,8 @@ enum Form {
     Value(&'static str),
     /// `--ID` with a value of this name, as often as it is needed.
     Values(&'static str),
+    /// The same, where a value may begin with a minus sign.
+    SignedValues(&'static str),
     /// `--ID`, or a letter, with a value of this name.
     Lettered(char, &'static str),
     /// `--ID`, or a letter, with a value of this name, which has to be there.
@@ -132,7 +134,7 @@ const FOR_SPREADSHEETS: Argument = Argument {
 
 const VALUE: Argument = Argument {
     id: "value",
-    form: Form::Values("TEXT"),
+    form: Form::SignedValues("TEXT"),
     help: "Takes the place of the next ?: NULL, a whole number, or else a text; may be repeated",
 };
 
@@ -558,6 +560,11 @@ fn arg_of<'a>(alloc: Global, argument: &Argument) -> Result<Arg<'a>, AllocError>
             .conflicts_with_all(others)?,
         Form::Value(name) => arg.long(id).value_name(name),
         Form::Values(name) => arg.long(id).value_name(name).action(ArgAction::Append),
+        Form::SignedValues(name) => arg
+            .long(id)
+            .value_name(name)
+            .action(ArgAction::Append)
+            .allow_hyphen_values(true),
         Form::Lettered(letter, name) => arg.long(id).short(letter).value_name(name),
         Form::Needed(letter, name) => arg.long(id).short(letter).value_name(name).required(true),
         Form::Choice(name, values) => arg.long(id).value_name(name).value_parser(values),
