@@ -7,6 +7,7 @@ use msipkg_cli::{QUERY_USAGE, Verb};
 use msipkg_export::{FileFormat, Target};
 use msipkg_format::{Failure, RowFormat};
 use msipkg_packages::Folder;
+use msipkg_queries::Written;
 use msipkg_search::{Referred, Search, Wanted, Way};
 use msipkg_show::{Form, Format, Look, Query, read_query};
 use std::alloc::Global;
@@ -43,7 +44,7 @@ pub(crate) enum Task<'a, 'b> {
         is_json: bool,
     },
     Show(Look<'a, 'b>),
-    Query(Query<'a>),
+    Query(Query<'b>),
     Find(Search<'a>),
     /// What refers to a row is printed.
     Refs(Referred<'a>),
@@ -155,9 +156,11 @@ fn query_of<'a, 'b>(alloc: Global, asked: &Asked<'a, 'b>) -> Result<Command<'a, 
     if files.is_empty() {
         return Ok(Command::Incomplete(QUERY_USAGE));
     }
+    let literals = asked.literals;
+    let written = Written { text, literals };
     let query = Query {
-        text,
-        select: read_query(alloc, text)?,
+        written,
+        select: read_query(alloc, written)?,
         format: format_of(asked),
         style: asked.style,
         has_files: files.len() > 1,
@@ -259,7 +262,7 @@ fn exec_of<'a, 'b>(alloc: Global, asked: &Asked<'a, 'b>) -> Result<Command<'a, '
     if let Some(path) = asked.option("from") {
         return Ok(Command::Script(path));
     }
-    let statements = prepare_statements(alloc, asked.texts("TEXT"))?;
+    let statements = prepare_statements(alloc, asked.texts("TEXT"), asked.literals)?;
     Ok(Command::Change(Change::Execute(statements)))
 }
 

@@ -61,6 +61,8 @@ enum Form {
     Value(&'static str),
     /// `--ID` with a value of this name, as often as it is needed.
     Values(&'static str),
+    /// The same, where a value may begin with a minus sign.
+    SignedValues(&'static str),
     /// `--ID`, or a letter, with a value of this name.
     Lettered(char, &'static str),
     /// `--ID`, or a letter, with a value of this name, which has to be there.
@@ -132,6 +134,12 @@ const FOR_SPREADSHEETS: Argument = Argument {
     help: "Puts an apostrophe in front of texts in CSV that a spreadsheet would run as formulas",
 };
 
+const VALUE: Argument = Argument {
+    id: "value",
+    form: Form::SignedValues("TEXT"),
+    help: "Takes the place of the next ?: NULL, a whole number, or else a text; may be repeated",
+};
+
 /// How `query` is called: its files and its text are one argument, so that options may be anywhere between them.
 pub const QUERY_USAGE: &str = "msipkg query [OPTIONS] <FILE>... <TEXT>";
 
@@ -196,6 +204,7 @@ static TABLE_COMMANDS: [Row; 4] = [
                 form: Form::Instead(&["escape"]),
                 help: "Prints tabs and line feeds in values as they are, but for a terminal",
             },
+            VALUE,
             FOR_SPREADSHEETS,
             PAGE,
             ESCAPE,
@@ -419,6 +428,7 @@ static CHANGE_COMMANDS: [Row; 4] = [
                 form: Form::Flag,
                 help: "Prints how many rows each statement changed as JSON",
             },
+            VALUE,
             PAGE,
             RECODE,
             STRICT,
@@ -618,6 +628,11 @@ fn arg_of<'a>(alloc: Global, argument: &Argument) -> Result<Arg<'a>, AllocError>
             .conflicts_with_all(others)?,
         Form::Value(name) => arg.long(id).value_name(name),
         Form::Values(name) => arg.long(id).value_name(name).action(ArgAction::Append),
+        Form::SignedValues(name) => arg
+            .long(id)
+            .value_name(name)
+            .action(ArgAction::Append)
+            .allow_hyphen_values(true),
         Form::Lettered(letter, name) => arg.long(id).short(letter).value_name(name),
         Form::Needed(letter, name) => arg.long(id).short(letter).value_name(name).required(true),
         Form::Choice(name, values) => arg.long(id).value_name(name).value_parser(values),

@@ -34,7 +34,11 @@ fn missing_table(
     }
     let near = near_text(alloc, name, names.as_slice())?;
     let name = Shown::escaped(name);
-    format!(in alloc; "table {name} isn't there{near}")
+    if !near.is_empty() {
+        return format!(in alloc; "table {name} isn't there{near}");
+    }
+    let count = names.len();
+    format!(in alloc; "table {name} isn't there; msipkg tables FILE lists the {count} tables")
 }
 
 pub(crate) fn tables_in<'a>(
@@ -84,7 +88,7 @@ fn has_inner_query(pieces: &[Piece<'_>]) -> bool {
 }
 
 /// Returns the names of the columns of tables, with those of the tables in front where there are several.
-fn known_columns(alloc: Global, tables: &[&Table]) -> Result<Vec<String>, AllocError> {
+pub(crate) fn known_columns(alloc: Global, tables: &[&Table]) -> Result<Vec<String>, AllocError> {
     let mut names = Vec::new(alloc);
     for table in tables {
         let front = if tables.len() > 1 { table.name() } else { "" };
@@ -138,7 +142,7 @@ fn second_name<'a>(pieces: &[Piece<'a>], place: usize) -> Option<&'a str> {
     }
 }
 
-fn missing_column(
+pub(crate) fn missing_column(
     alloc: Global,
     tables: &[&Table],
     known: &[String],

@@ -1,9 +1,11 @@
 //! Why a package refuses a query or a statement: the table, the column and the value.
 
+use crate::inserting::insert_fault;
 use crate::naming::{column_fault, table_fault, tables_in};
-use crate::pieces::{Piece, pieces_of};
+use crate::pieces::Piece;
 use crate::showing::said;
-use crate::values::{insert_fault, update_fault};
+use crate::values::update_fault;
+use crate::written::{Written, pieces_of};
 use msi_query_tokens::token::Kind;
 use msipkg_packages::msi::{Package, Table};
 use msipkg_packages::output::{Failure, Opened};
@@ -14,13 +16,13 @@ use std::alloc::{AllocError, Global};
 pub fn explained(
     alloc: Global,
     package: &Package<Opened>,
-    text: &str,
+    written: Written<'_>,
     failure: Failure,
 ) -> Failure {
     if failure.is_invalid_data() {
         return failure;
     }
-    match fault_in(alloc, package, text) {
+    match fault_in(alloc, package, written) {
         Ok(Some(fault)) => said(Ok(fault)),
         Ok(None) => failure,
         Err(error) => Failure::from(error),
@@ -30,9 +32,9 @@ pub fn explained(
 fn fault_in(
     alloc: Global,
     package: &Package<Opened>,
-    text: &str,
+    written: Written<'_>,
 ) -> Result<Option<String>, AllocError> {
-    let pieces = pieces_of(alloc, text)?;
+    let pieces = pieces_of(alloc, written)?;
     let fault = table_fault(alloc, package, pieces.as_slice())?;
     if fault.is_some() {
         return Ok(fault);
