@@ -1,7 +1,8 @@
-/* Runs statements by the msi.dll of Wine. A line of standard input is a job: the path of a package, a statement and the
-   values of its marks, with tabs between them; \n, \r, \t and \\ stand for these characters. A value begins with i for a
-   number, t for a text, and s for the path of a stream's file. An answer is a line `refused CODE`, or `done`, or
-   `rows NAMES..` with a line `row VALUES..` for each and a last one `end`, in the same form; n is null. */
+/* Runs statements by the msi.dll of Wine, for tools/check-sql. A line of standard input is a job, with tabs between
+   its fields: the path of a package, R where rows are wanted or W, a statement, and the values of its marks. \n, \r, \t
+   and \\ stand for these characters. A value begins with i for a number, t for a text, and s for the path of a stream's
+   file. An answer is a line `refused CODE`, or `done`, or `rows NAMES..` with a line `row VALUES..` for each and a last
+   one `end`, in the same form; n is null. */
 #define UNICODE
 #include <windows.h>
 #include <msi.h>
@@ -78,7 +79,12 @@ static UINT run(MSIHANDLE database, const char *statement, MSIHANDLE values, int
         if (code) return code;
         MsiViewGetColumnInfo(view, MSICOLINFO_TYPES, &types);
         fputs("rows", stdout);
-        for (i = 1; i <= MsiRecordGetFieldCount(names); i++) { text = text_of(names, i); putchar('\t'); print(text); free(text); }
+        for (i = 1; i <= MsiRecordGetFieldCount(names); i++) {
+            text = text_of(names, i);
+            putchar('\t');
+            print(text);
+            free(text);
+        }
         putchar('\n');
         while (!(code = MsiViewFetch(view, &record))) { print_row(record, types); MsiCloseHandle(record); }
         puts(code == ERROR_NO_MORE_ITEMS ? "end" : "failed");
