@@ -9,3 +9,4 @@ pub mod RefusedLemmas
 pub mod OrderLemmas
 pub mod DistinctLemmas
 pub mod SelectedLemmas
+pub mod StandOnceLemmas
