@@ -11,3 +11,4 @@ pub mod DistinctLemmas
 pub mod SelectedLemmas
 pub mod MeantLemmas
 pub mod SidesLemmas
+pub mod NestedLemmas

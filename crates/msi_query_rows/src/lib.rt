@@ -7,6 +7,7 @@ mod index;
 mod joining;
 mod joins;
 mod narrowing;
+mod nested;
 mod ordering;
 mod picking;
 mod reasons;
