@@ -12,3 +12,4 @@ pub mod SelectedLemmas
 pub mod MeantLemmas
 pub mod SidesLemmas
 pub mod StandOnceLemmas
+pub mod NestedLemmas

@@ -8,6 +8,7 @@ mod joining;
 mod joins;
 pub mod laws;
 mod narrowing;
+mod nested;
 mod ordering;
 mod picking;
 mod reasons;
