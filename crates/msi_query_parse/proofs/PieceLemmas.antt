@@ -201,6 +201,10 @@ from_link = record { apart = λ after. refl; over = word_link (codes "FROM") k.F
 pub where_link : Link (codes " WHERE ") (mark k.Where ∷ [])
 where_link = record { apart = λ after. refl; over = word_link (codes "WHERE") k.Where where_word }
 
+-- between a table's name and the one that its columns go by
+pub blank_link : Link (32 ∷ []) []
+blank_link = record { apart = λ after. refl; over = λ after. blank_skipped after }
+
 pub join_link : (kind : JoinKind) → Link (join_word kind) (mark (join_mark kind) ∷ mark k.Join ∷ [])
 join_link Inner = record {
   apart = λ after. refl;

@@ -1,8 +1,9 @@
 -- What a query prints spells it.
-use Rattle.std.proofs.Common.{◌≡◌, ℕ, suc, Bool, true, false, not, cond, if◌then◌else◌, ◌&&◌, ◌==◌, List, [], ◌∷◌, ◌++◌, map, length, nat_le, codes, refl, sym, ap, ap₂, subst, ◌∙◌, Option, Some, None, option_map, option_and_then, is_none, append_assoc, append-nil, flat_map, leb-true, eqb-true, arith}
+use Rattle.std.proofs.Common.{◌≡◌, ℕ, suc, Bool, true, false, not, cond, if◌then◌else◌, ◌&&◌, ◌==◌, bytes_eq, List, [], ◌∷◌, ◌++◌, map, length, nat_le, codes, refl, sym, ap, ap₂, subst, ◌∙◌, Option, Some, None, option_map, option_and_then, is_none, append_assoc, append-nil, flat_map, leb-true, eqb-true, arith}
 use Rattle.std.specs.List.{list_all, join_by}
 use Rattle.std.specs.Fmt.{◌++?◌}
 use Rattle.std.proofs.lemmas.Bool.{and_parts, and_from, not-true}
+use Rattle.std.proofs.lemmas.Slice.Eq.{bytes_eq-Decides}
 use Rattle.msi_base.specs.Lists.{all_present}
 use Rattle.msi_table_values.specs.declared.value.Value.{Value}
 use Rattle.msi_table_values.specs.Values.{value_text}
@@ -10,21 +11,22 @@ use Rattle.msi_query_expressions.specs.declared.operators.BinaryOp.TheVariants a
 use Rattle.msi_query_expressions.specs.Expressions.{Expression}
 use Rattle.msi_query_expressions.specs.Printing.{expression_text}
 use Rattle.msi_query_expressions.specs.declared.joins.JoinKind.{JoinKind}
-use Rattle.msi_query.specs.Queries.{Clauses, Query, InsertQuery, table, join, no_clauses, projected_query, ordered_query}
+use Rattle.msi_query.specs.Queries.{Clauses, Side as SideOf, Query, InsertQuery, table, join, product, no_clauses, projected_query, ordered_query}
 use Rattle.msi_query_expressions.specs.Assignments.{set_text}
-use Rattle.msi_query.specs.QueryTexts.{listed, where_text, columns_text, order_text, select_word, select_text, join_word, keep_all, bare_name, or_bracketed, side_text, query_text, row_text, rows_text, named_columns_text, insert_text, sets_text, update_text, delete_text}
-use Rattle.msi_query.proofs.ListedLemmas.{listed-names}
+use Rattle.msi_query.specs.QueryTexts.{listed, where_text, columns_text, order_text, select_word, select_text, join_word, keep_all, bare_name, or_bracketed, side_text, named_table as side_named, sides_text, query_text, row_text, rows_text, named_columns_text, insert_text, sets_text, update_text, delete_text}
+use Rattle.msi_query.proofs.ListedLemmas.{listed-each, listed-names}
 use Rattle.msi_query_tokens.specs.Names.{name_text}
 use Rattle.msi_query_tokens.specs.declared.token.Kind.TheVariants as k
 use Rattle.msi_query_tokens.specs.Symbols.{Symbol, mark, named}
 use Rattle.msi_query_tokens.proofs.LeadsLemmas.{Front, Leads, Tail, front_leads, link_tail, tail_tail, link_leads, leads_link, leads_tail, as_leads, no_tail, Prints, Tails, text_prints, text_tails, prints_tails, tails_tails, front_prints, link_prints, linked_prints, enclosed_prints, symbols_of}
+use Rattle.msi_query_parse.specs.Tables.{FromTable, side_of as side_named_by, make_product}
 use Rattle.msi_query_parse.specs.Reading.{once_each}
 use Rattle.msi_query_parse.specs.Grammar.{ColumnName, plain, bytes_of, name_symbols, value_symbols, is_value, separated, phrase_symbols, expression_of}
-use Rattle.msi_query_parse.specs.Grammar.{Source, whole, both_of, where_symbols, distinct_symbols, column_symbols, order_symbols, front_symbols, back_symbols, in_brackets, source_symbols, is_query, is_join, is_where, is_source, source_height, narrowed_by, query_meant, join_mark}
+use Rattle.msi_query_parse.specs.Grammar.{Source, whole, tables_of, both_of, table_symbols, where_symbols, distinct_symbols, column_symbols, order_symbols, front_symbols, back_symbols, in_brackets, source_symbols, is_query, is_join, is_product, is_where, is_source, source_height, narrowed_by, query_meant, join_mark}
 use Rattle.msi_query_parse.specs.Grammar.{Constant, of_value, constant_symbols, constant_value, is_literal, row_symbols, named_columns_symbols, rows_symbols, set_symbols, sets_symbols}
-use Rattle.msi_query_parse.specs.Printed.{phrase_of, is_readable_name, is_readable, is_readable_condition, are_readable_clauses, printed_clauses, selected, or_whole, source_of, has_readable_parts}
+use Rattle.msi_query_parse.specs.Printed.{phrase_of, is_readable_name, is_readable, is_readable_condition, are_readable_clauses, printed_clauses, selected, printed_table, is_readable_side, or_whole, source_of, has_readable_parts}
 use Rattle.msi_query_parse.specs.Printed.{PrintedSelectsAreReadBack, PrintedInsertsAreReadBack, PrintedUpdatesAreReadBack, PrintedDeletesAreReadBack}
-use Rattle.msi_query_parse.proofs.PieceLemmas.{open_front, open_link, close_link, comma_link, between, star_front, select_front, select_distinct_front, order_link, from_link, where_link, join_link, on_link, insert_front, values_link, update_front, set_link, delete_front}
+use Rattle.msi_query_parse.proofs.PieceLemmas.{open_front, open_link, close_link, comma_link, between, star_front, select_front, select_distinct_front, order_link, from_link, where_link, blank_link, join_link, on_link, insert_front, values_link, update_front, set_link, delete_front}
 use Rattle.msi_query_parse.proofs.PrintedLemmas.{name_leads, value_prints, Readable, readable}
 
 -- ---- lists
@@ -285,6 +287,40 @@ join_meant kind l r on None false columns order = refl
 join_meant kind l r on (Some e) true columns order = refl
 join_meant kind l r on (Some e) false columns order = refl
 
+product_meant : (sides : List SideOf) (condition : Option Expression) (is_distinct : Bool) (columns order : List (List ℕ))
+    → ordered_query (once_each is_distinct (projected_query (narrowed_by (product sides no_clauses) condition) columns)) order
+    ≡ product sides (record { columns = columns; condition = condition; order = order; is_distinct = is_distinct })
+product_meant sides None true columns order = refl
+product_meant sides None false columns order = refl
+product_meant sides (Some e) true columns order = refl
+product_meant sides (Some e) false columns order = refl
+
+-- a table of a product, whose columns go by its name or by another
+named_prints : (table name : List ℕ) (b : Bool) → is_readable_name table ≡ true → is_readable_name name ≡ true
+    → Leads (if b then name_text table else name_text table ++ 32 ∷ name_text name) (table_symbols (record { table = table; own = if b then None else Some name }))
+named_prints table name true h g = name_leads table h
+named_prints table name false h g = leads_tail (name_text table) (32 ∷ name_text name) (named table ∷ []) (named name ∷ []) (name_leads table h)
+    (link_leads (32 ∷ []) (name_text name) [] (named name ∷ []) blank_link (name_leads name g))
+
+side_prints : (side : SideOf) → is_readable_side side ≡ true → Prints (Some (side_named side)) (table_symbols (printed_table side))
+side_prints side h =
+    let parts = and_parts (is_readable_name side.table) (is_readable_name side.name) h in
+    text_prints (side_named side) (table_symbols (printed_table side)) (named_prints side.table side.name (bytes_eq side.table side.name) parts.0 parts.1)
+
+sides_print : (sides : List SideOf) → list_all is_readable_side sides ≡ true → Prints (Some (sides_text sides)) (source_symbols (tables_of (map printed_table sides)))
+sides_print sides h =
+    subst (λ (ss : List (List Symbol)). Prints (Some (sides_text sides)) (separated ss)) (sym (maps table_symbols printed_table sides))
+    (subst (λ (o : Option (List ℕ)). Prints o (separated (map (λ (side : SideOf). table_symbols (printed_table side)) sides))) (listed-each side_named sides)
+    (listed_prints (λ (side : SideOf). Some (side_named side)) (λ (side : SideOf). table_symbols (printed_table side)) is_readable_side side_prints sides h))
+
+same_side : (side : SideOf) (b : Bool) → bytes_eq side.table side.name ≡ b → side_named_by (record { table = side.table; own = if b then None else Some side.name }) ≡ side
+same_side side true e = let same : side.table ≡ side.name = (bytes_eq-Decides side.table side.name).0 e in
+    ap (λ (name : List ℕ). let made : SideOf = record { table = side.table; name = name } in made) same
+same_side side false e = refl
+
+sides_meant : (sides : List SideOf) → map side_named_by (map printed_table sides) ≡ sides
+sides_meant sides = maps_back side_named_by printed_table (λ side. same_side side (bytes_eq side.table side.name) refl) sides
+
 -- a query in its own words, and as a side of a join
 record Printed (q : Query) : Type 0 where
   prints : Prints (query_text q) (source_symbols (source_of q))
@@ -298,6 +334,7 @@ record Side (q : Query) : Type 0 where
   prints : Prints (side_text q (query_text q)) (in_brackets (side_of q) (source_symbols (side_of q)))
   follows : is_source (side_of q) ≡ true
   no_join : is_join (side_of q) ≡ false
+  no_product : is_product (side_of q) ≡ false
   means : query_meant (side_of q) ≡ q
 
 abbrev whole_or : List ℕ → Clauses → Bool → Source
@@ -308,12 +345,21 @@ side (join kind l r on_e c) h p = record {
   prints = enclosed_prints (codes "(") (codes ")") (query_text (join kind l r on_e c)) (mark k.Open ∷ []) (source_symbols (source_of (join kind l r on_e c))) (mark k.Close ∷ []) open_front p.prints close_link;
   follows = p.follows;
   no_join = refl;
+  no_product = refl;
+  means = p.means;
+}
+side (product sides c) h p = record {
+  prints = enclosed_prints (codes "(") (codes ")") (query_text (product sides c)) (mark k.Open ∷ []) (source_symbols (source_of (product sides c))) (mark k.Close ∷ []) open_front p.prints close_link;
+  follows = p.follows;
+  no_join = refl;
+  no_product = refl;
   means = p.means;
 }
 side (table name c) h p = record {
   prints = go_prints (keep_all c);
   follows = go_follows (keep_all c);
   no_join = go_no_join (keep_all c);
+  no_product = go_no_product (keep_all c);
   means = go_means (keep_all c) refl;
 }
   where
@@ -328,6 +374,10 @@ side (table name c) h p = record {
     go_no_join : (b : Bool) → is_join (whole_or name c b) ≡ false
     go_no_join true = refl
     go_no_join false = refl
+
+    go_no_product : (b : Bool) → is_product (whole_or name c b) ≡ false
+    go_no_product true = refl
+    go_no_product false = refl
 
     go_means : (b : Bool) → keep_all c ≡ b → query_meant (whole_or name c b) ≡ table name c
     go_means true e = bare_is name c e
@@ -355,6 +405,16 @@ printed (table name c) h =
       follows = condition_rules c.condition clauses.condition;
       means = clauses_meant c (whole name) parts.1 ∙ table_meant name c.condition c.is_distinct c.columns c.order;
     }
+printed (product sides c) h =
+    let outer = and_parts (list_all is_readable_side sides && make_product (map printed_table sides)) (are_readable_clauses c) h in
+    let parts = and_parts (list_all is_readable_side sides) (make_product (map printed_table sides)) outer.0 in
+    let clauses = readable_clauses c outer.1 in
+    let source = tables_of (map printed_table sides) in
+    record {
+      prints = select_prints c (Some (sides_text sides)) source outer.1 (sides_print sides parts.0);
+      follows = and_from _ _ (and_from _ _ parts.1 refl) (condition_rules c.condition clauses.condition);
+      means = clauses_meant c source outer.1 ∙ ap (λ (s : List SideOf). under c (product s no_clauses)) (sides_meant sides) ∙ product_meant sides c.condition c.is_distinct c.columns c.order;
+    }
 printed (join kind l r on_e c) h =
     let outer = and_parts (has_readable_parts l && has_readable_parts r && is_readable on_e) (are_readable_clauses c) h in
     let inner = and_parts (has_readable_parts l && has_readable_parts r) (is_readable on_e) outer.0 in
@@ -365,7 +425,7 @@ printed (join kind l r on_e c) h =
     let e = readable on_e inner.1 in
     record {
       prints = select_prints c _ (both_of kind (side_of l) (side_of r) (phrase_of on_e)) outer.1 (joined_prints kind l r on_e a b e);
-      follows = and_from _ _ (and_from _ _ (and_from _ _ (and_from _ _ (and_from _ _ a.follows b.follows) (ap not b.no_join)) (and_from _ _ e.follows e.low)) refl) (condition_rules c.condition clauses.condition);
+      follows = and_from _ _ (and_from _ _ (and_from _ _ (and_from _ _ (and_from _ _ (and_from _ _ a.follows (ap not a.no_product)) b.follows) (ap not b.no_join)) (and_from _ _ e.follows e.low)) refl) (condition_rules c.condition clauses.condition);
       means = clauses_meant c (both_of kind (side_of l) (side_of r) (phrase_of on_e)) outer.1
           ∙ ap (under c)
           (ap₂ (λ (x y : Query). join kind x y (expression_of (phrase_of on_e)) no_clauses) a.means b.means ∙ ap (λ (x : Expression). join kind l r x no_clauses) e.means)
@@ -374,6 +434,7 @@ printed (join kind l r on_e c) h =
 
 is_query-source_of : (q : Query) → is_query (source_of q) ≡ true
 is_query-source_of (table name c) = refl
+is_query-source_of (product sides c) = refl
 is_query-source_of (join kind l r on_e c) = refl
 
 pub selects_are_read_back : PrintedSelectsAreReadBack
