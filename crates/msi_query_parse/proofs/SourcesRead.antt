@@ -1,6 +1,5 @@
 -- Queries for rows that are spelled are read.
 use Rattle.std.proofs.Common.{◌≡◌, ℕ, zero, suc, ◌+◌, ◌-◌, ◌^◌, ◌==◌, ◌<◌, ◌≤◌, max, min, Bool, true, false, ◌||◌, if◌then◌else◌, List, [], ◌∷◌, ◌++◌, map, length, Option, Some, None, option_map, Ok, Err, refl, sym, ◌∙◌, ap, ap₂, arith}
-use Rattle.std.specs.List.{list_all}
 use Rattle.std.proofs.lemmas.Bool.{leb-true}
 use Rattle.msi_query_expressions.specs.declared.joins.JoinKind.{JoinKind}
 use Rattle.msi_query_expressions.specs.declared.joins.JoinKind.TheVariants.{Inner, Left}
@@ -9,14 +8,14 @@ use Rattle.msi_query_tokens.specs.declared.token.Kind.{Kind}
 use Rattle.msi_query_tokens.specs.declared.token.Kind.TheVariants as k
 use Rattle.msi_query_tokens.specs.declared.refusal.Expected.TheVariants as expected
 use Rattle.msi_query_tokens.specs.Tokens.{is_name}
-use Rattle.msi_query_tokens.specs.Input.{Input, Outcome, Reader, and_then, ◌<$>◌, ◌>>=◌, pure, kind, next, sees, after, refusal, left, start_of}
+use Rattle.msi_query_tokens.specs.Input.{Input, Outcome, Reader, ◌>>=◌, kind, next, sees, after, refusal, left, start_of}
 use Rattle.msi_query_tokens.specs.Texts.{text}
 use Rattle.msi_query_tokens.specs.Symbols.{Symbol, mark, named}
 use Rattle.msi_query_tokens.proofs.SymbolLemmas.{spans_shorter}
 use Rattle.msi_query_tokens.proofs.StepLemmas.{Next, Leads, leads_on, risen, risen_height, after_yes, after_no}
 use Rattle.msi_query_parse.specs.Operators.{binds}
 use Rattle.msi_query_parse.specs.Reading as reading
-use Rattle.msi_query_parse.specs.Reading.{selected, order, condition, table_named, narrowed, once_each, joined_by, sees_join, bracketed_query, side, joined_at, joined, joins_from, joins, joins_behind, first_bracketed, source, selection, select, query, whole}
+use Rattle.msi_query_parse.specs.Reading.{order, condition, table_named, narrowed, once_each, joined_by, sees_join, bracketed_query, side, joined, joins_from, joins, joins_behind, first_bracketed, source, selection, select, query, whole}
 use Rattle.msi_query_parse.specs.Grammar.{Phrase, ColumnName, SelectClauses, Source, whole as whole_table, both_of, query_of, bytes_of, name_symbols, separated, distinct_symbols, column_symbols, order_symbols, front_symbols, back_symbols, in_brackets, join_mark, source_symbols, is_query, is_join, is_source, is_where, source_height, query_meant, where_symbols, phrase_symbols, expression_of, SpellsSelect}
 use Rattle.msi_query_parse.proofs.NamesRead.{first_kind, at, kind_at, next_at, leads_next, then_read, mark_kind, sees_yes, sees_no, expect_read, risen_then, name_read, named_here, whole_read, end_kind}
 use Rattle.msi_query_parse.proofs.ExpressionsRead.{both_left, both_right, denied, leads_split, condition_read}

@@ -9,18 +9,18 @@ use Rattle.msi_query_tokens.specs.declared.token.Kind.{Kind}
 use Rattle.msi_query_tokens.specs.declared.token.Kind.TheVariants as k
 use Rattle.msi_query_tokens.specs.declared.refusal.Expected.TheVariants as expected
 use Rattle.msi_query_tokens.specs.Tokens.{is_name}
-use Rattle.msi_query_tokens.specs.Input.{Input, Reader, ◌<$>◌, ◌>>=◌, ◌>>◌, pure, kind, next, sees, after, expect, refusal, left, start_of}
+use Rattle.msi_query_tokens.specs.Input.{Input, Reader, ◌<$>◌, ◌>>=◌, ◌>>◌, kind, next, sees, after, expect, refusal, left, start_of}
 use Rattle.msi_query_tokens.specs.Symbols.{Symbol, mark, named}
 use Rattle.msi_query_tokens.proofs.SymbolLemmas.{behind_shorter}
 use Rattle.msi_query_tokens.proofs.StepLemmas.{Next, Leads, stays, leads_on, then_ok, ok_value, ok_place, refused, next_to, next_height, next_mark, sees_ok, after_yes, after_no, expect_ok, risen, rise_then, risen_to, risen_height}
 use Rattle.msi_query_parse.specs.Reading as reading
-use Rattle.msi_query_parse.specs.Reading.{name, selected, order, condition, table_named, narrowed, once_each, joined_by, sees_join, bracketed_query, side, joined_at, joined, joins_from, joins, joins_behind, first_bracketed, source, selection, select, query, whole}
-use Rattle.msi_query_parse.specs.Grammar.{Phrase, SelectClauses, Source, whole as whole_table, both_of, query_of, bytes_of, distinct_symbols, column_symbols, order_symbols, back_symbols, in_brackets, join_mark, source_symbols, is_query, is_join, is_source, is_where, source_height, query_meant, narrowed_by, where_symbols, phrase_symbols, expression_of, SpellsSelect}
+use Rattle.msi_query_parse.specs.Reading.{name, selected, order, condition, table_named, narrowed, once_each, joined_by, sees_join, bracketed_query, side, joined, joins_from, joins, first_bracketed, source, selection, select, query, whole}
+use Rattle.msi_query_parse.specs.Grammar.{Phrase, SelectClauses, Source, whole as whole_table, both_of, query_of, bytes_of, distinct_symbols, column_symbols, order_symbols, back_symbols, in_brackets, join_mark, source_symbols, is_query, is_join, is_source, is_where, source_height, query_meant, narrowed_by, phrase_symbols, expression_of, SpellsSelect}
 use Rattle.msi_query_parse.proofs.Wholes.{whole_ok}
 use Rattle.msi_query_parse.proofs.NamesSpelled.{name_ok}
 use Rattle.msi_query_parse.proofs.ExpressionsSpelled.{both_true, condition_ok}
 use Rattle.msi_query_parse.proofs.ExpressionsRead.{leads_split}
-use Rattle.msi_query_parse.proofs.ColumnLemmas.{ListRead, selected_ok, order_ok}
+use Rattle.msi_query_parse.proofs.ColumnLemmas.{selected_ok, order_ok}
 use Rattle.msi_query_parse.proofs.ChangesSpelled.{chosen, where_ok}
 
 -- ---- sides
