@@ -9,7 +9,7 @@ use Rattle.msi_query_tokens.specs.declared.token.Kind.{Kind}
 use Rattle.msi_query_tokens.specs.declared.token.Kind.TheVariants as k
 use Rattle.msi_query_tokens.specs.declared.refusal.Expected.TheVariants as expected
 use Rattle.msi_query_tokens.specs.Tokens.{is_name}
-use Rattle.msi_query_tokens.specs.Input.{Input, Reader, ◌<$>◌, ◌>>=◌, ◌>>◌, pure, kind, next, sees, after, expect, refusal, left, start_of}
+use Rattle.msi_query_tokens.specs.Input.{Input, Reader, ◌<$>◌, ◌>>=◌, ◌>>◌, kind, next, sees, after, expect, refusal, left, start_of}
 use Rattle.msi_query_tokens.specs.Symbols.{Symbol, mark, named}
 use Rattle.msi_query_tokens.proofs.SymbolLemmas.{behind_shorter}
 use Rattle.msi_query_tokens.proofs.StepLemmas.{Next, Leads, stays, leads_on, then_ok, ok_value, ok_place, refused, next_to, next_height, next_mark, sees_ok, after_yes, after_no, expect_ok, risen, rise_then, risen_to, risen_height}
