@@ -4,6 +4,7 @@ pub mod QueryCode
 pub mod QueryTrees
 pub mod QueryTexts
 pub mod Utf8Queries
+pub mod Product
 pub mod Selection
 pub mod Rows
 pub mod Selected

@@ -6,3 +6,11 @@ pub mod PickingLemmas
 pub mod IndexLemmas
 pub mod EarlyLemmas
 pub mod RefusedLemmas
+pub mod FoundLemmas
+pub mod OrderLemmas
+pub mod CombinationLemmas
+pub mod ProductLemmas
+pub mod StepLemmas
+pub mod WalkLemmas
+pub mod LinkLemmas
+pub mod ProductRows

@@ -2,11 +2,15 @@
 #![tactic(auto)]
 
 mod columns;
+mod combining;
 mod index;
 mod joining;
 mod joins;
+mod links;
 mod narrowing;
+mod numbers;
 mod picking;
+mod product;
 mod reasons;
 mod relation;
 mod rows;
