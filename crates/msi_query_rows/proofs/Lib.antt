@@ -13,3 +13,11 @@ pub mod MeantLemmas
 pub mod SidesLemmas
 pub mod StandOnceLemmas
 pub mod NestedLemmas
+pub mod FoundLemmas
+pub mod StrictOrderLemmas
+pub mod CombinationLemmas
+pub mod ProductLemmas
+pub mod StepLemmas
+pub mod WalkLemmas
+pub mod LinkLemmas
+pub mod ProductRows
