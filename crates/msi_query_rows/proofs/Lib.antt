@@ -9,6 +9,7 @@ pub mod RefusedLemmas
 pub mod OrderLemmas
 pub mod DistinctLemmas
 pub mod SelectedLemmas
+pub mod StandOnceLemmas
 pub mod MeantLemmas
 pub mod SidesLemmas
 pub mod NestedLemmas

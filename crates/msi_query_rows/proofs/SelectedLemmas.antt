@@ -11,7 +11,7 @@ use Rattle.msi_query_expressions.specs.Conditions.{meets}
 use Rattle.msi_query_expressions.specs.Expressions.{Expression}
 use Rattle.msi_query.specs.Queries.{Clauses}
 use Rattle.msi_query.specs.Rows.{RelationCells, relation_values, rows_values}
-use Rattle.msi_query.specs.Selection.{Relation, distinct_if, in_order, once_if, projected, rows_kept, selected, unseen}
+use Rattle.msi_query.specs.Selection.{Relation, distinct_if, in_order, once_if, projected, rows_kept, selected}
 use Rattle.msi_query_rows.specs.Picking.{keep_order}
 use Rattle.msi_query_rows.proofs.JoinLemmas.{whole_is}
 use Rattle.msi_query_rows.proofs.OrderLemmas.{unordered}

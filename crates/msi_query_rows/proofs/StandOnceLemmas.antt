@@ -54,9 +54,11 @@ unseen_apart seen (x ∷ xs) =
     let apart : List (List Value) → Type 0 = λ rs. AllByRecursion (λ y. among y seen ≡ false) rs in
     by_test (among x seen)
     (λ t. subst apart (sym (seen_again seen xs x t)) (unseen_apart seen xs))
-    (λ t. subst apart (sym (seen_first seen xs x t))
-    (t, all_weaker (λ y. among y (x ∷ seen) ≡ false) (λ y. among y seen ≡ false) (unseen (x ∷ seen) xs)
-    (λ y h. (or_parts (same_row y x) (among y seen) h).1) (unseen_apart (x ∷ seen) xs)))
+    (λ t. subst apart (sym (seen_first seen xs x t)) (
+      t,
+      all_weaker (λ y. among y (x ∷ seen) ≡ false) (λ y. among y seen ≡ false) (unseen (x ∷ seen) xs)
+          (λ y h. (or_parts (same_row y x) (among y seen) h).1) (unseen_apart (x ∷ seen) xs),
+    ))
 
 unseen_distinct : (seen rows : List (List Value)) → IsDistinct same_row (unseen seen rows)
 unfolding IsDistinct

@@ -6,6 +6,7 @@ mod distinct;
 mod index;
 mod joining;
 mod joins;
+pub mod laws;
 mod narrowing;
 mod nested;
 mod ordering;

@@ -146,7 +146,8 @@ pub(crate) fn selected(
     let rows = kept_rows(alloc, pool, columns.as_slice(), clauses.condition(), rows)?;
     let rows = ordered_rows(alloc, pool, columns.as_slice(), clauses.order(), rows)?;
     let ordered = Relation::new(name, columns, rows);
-    let kept = with_columns(alloc, clauses.columns(), ordered)?;
+    let names = clauses.columns();
+    let kept = with_columns(alloc, names, ordered)?;
     distinct_if(alloc, pool, clauses.is_distinct(), kept)
 }
 

@@ -17,22 +17,22 @@ loop-row-preserved c =
     let kept = c.loop-row.kept.items in
     elim c.if-branch.branch [
       | then-branch+in_ok-copied_row+in_ok-push w ↦
-        let absent = not-true _ (sym c.in_ok-insert.ensures.added ∙ w.if-branch.true) in
-        record {
-          known = seen_of_kept places kept c.if-branch.kept.items cells w.in_ok-copied_row.field-0 c.insert.new.self
-              w.in_ok-copied_row.ensures.ok (ap (λ v. v.items) w.kept-is ∙ w.in_ok-push.ensures.items)
-              (seen_more c.loop-row.seen c.insert.new.self (rows_values places kept) (row_values places cells) c.loop-row.invariant.known c.in_ok-insert.ensures.updates);
-          once = row_kept places kept c.if-branch.kept.items rows i c.row-item.result cells w.in_ok-copied_row.field-0 c.loop-row.seen (unseen [] (rows_values places rows))
-              c.loop-row-test.true c.row-item.is c.as_slice-cells.ensures w.in_ok-copied_row.ensures.ok (ap (λ v. v.items) w.kept-is ∙ w.in_ok-push.ensures.items)
-              c.loop-row.invariant.known absent c.loop-row.invariant.once;
-        }
+          let absent = not-true _ (sym c.in_ok-insert.ensures.added ∙ w.if-branch.true) in
+          record {
+            known = seen_of_kept places kept c.if-branch.kept.items cells w.in_ok-copied_row.field-0 c.insert.new.self
+                w.in_ok-copied_row.ensures.ok (ap (λ v. v.items) w.kept-is ∙ w.in_ok-push.ensures.items)
+                (seen_more c.loop-row.seen c.insert.new.self (rows_values places kept) (row_values places cells) c.loop-row.invariant.known c.in_ok-insert.ensures.updates);
+            once = row_kept places kept c.if-branch.kept.items rows i c.row-item.result cells w.in_ok-copied_row.field-0 c.loop-row.seen (unseen [] (rows_values places rows))
+                c.loop-row-test.true c.row-item.is c.as_slice-cells.ensures w.in_ok-copied_row.ensures.ok (ap (λ v. v.items) w.kept-is ∙ w.in_ok-push.ensures.items)
+                c.loop-row.invariant.known absent c.loop-row.invariant.once;
+          }
       | else-branch w ↦
-        let there = not-false _ (sym c.in_ok-insert.ensures.added ∙ w.if-branch.false) in
-        record {
-          known = subst (λ (ks : List (List ValueRef)). HasSeen c.insert.new.self (rows_values places ks)) (sym (ap (λ v. v.items) w.kept-is))
-              (seen_already c.loop-row.seen c.insert.new.self (rows_values places kept) (row_values places cells) c.loop-row.invariant.known there c.in_ok-insert.ensures.updates);
-          once = row_left places kept rows i c.row-item.result cells c.loop-row.seen (unseen [] (rows_values places rows))
-              c.loop-row-test.true c.row-item.is c.as_slice-cells.ensures c.loop-row.invariant.known there c.loop-row.invariant.once
-              ∙ ap (λ (ks : List (List ValueRef)). once_from places ks rows (i + 1)) (sym (ap (λ v. v.items) w.kept-is));
-        }
+          let there = not-false _ (sym c.in_ok-insert.ensures.added ∙ w.if-branch.false) in
+          record {
+            known = subst (λ (ks : List (List ValueRef)). HasSeen c.insert.new.self (rows_values places ks)) (sym (ap (λ v. v.items) w.kept-is))
+                (seen_already c.loop-row.seen c.insert.new.self (rows_values places kept) (row_values places cells) c.loop-row.invariant.known there c.in_ok-insert.ensures.updates);
+            once = row_left places kept rows i c.row-item.result cells c.loop-row.seen (unseen [] (rows_values places rows))
+                c.loop-row-test.true c.row-item.is c.as_slice-cells.ensures c.loop-row.invariant.known there c.loop-row.invariant.once
+                ∙ ap (λ (ks : List (List ValueRef)). once_from places ks rows (i + 1)) (sym (ap (λ v. v.items) w.kept-is));
+          }
     ]

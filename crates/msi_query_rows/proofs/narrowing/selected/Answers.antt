@@ -7,7 +7,7 @@ use Rattle.msi_query_rows.proofs.narrowing.selected.Goals as goal
 pub returns-clause-ok : goal.returns-clause-ok
 returns-clause-ok c =
     let places = c.args.pool.now.places in
-    selected_answer places c.args.clauses.now c.args.relation c.new-ordered.result c.in_ok-kept.kept c.columns.result.now c.is_distinct.result c.distinct_if.result
+    selected_answer places c.args.clauses.now c.args.relation c.new-ordered.result c.in_ok-kept.kept c.columns-names.result.now c.is_distinct.result c.distinct_if.result
     (record {
       name = ap (λ (r : RelationCells). r.name) c.new-ordered.ensures ∙ c.into_parts-name.ensures.name;
       columns = ap (λ (r : RelationCells). r.columns) c.new-ordered.ensures ∙ c.into_parts-name.ensures.columns;
@@ -15,4 +15,4 @@ returns-clause-ok c =
           ∙ ordered_rows places c.args.clauses.now c.args.relation c.as_slice.result.now c.as_slice-2.result.now (option_copied c.condition.result) c.order.result.now
           _ _ _ (search rules) (search rules) c.condition.ensures c.order.ensures c.into_parts-name.ensures.rows c.in_ok-rows.ensures.ok c.in_ok-rows-2.ensures.ok;
     })
-    c.columns.ensures c.is_distinct.ensures (c.in_ok-kept.ensures.ok places) c.distinct_if.ensures.ok
+    c.columns-names.ensures c.is_distinct.ensures (c.in_ok-kept.ensures.ok places) c.distinct_if.ensures.ok
