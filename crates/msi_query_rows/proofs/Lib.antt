@@ -9,9 +9,9 @@ pub mod RefusedLemmas
 pub mod OrderLemmas
 pub mod DistinctLemmas
 pub mod SelectedLemmas
+pub mod StandOnceLemmas
 pub mod MeantLemmas
 pub mod SidesLemmas
-pub mod StandOnceLemmas
 pub mod NestedLemmas
 pub mod FoundLemmas
 pub mod StrictOrderLemmas
