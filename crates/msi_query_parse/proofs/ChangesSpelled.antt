@@ -15,7 +15,7 @@ use Rattle.msi_query_parse.proofs.Wholes.{whole_ok}
 use Rattle.msi_query_parse.proofs.NamesSpelled.{name_ok, column_ok}
 use Rattle.msi_query_parse.proofs.ExpressionsSpelled.{both_true, condition_ok}
 use Rattle.msi_query_parse.proofs.ListLemmas.{Item, listed_ok}
-use Rattle.msi_query_parse.proofs.ColumnLemmas.{ListRead, named_columns_ok}
+use Rattle.msi_query_parse.proofs.ColumnLemmas.{named_columns_ok}
 use Rattle.msi_query_parse.proofs.ValueLemmas.{value_ok, row_ok, goes_map}
 
 -- ---- conditions

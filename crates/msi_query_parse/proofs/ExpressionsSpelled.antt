@@ -161,9 +161,10 @@ compared_ok x e m j false s h = (ok_value x e m j h, ok_place x e m j h, ltb-fal
 
 null_leads : (i m : Input) (t : Bool) → sees k.Not i ≡ t → kind (after k.Not i) ≡ k.Null → next (after k.Not i) ≡ m → Leads i.ahead (null_symbols t) m.ahead × (m.height ≡ i.height)
 null_leads i m true s is past =
-    let first : next i ≡ after k.Not i = sym (after_yes k.Not i s) in
-    (next_to (next_mark i k.Not (mark k.Not) (sees_ok k.Not i s) (λ x. cc) refl) first (next_to (next_mark (after k.Not i) k.Null (mark k.Null) is (λ x. cc) refl) past (stays refl)),
-    next_height (after k.Not i) m past ∙ next_height i (after k.Not i) first)
+    let first : next i ≡ after k.Not i = sym (after_yes k.Not i s) in (
+      next_to (next_mark i k.Not (mark k.Not) (sees_ok k.Not i s) (λ x. cc) refl) first (next_to (next_mark (after k.Not i) k.Null (mark k.Null) is (λ x. cc) refl) past (stays refl)),
+      next_height (after k.Not i) m past ∙ next_height i (after k.Not i) first,
+    )
 null_leads i m false s is past =
     let same : after k.Not i ≡ i = after_no k.Not i s in
     let on : next i ≡ m = ap next (sym same) ∙ past in

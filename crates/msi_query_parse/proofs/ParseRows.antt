@@ -14,7 +14,7 @@ use Rattle.msi_query_tokens.specs.Input.{expect, sees, after, rise, refusal, kin
 use Rattle.msi_query_tokens.specs.Symbols.{mark, named, number, AreSymbols}
 use Rattle.msi_query_parse.specs.Reading.{whole, condition, expression, level, operand, operations, operation, climb, bracketed, term, end}
 use Rattle.msi_query_parse.specs.Printed.{phrase_of}
-use Rattle.msi_query_parse.specs.Grammar.{Phrase, constant, reference, grouped, front, link, null_test, plain, parts, phrase_symbols, is_phrase, expression_of, Source, whole as whole_table, query_of, source_symbols, query_meant}
+use Rattle.msi_query_parse.specs.Grammar.{Phrase, constant, reference, grouped, front, link, null_test, plain, phrase_symbols, is_phrase, expression_of, Source, whole as whole_table, query_of, source_symbols, query_meant}
 
 pub words : AreSymbols (codes "a-(B.c Or 12)") (named (codes "a") ∷ mark k.Sub ∷ mark k.Open ∷ named (codes "B.c") ∷ mark k.Or ∷ number 12 ∷ mark k.Close ∷ [])
 unfolding token skip_blanks same_kind kind_of_word
@@ -82,12 +82,11 @@ it_compares = refl
 
 -- a query with all that it may ask for but a condition
 abbrev asked : Source
-asked = query_of (record { is_distinct = true; columns = []; condition = None; order = plain (codes "a") ∷ parts (codes "T") (codes "b") ∷ [] }) (whole_table (codes "T"))
+asked = query_of (record { is_distinct = true; columns = []; condition = None; order = plain (codes "a") ∷ plain (codes "T.b") ∷ [] }) (whole_table (codes "T"))
 
-asked_spells : AreSymbols (codes "select distinct * from T order by a, `T`.b") (source_symbols asked)
+asked_spells : AreSymbols (codes "select distinct * from T order by a, T.b") (source_symbols asked)
 unfolding token skip_blanks same_kind kind_of_word
-asked_spells = record { rest = []; end = refl;
-  spans = (refl, refl, (refl, refl, (refl, refl, (refl, refl, (refl, refl, (refl, refl, (refl, refl, (refl, refl, (refl, refl, (refl, refl, (refl, refl, (refl, refl, refl)))))))))))) }
+asked_spells = record { rest = []; spans = (refl, refl, (refl, refl, (refl, refl, (refl, refl, (refl, refl, (refl, refl, (refl, refl, (refl, refl, (refl, refl, (refl, refl, refl)))))))))); end = refl }
 
 asked_for : query_meant asked ≡ table (codes "T") (record { columns = []; condition = None; order = codes "a" ∷ codes "T.b" ∷ []; is_distinct = true })
 asked_for = refl

@@ -1,6 +1,5 @@
 -- Queries for rows that are spelled are read.
 use Rattle.std.proofs.Common.{◌≡◌, ℕ, zero, suc, ◌+◌, ◌-◌, ◌^◌, ◌==◌, ◌<◌, ◌≤◌, max, min, Bool, true, false, ◌||◌, if◌then◌else◌, List, [], ◌∷◌, ◌++◌, map, length, Option, Some, None, option_map, Ok, Err, refl, sym, ◌∙◌, ap, ap₂, arith}
-use Rattle.std.specs.List.{list_all}
 use Rattle.std.proofs.lemmas.Bool.{leb-true}
 use Rattle.msi_query_expressions.specs.declared.joins.JoinKind.{JoinKind}
 use Rattle.msi_query_expressions.specs.declared.joins.JoinKind.TheVariants.{Inner, Left}
@@ -9,7 +8,7 @@ use Rattle.msi_query_tokens.specs.declared.token.Kind.{Kind}
 use Rattle.msi_query_tokens.specs.declared.token.Kind.TheVariants as k
 use Rattle.msi_query_tokens.specs.declared.refusal.Expected.TheVariants as expected
 use Rattle.msi_query_tokens.specs.Tokens.{is_name}
-use Rattle.msi_query_tokens.specs.Input.{Input, Outcome, Reader, and_then, ◌<$>◌, ◌>>=◌, pure, kind, next, sees, after, refusal, left, start_of}
+use Rattle.msi_query_tokens.specs.Input.{Input, Outcome, Reader, ◌>>=◌, kind, next, sees, after, refusal, left, start_of}
 use Rattle.msi_query_tokens.specs.Texts.{text}
 use Rattle.msi_query_tokens.specs.Symbols.{Symbol, mark, named}
 use Rattle.msi_query_tokens.proofs.SymbolLemmas.{spans_shorter}
@@ -17,7 +16,7 @@ use Rattle.msi_query_tokens.proofs.StepLemmas.{Next, Leads, leads_on, risen, ris
 use Rattle.msi_query_parse.specs.Operators.{binds}
 use Rattle.msi_query_parse.specs.Tables.{FromTable, side_of}
 use Rattle.msi_query_parse.specs.Reading as reading
-use Rattle.msi_query_parse.specs.Reading.{selected, order, condition, table_named, narrowed, once_each, joined_by, sees_join, bracketed_query, side, joined_at, joined, joins_from, joins, joins_behind, first_bracketed, tables, tables_by, from_tables, source, selection, select, query, whole}
+use Rattle.msi_query_parse.specs.Reading.{order, condition, table_named, narrowed, once_each, joined_by, sees_join, bracketed_query, side, joined, joins_from, joins, joins_behind, first_bracketed, tables, tables_by, from_tables, source, selection, select, query, whole}
 use Rattle.msi_query_parse.specs.Grammar.{Phrase, ColumnName, SelectClauses, Source, whole as whole_table, tables_of, both_of, query_of, bytes_of, name_symbols, separated, table_symbols, distinct_symbols, column_symbols, order_symbols, front_symbols, back_symbols, in_brackets, join_mark, source_symbols, is_query, is_join, is_product, is_source, is_where, source_height, query_meant, where_symbols, phrase_symbols, expression_of, SpellsSelect}
 use Rattle.msi_query_parse.proofs.NamesRead.{first_kind, at, kind_at, next_at, leads_next, then_read, mark_kind, sees_yes, sees_no, expect_read, risen_then, name_read, named_here, whole_read, end_kind}
 use Rattle.msi_query_parse.proofs.ExpressionsRead.{both_left, both_right, denied, leads_split, condition_read}
@@ -46,8 +45,8 @@ abbrev pub Ends : List ℕ → Type 0
 Ends b = ends_query (first_kind b) ≡ true
 
 -- a kind that a test tells from another
-told : (f : Kind → Bool) (c other : Kind) → f c ≡ true → f other ≡ false → c ≡ other → ⊥
-told f c other h g e = let both : true ≡ false = sym h ∙ ap f e ∙ g in cc
+differs : (f : Kind → Bool) (c other : Kind) → f c ≡ true → f other ≡ false → c ≡ other → ⊥
+differs f c other h g e = let both : true ≡ false = sym h ∙ ap f e ∙ g in cc
 
 source_loose : (c : Kind) → ends_source c ≡ true → binds c ≡ 0
 source_loose k.Where e = refl
@@ -336,16 +335,16 @@ module _ (d : ℕ) (below : Reader Query) (reads : ReadsQuery d below) where
       let order_end : ends_condition (first_kind back.0) ≡ true = ap ends_condition (sym (kind_at last back.0 refl)) ∙ order_starts c.order last b back.2 end in
       let stop = where_starts c.condition place back.0 back.1 order_end in
       let first_stop : ends_source (first_kind outer.0) ≡ true = ap ends_source (sym (kind_at place outer.0 refl)) ∙ stop in
-      let unseen = join_unseen place (told ends_source (kind place) k.Inner stop refl) (told ends_source (kind place) k.Left stop refl) in
+      let unseen = join_unseen place (differs ends_source (kind place) k.Inner stop refl) (differs ends_source (kind place) k.Left stop refl) in
       let read_source = source_read s flat outer.0 (both_left _ _ parts) no_query low refl f.1 unseen
-      (source_loose (first_kind outer.0) first_stop) (told ends_source (first_kind outer.0) k.Dot first_stop refl) (told ends_source (first_kind outer.0) k.Comma first_stop refl) (source_unnamed (first_kind outer.0) first_stop) in
+      (source_loose (first_kind outer.0) first_stop) (differs ends_source (first_kind outer.0) k.Dot first_stop refl) (differs ends_source (first_kind outer.0) k.Comma first_stop refl) (source_unnamed (first_kind outer.0) first_stop) in
       let o = option_map expression_of c.condition in
       let left_at = at flat outer.0 (max (next cols).height (min (source_height s + 1) (2 ^ 64 - 1))) in
       let order_stop = as_source_end (first_kind back.0) order_end in
       let read_where = where_read (narrowed_query (query_meant s)) (query_meant s) c.condition left_at back.0 good back.1 (source_loose (first_kind back.0) order_stop)
-      (told ends_source (first_kind back.0) k.Dot order_stop refl) (told ends_condition (first_kind back.0) k.Where order_end refl) in
+      (differs ends_source (first_kind back.0) k.Dot order_stop refl) (differs ends_condition (first_kind back.0) k.Where order_end refl) in
       let order_at = at left_at back.0 left_at.height in
-      let read_order = order_read c.order order_at b back.2 (told ends_query (first_kind b) k.Order end refl) (told ends_query (first_kind b) k.Comma end refl) (told ends_query (first_kind b) k.Dot end refl) in
+      let read_order = order_read c.order order_at b back.2 (differs ends_query (first_kind b) k.Order end refl) (differs ends_query (first_kind b) k.Comma end refl) (differs ends_query (first_kind b) k.Dot end refl) in
       let capped : max i.height (min (source_height s + 1) (2 ^ 64 - 1)) ≡ max i.height (source_height s + 1) = omega arith in
       then_read _ (selected_read c.columns i inner.0 inner.1 (sym (kind_at cols inner.0 refl) ∙ from))
       (then_read _ (expect_read k.From expected.From cols from)

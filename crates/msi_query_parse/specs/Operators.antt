@@ -1,5 +1,5 @@
 -- Operators: how tightly they bind, as printing has it, and what they make.
-use Rattle.std.specs.Prelude.{ℕ, Bool, false, if◌then◌else◌, nat_le}
+use Rattle.std.specs.Prelude.{ℕ, Bool, true, false, if◌then◌else◌, nat_le}
 use Rattle.msi_table_values.specs.declared.value.Value.TheVariants as v
 use Rattle.msi_query_expressions.specs.declared.operators.BinaryOp.TheVariants as two
 use Rattle.msi_query_expressions.specs.Expressions.{Expression, literal, both, either}
@@ -28,6 +28,11 @@ binds k.Sub = 8
 binds k.Star = 9
 binds k.Div = 9
 binds _ = 0
+
+-- the word that begins IS NULL and IS NOT NULL
+abbrev pub is_null_test : Kind → Bool
+is_null_test k.Is = true
+is_null_test _ = false
 
 -- an operator that stands between two operands
 abbrev pub links : Kind → Bool

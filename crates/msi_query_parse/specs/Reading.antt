@@ -23,7 +23,7 @@ use Rattle.msi_query_tokens.specs.Input.{kind, sees, turns, enter, rise, leave, 
 use Rattle.msi_query_tokens.specs.Texts.{text, positive, negative}
 use Rattle.msi_query_parse.specs.declared.statement.Statement.{Statement}
 use Rattle.msi_query_parse.specs.declared.statement.Statement.TheVariants as any
-use Rattle.msi_query_parse.specs.Operators.{binds, linked, null_compared}
+use Rattle.msi_query_parse.specs.Operators.{binds, is_null_test, linked, null_compared}
 use Rattle.msi_query_parse.specs.Tables.{FromTable, side_of, alone}
 
 -- ---- names
@@ -164,8 +164,7 @@ module _ (depth : ℕ) (below : ℕ → Reader Expression) where
   operand = peek >>= operand_by
 
   abbrev pub behind : Expression → Kind → Reader Expression
-  behind left k.Is = null_test left
-  behind left kind = linked kind left <$> below (binds kind + 1)
+  behind left kind = if is_null_test kind then null_test left else (linked kind left <$> below (binds kind + 1))
 
   abbrev pub operation_by : Expression → Kind → Reader Expression
   operation_by left kind = rise depth >> take_token >> behind left kind

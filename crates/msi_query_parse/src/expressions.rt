@@ -6,7 +6,7 @@ ghost use Rattle.msi_query_parse.specs.Nests.{Nests};
 
 use crate::grammar::Grammar;
 use crate::names::column;
-use crate::operators::{binds, linked, null_compared};
+use crate::operators::{binds, is_null_test, linked, null_compared};
 use msi_query_expressions::expr::Expr;
 use msi_query_tokens::refusal::{Expected, ParseError};
 use msi_query_tokens::texts::{negative, positive, text};
@@ -117,13 +117,11 @@ impl<F: Fn(Global, &mut Tokens<'_>, usize, u8) -> Result<Expr, ParseError>> Gram
         let kind = tokens.peek();
         tokens.rise(self.depth)?;
         tokens.take();
-        match kind {
-            Kind::Is => null_test(self.alloc, tokens, left),
-            _ => {
-                let right = self.expression(tokens, binds(kind) + 1)?;
-                Ok(linked(self.alloc, kind, left, right)?)
-            }
+        if is_null_test(kind) {
+            return null_test(self.alloc, tokens, left);
         }
+        let right = self.expression(tokens, binds(kind) + 1)?;
+        Ok(linked(self.alloc, kind, left, right)?)
     }
 
     /// Goes on with the operators that bind at least as tightly as `least`.

@@ -123,8 +123,8 @@ pub(crate) fn named_columns(
     columns_in_brackets(alloc, tokens)
 }
 
-/// Returns the names as texts that are lent.
-pub(crate) fn lent<'a>(alloc: Global, names: &'a [Text]) -> Result<Vec<&'a str>, AllocError>
+/// Returns the names as borrowed texts.
+pub(crate) fn borrowed<'a>(alloc: Global, names: &'a [Text]) -> Result<Vec<&'a str>, AllocError>
     ensures { IfOk result (λ all. map (λ name. name.now) all.items ≡ names.now) }
 {
     let mut all = Vec::new(alloc);

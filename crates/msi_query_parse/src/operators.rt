@@ -27,6 +27,13 @@ pub(crate) fn binds(kind: Kind) -> u8
     }
 }
 
+/// Whether a token begins `IS NULL` or `IS NOT NULL`.
+pub(crate) fn is_null_test(kind: Kind) -> bool
+    ensures { result ≡ spec.is_null_test kind }
+{
+    matches!(kind, Kind::Is)
+}
+
 /// Compares an expression with null.
 pub(crate) fn null_compared(alloc: Global, is_not: bool, left: Expr) -> Result<Expr, Error>
     ensures { IfOk result (λ expression. expression ≡ spec.null_compared is_not left) }

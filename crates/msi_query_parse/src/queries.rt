@@ -5,7 +5,7 @@ ghost use Rattle.msi_query_tokens.specs.Input.{Reads};
 ghost use Rattle.msi_query_parse.specs.Reading as spec;
 
 use crate::grammar::condition;
-use crate::names::{column, lent, name, named_columns};
+use crate::names::{borrowed, column, name, named_columns};
 use crate::values::{row, value};
 use msi_base::errors::Error;
 use msi_base::text::Text;
@@ -30,7 +30,7 @@ fn rows(alloc: Global, tokens: &mut Tokens<'_>, mut query: Insert) -> Result<Ins
 fn insert_into(alloc: Global, table: &Text, columns: &[Text]) -> Result<Insert, Error>
     ensures { IfOk result (λ query. query ≡ spec.insert_into table.now columns.now) }
 {
-    Insert::into(alloc, table.as_str())?.columns(lent(alloc, columns)?.as_slice())
+    Insert::into(alloc, table.as_str())?.columns(borrowed(alloc, columns)?.as_slice())
 }
 
 #[tactic(auto, unfolding(crate::specs::Reading::insert))]

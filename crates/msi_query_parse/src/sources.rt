@@ -7,7 +7,7 @@ ghost use Rattle.msi_query_parse.specs.Reading as spec;
 ghost use Rattle.msi_query_parse.specs.Nests.{NestsQueries};
 
 use crate::grammar::condition;
-use crate::names::{lent, name, order, selected};
+use crate::names::{borrowed, name, order, selected};
 use crate::tables::{FromTable, alone, product_of, tables};
 use msi_base::errors::Error;
 use msi_base::text::Text;
@@ -44,13 +44,13 @@ fn table(alloc: Global, tokens: &mut Tokens<'_>) -> Result<Select, ParseError>
 fn projected(alloc: Global, query: Select, columns: &[Text]) -> Result<Select, Error>
     ensures { IfOk result (λ all. all ≡ projected_query query columns.now) }
 {
-    query.columns(lent(alloc, columns)?.as_slice())
+    query.columns(borrowed(alloc, columns)?.as_slice())
 }
 
 fn ordered(alloc: Global, query: Select, columns: &[Text]) -> Result<Select, Error>
     ensures { IfOk result (λ all. all ≡ ordered_query query columns.now) }
 {
-    query.order_by(lent(alloc, columns)?.as_slice())
+    query.order_by(borrowed(alloc, columns)?.as_slice())
 }
 
 fn once_each(is_distinct: bool, query: Select) -> Select
