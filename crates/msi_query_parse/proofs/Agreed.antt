@@ -11,7 +11,7 @@ use Rattle.msi_query_tokens.proofs.StepLemmas.{Leads, then_ok, ok_is, ok_value, 
 use Rattle.msi_query_parse.specs.declared.statement.Statement.{Statement}
 use Rattle.msi_query_parse.specs.declared.statement.Statement.TheVariants as any
 use Rattle.msi_query_parse.specs.Reading.{whole, Gives, condition, query, insert, update, delete, statement_by, statement}
-use Rattle.msi_query_parse.specs.Grammar.{Source, whole as whole_table, both_of, query_of, is_query, source_symbols, named_columns_symbols, rows_symbols, sets_symbols, where_symbols, distinct_symbols, column_symbols, back_symbols, SpellsExpression, SpellsSelect, SpellsInsert, SpellsUpdate, SpellsDelete}
+use Rattle.msi_query_parse.specs.Grammar.{Source, whole as whole_table, tables_of, both_of, query_of, is_query, source_symbols, named_columns_symbols, rows_symbols, sets_symbols, where_symbols, distinct_symbols, column_symbols, back_symbols, SpellsExpression, SpellsSelect, SpellsInsert, SpellsUpdate, SpellsDelete}
 use Rattle.msi_query_parse.specs.Agreement.{SpellsStatement, Agrees, SpellsOne, RefusesUnspelled}
 use Rattle.msi_query_parse.proofs.Wholes.{whole_ok}
 use Rattle.msi_query_parse.proofs.NamesRead.{leads_next, then_read, mark_kind, whole_read}
@@ -83,6 +83,7 @@ statement_spelled text s h =
 select_starts : (s : Source) (i : Input) (b : List ℕ) → is_query s ≡ true → Leads i.ahead (source_symbols s) b → kind i ≡ k.Select
 select_starts (query_of c from) i b is h = mark_kind {i = i} {other = k.Select} (leads_next i (mark k.Select) (((distinct_symbols c.is_distinct ++ column_symbols c.columns) ++ mark k.From ∷ []) ++ source_symbols from ++ back_symbols c) b h).0 (λ x. cc)
 select_starts (whole_table n) i b is h = absurd (cc)
+select_starts (tables_of found) i b is h = absurd (cc)
 select_starts (both_of join l r on) i b is h = absurd (cc)
 
 -- a query that begins with its key word is read as a query of any kind

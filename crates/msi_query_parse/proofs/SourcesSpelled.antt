@@ -15,13 +15,13 @@ use Rattle.msi_query_tokens.proofs.SymbolLemmas.{behind_shorter}
 use Rattle.msi_query_tokens.proofs.StepLemmas.{Next, Leads, stays, leads_on, then_ok, ok_value, ok_place, refused, next_to, next_height, next_mark, sees_ok, after_yes, after_no, expect_ok, risen, rise_then, risen_to, risen_height}
 use Rattle.msi_query_parse.specs.Tables.{FromTable, alone}
 use Rattle.msi_query_parse.specs.Reading as reading
-use Rattle.msi_query_parse.specs.Reading.{name, selected, order, condition, table_named, narrowed, once_each, joined_by, sees_join, bracketed_query, side, joined_at, joined, joins_from, joins, joins_behind, first_bracketed, tables, tables_by, from_tables, source, selection, select, query, whole}
-use Rattle.msi_query_parse.specs.Grammar.{Phrase, SelectClauses, Source, whole as whole_table, tables_of, both_of, query_of, bytes_of, separated, table_symbols, distinct_symbols, column_symbols, order_symbols, back_symbols, in_brackets, join_mark, source_symbols, is_query, is_join, is_product, is_source, is_where, source_height, query_meant, narrowed_by, where_symbols, phrase_symbols, expression_of, SpellsSelect}
+use Rattle.msi_query_parse.specs.Reading.{name, selected, order, condition, table_named, narrowed, once_each, joined_by, sees_join, bracketed_query, side, joined, joins_from, joins, first_bracketed, tables, tables_by, from_tables, source, selection, select, query, whole}
+use Rattle.msi_query_parse.specs.Grammar.{Phrase, SelectClauses, Source, whole as whole_table, tables_of, both_of, query_of, bytes_of, separated, table_symbols, distinct_symbols, column_symbols, order_symbols, back_symbols, in_brackets, join_mark, source_symbols, is_query, is_join, is_product, is_source, is_where, source_height, query_meant, narrowed_by, phrase_symbols, expression_of, SpellsSelect}
 use Rattle.msi_query_parse.proofs.Wholes.{whole_ok}
 use Rattle.msi_query_parse.proofs.NamesSpelled.{name_ok}
 use Rattle.msi_query_parse.proofs.ExpressionsSpelled.{both_true, condition_ok}
 use Rattle.msi_query_parse.proofs.ExpressionsRead.{leads_split}
-use Rattle.msi_query_parse.proofs.ColumnLemmas.{ListRead, selected_ok, order_ok}
+use Rattle.msi_query_parse.proofs.ColumnLemmas.{selected_ok, order_ok}
 use Rattle.msi_query_parse.proofs.TableLemmas.{tables_ok, alone_symbols, product_made}
 use Rattle.msi_query_parse.proofs.ChangesSpelled.{chosen, where_ok}
 
@@ -282,9 +282,9 @@ module _ (d : ℕ) (below : Reader Query) (gives : GivesQuery d below) where
       → tables_by d below (t ∷ ts) o i ≡ Ok (q, j) → SourceRead d a j q
   unfolding joins left
   tables_from a i j t ts q (Some n) flat is l h = as_source (joins_ok (length i.ahead) a i j (table n no_clauses) q (record {
-      no_query = refl;
-      from = record { source = whole_table n; rules = refl; no_product = refl; height = omega arith; low = omega arith; leads = subst (λ s. Leads a s i.ahead) (alone_symbols t ts n is) l; value = refl };
-    }) h)
+    no_query = refl;
+    from = record { source = whole_table n; rules = refl; no_product = refl; height = omega arith; low = omega arith; leads = subst (λ s. Leads a s i.ahead) (alone_symbols t ts n is) l; value = refl };
+  }) h)
   tables_from a i j t ts q None flat is l h =
       let past = ok_place _ q i j h in
       let same : i.height ≡ j.height = ap (λ (y : Input). y.height) past in

@@ -49,9 +49,10 @@ table_ok i j t h =
     let own = own_ok g.place o.place o.found o.first in
     let past = ok_place _ t o.place j o.second in
     let made : FromTable = record { table = g.found; own = o.found } in
-    let leads : Leads i.ahead (table_symbols made) o.place.ahead = next_to n.0 n.1 own.0 in
-    (subst (λ (y : Input). Leads i.ahead (table_symbols t) y.ahead) past (subst (λ (x : FromTable). Leads i.ahead (table_symbols x) o.place.ahead) (ok_value made t o.place j o.second) leads),
-    sym (ap (λ (y : Input). y.height) past) ∙ own.1 ∙ next_height i g.place n.1)
+    let leads : Leads i.ahead (table_symbols made) o.place.ahead = next_to n.0 n.1 own.0 in (
+      subst (λ (y : Input). Leads i.ahead (table_symbols t) y.ahead) past (subst (λ (x : FromTable). Leads i.ahead (table_symbols x) o.place.ahead) (ok_value made t o.place j o.second) leads),
+      sym (ap (λ (y : Input). y.height) past) ∙ own.1 ∙ next_height i g.place n.1,
+    )
 
 item_ok : (found more : List FromTable) (i j : Input) → one_table found i ≡ Ok (more, j) → Item (List FromTable) FromTable expected.Side one_table table_symbols any_table with_tables found more i j
 item_ok found more i j h =

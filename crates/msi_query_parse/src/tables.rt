@@ -97,7 +97,7 @@ pub(crate) fn alone(tables: &[FromTable]) -> Option<&Text>
     }
 }
 
-fn lent_sides<'a>(
+fn borrowed_sides<'a>(
     alloc: Global,
     tables: &'a [FromTable],
 ) -> Result<Vec<(&'a str, &'a str)>, AllocError>
@@ -114,5 +114,5 @@ fn lent_sides<'a>(
 pub(crate) fn product_of(alloc: Global, tables: &[FromTable]) -> Result<Select, Error>
     ensures { IfOk result (λ query. query ≡ product (map side_of tables.now) no_clauses) }
 {
-    Select::from_tables(alloc, lent_sides(alloc, tables)?.as_slice())
+    Select::from_tables(alloc, borrowed_sides(alloc, tables)?.as_slice())
 }
