@@ -6,7 +6,7 @@ use Rattle.std.specs.List.{flat_map, join_by}
 use Rattle.std.specs.Fmt.{◌++?◌}
 use Rattle.msi_base.specs.Lists.{all_present}
 use Rattle.msi_query_tokens.specs.Names.{name_text}
-use Rattle.msi_query.specs.QueryTexts.{columns_text, listed}
+use Rattle.msi_query.specs.QueryTexts.{columns_text, listed, named_columns_text}
 
 -- a text behind its separator
 abbrev pub separated : Option (List ℕ) → Option (List ℕ)
@@ -85,3 +85,9 @@ listed-names n ns = listed-Some (n ∷ ns) ∙ ap (λ (t : List ℕ). Some (name
 pub listed-columns : (names : List (List ℕ)) → (length names == 0) ≡ false → listed (map (λ (n : List ℕ). Some (name_text n)) names) ≡ Some (columns_text names)
 listed-columns [] e = let no : true ≡ false = e in cc
 listed-columns (n ∷ ns) e = listed-names n ns
+
+-- the names in brackets, where there are some
+pub bracketed-names : (names : List (List ℕ)) → (length names == 0) ≡ false
+    → (Some (codes " (") ++? listed (map (λ (n : List ℕ). Some (name_text n)) names) ++? Some (codes ")")) ≡ Some (named_columns_text names)
+bracketed-names [] e = let no : true ≡ false = e in cc
+bracketed-names (n ∷ ns) e = ap (λ (o : Option (List ℕ)). Some (codes " (") ++? o ++? Some (codes ")")) (listed-names n ns)

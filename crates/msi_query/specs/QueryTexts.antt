@@ -1,6 +1,6 @@
 -- How queries print.
-use Rattle.std.specs.Prelude.{ℕ, List, [], ◌∷◌, ◌++◌, map, length, Option, Some, None, option_map, ◌==◌, ◌&&◌, is_none}
-use Rattle.std.specs.Prelude.{if◌then◌else◌, codes}
+use Rattle.std.specs.Prelude.{ℕ, Bool, not, List, [], ◌∷◌, ◌++◌, map, length, Option, Some, None, option_map, ◌==◌}
+use Rattle.std.specs.Prelude.{◌&&◌, is_none, if◌then◌else◌, codes}
 use Rattle.std.specs.List.{join_by}
 use Rattle.std.specs.Fmt.{◌++?◌}
 use Rattle.msi_base.specs.Lists.{all_present}
@@ -26,9 +26,18 @@ abbrev pub columns_text : List (List ℕ) → List ℕ
 columns_text [] = codes "*"
 columns_text (n ∷ ns) = join_by name_text (codes ", ") (n ∷ ns)
 
+-- nothing where no order is asked for
+abbrev pub order_text : List (List ℕ) → List ℕ
+order_text [] = []
+order_text (n ∷ ns) = codes " ORDER BY " ++ join_by name_text (codes ", ") (n ∷ ns)
+
+-- SELECT, or SELECT DISTINCT
+abbrev pub select_word : Clauses → List ℕ
+select_word c = if c.is_distinct then codes "SELECT DISTINCT " else codes "SELECT "
+
 abbrev pub select_text : Clauses → Option (List ℕ) → Option (List ℕ)
-select_text c from =
-    Some (codes "SELECT " ++ columns_text c.columns ++ codes " FROM ") ++? from ++? where_text c.condition
+select_text c from = Some (select_word c ++ columns_text c.columns ++ codes " FROM ") ++? from
+    ++? where_text c.condition ++? Some (order_text c.order)
 
 abbrev pub join_word : JoinKind → List ℕ
 join_word Inner = codes " INNER JOIN "
@@ -39,9 +48,13 @@ abbrev pub or_bracketed : Option (List ℕ) → Option (List ℕ) → Option (Li
 or_bracketed (Some name) text = Some (name_text name)
 or_bracketed None text = Some (codes "(") ++? text ++? Some (codes ")")
 
+-- clauses that leave the rows as they are
+abbrev pub keep_all : Clauses → Bool
+keep_all c = (length c.columns == 0) && is_none c.condition && (length c.order == 0) && not c.is_distinct
+
 -- the name of a table of which all is wanted
 abbrev pub bare_name : Query → Option (List ℕ)
-bare_name (table name c) = if (length c.columns == 0) && is_none c.condition then Some name else None
+bare_name (table name c) = if keep_all c then Some name else None
 bare_name _ = None
 
 -- a side of a join: such a table by its name, all else in brackets
@@ -62,8 +75,14 @@ abbrev pub rows_text : List (List Value) → Option (List ℕ)
 rows_text [] = Some []
 rows_text (row ∷ rows) = Some (codes " VALUES ") ++? listed (map row_text (row ∷ rows))
 
+-- nothing where the values are of all columns
+abbrev pub named_columns_text : List (List ℕ) → List ℕ
+named_columns_text [] = []
+named_columns_text (n ∷ ns) = codes " (" ++ join_by name_text (codes ", ") (n ∷ ns) ++ codes ")"
+
 abbrev pub insert_text : InsertQuery → Option (List ℕ)
-insert_text q = Some (codes "INSERT INTO " ++ name_text q.table) ++? rows_text q.rows
+insert_text q =
+    Some (codes "INSERT INTO " ++ name_text q.table ++ named_columns_text q.columns) ++? rows_text q.rows
 
 -- nothing where no column is set
 abbrev pub sets_text : List (List ℕ × Value) → Option (List ℕ)

@@ -1,11 +1,16 @@
 -- The rows that a query gives: the relational algebra's product, selection and projection.
 use Rattle.std.specs.Prelude.{ℕ, Bool, true, false, not, List, [], ◌∷◌, ◌++◌, map, length, filter, replicate, Option}
 use Rattle.std.specs.Prelude.{Some, None, ◌==◌, if◌then◌else◌, Result}
-use Rattle.std.specs.List.{flat_map, list_all, filter_map}
+use Rattle.std.specs.List.{flat_map, list_all, list_any, filter_map}
+use Rattle.std.specs.Ordering.{is_eq}
+use Rattle.std.specs.declared.cmp.Ordering.{Ordering}
+use Rattle.std.specs.Cmp.Lexicographic.{slice_cmp}
+use Rattle.msi_base.specs.Lists.{stable_sort}
 use Rattle.msi_base.specs.declared.errors.ErrorKind.{ErrorKind}
 use Rattle.msi_base.specs.declared.errors.ErrorKind.TheVariants.{InvalidData, InvalidInput, NotFound}
 use Rattle.msi_table.specs.Value.{Value}
 use Rattle.msi_table.specs.Value.TheVariants.{Null}
+use Rattle.msi_table.specs.Values.{value_cmp}
 use Rattle.msi_table.specs.Columns.{ColumnDef, column_named, has_column}
 use Rattle.msi_query_expressions.specs.declared.joins.JoinKind.{JoinKind}
 use Rattle.msi_query_expressions.specs.declared.joins.JoinKind.TheVariants.{Left}
@@ -39,19 +44,44 @@ condition_names (Some condition) = names_in condition
 abbrev pub projected_row : List ColumnDef → List (List ℕ) → List Value → List Value
 projected_row columns names row = map (value_in columns row) names
 
--- the rows that meet the condition, then the columns; no columns keeps all
+-- rows compare by the values of columns: the first that differs decides, and null is the least
+abbrev pub order_cmp : List ColumnDef → List (List ℕ) → List Value → List Value → Ordering
+order_cmp columns names row other =
+    slice_cmp value_cmp (projected_row columns names row) (projected_row columns names other)
+
+-- rows that compare equal stay in their order
+abbrev pub in_order : List ColumnDef → List (List ℕ) → List (List Value) → List (List Value)
+in_order columns names rows = stable_sort (order_cmp columns names) rows
+
+abbrev pub same_row : List Value → List Value → Bool
+same_row row other = is_eq (slice_cmp value_cmp row other)
+
+-- the rows that are like none in front of them, nor like those that were seen before
+abbrev pub unseen : List (List Value) → List (List Value) → List (List Value)
+unseen seen [] = []
+unseen seen (row ∷ rows) = if list_any (same_row row) seen then unseen seen rows else row ∷ unseen (row ∷ seen) rows
+
+abbrev pub once_if : Bool → List (List Value) → List (List Value)
+once_if is_distinct rows = if is_distinct then unseen [] rows else rows
+
+-- the rows that meet the condition, in their order
+abbrev pub rows_kept : Clauses → Relation → List (List Value)
+rows_kept c r = in_order r.columns c.order (filter (meets r.columns c.condition) r.rows)
+
+-- those rows, then the columns; no columns keeps all. Whether rows are equal is asked of what is kept of them.
 abbrev pub selected : Clauses → Relation → Relation
-selected c r = let rows = filter (meets r.columns c.condition) r.rows in
-    if length c.columns == 0 then record r { rows = rows }
+selected c r =
+    if length c.columns == 0 then record r { rows = once_if c.is_distinct (rows_kept c r) }
     else record {
       name = [];
       columns = filter_map (λ name. column_named name r.columns) c.columns;
-      rows = map (projected_row r.columns c.columns) rows;
+      rows = once_if c.is_distinct (map (projected_row r.columns c.columns) (rows_kept c r));
     }
 
 abbrev pub clause_refusals : Clauses → List ColumnDef → Refusals
 clause_refusals c columns = (not (has_columns columns c.columns), InvalidInput)
-    ∷ (not (has_columns columns (condition_names c.condition)), InvalidInput) ∷ []
+    ∷ (not (has_columns columns (condition_names c.condition)), InvalidInput)
+    ∷ (not (has_columns columns c.order), InvalidInput) ∷ []
 
 -- what the clauses keep of a relation, or their refusal
 abbrev pub narrowed : Clauses → Relation → Result Relation ErrorKind

@@ -10,9 +10,9 @@ abbrev pub IsUtf8Condition : Option Expression → Type 0
 IsUtf8Condition None = ⊤
 IsUtf8Condition (Some condition) = IsUtf8Expression condition
 
--- the columns to keep, and the condition
+-- the columns to keep, the condition, and the columns of the order
 abbrev pub IsUtf8Clauses : Clauses → Type 0
-IsUtf8Clauses clauses = AreUtf8Texts clauses.columns × IsUtf8Condition clauses.condition
+IsUtf8Clauses clauses = AreUtf8Texts clauses.columns × IsUtf8Condition clauses.condition × AreUtf8Texts clauses.order
 
 -- the names of tables, and what stands in conditions and clauses
 abbrev pub IsUtf8Query : Query → Type 0
@@ -21,7 +21,7 @@ IsUtf8Query (join kind left right on clauses) =
     IsUtf8Query left × IsUtf8Query right × IsUtf8Expression on × IsUtf8Clauses clauses
 
 abbrev pub IsUtf8Insert : InsertQuery → Type 0
-IsUtf8Insert query = IsUtf8 query.table × AllByRecursion AreUtf8Values query.rows
+IsUtf8Insert query = IsUtf8 query.table × AreUtf8Texts query.columns × AllByRecursion AreUtf8Values query.rows
 
 abbrev pub IsUtf8Update : UpdateQuery → Type 0
 IsUtf8Update query = IsUtf8 query.table × AllByRecursion (λ set. IsUtf8 set.0 × IsUtf8Value set.1) query.sets

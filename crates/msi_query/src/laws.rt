@@ -15,7 +15,7 @@ pub fn select_texts_are_utf8(query: &Select)
     query.look_at_texts();
 }
 
-/// Each text of an insert is UTF-8: the table's name, and the values of the rows.
+/// Each text of an insert is UTF-8: the names of the table and the columns, and the values of the rows.
 pub fn insert_texts_are_utf8(query: &Insert)
     ensures { IsUtf8Insert query.now }
 {

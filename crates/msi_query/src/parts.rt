@@ -21,9 +21,10 @@ pub fn select_tree(query: &Select) -> &SelectTree
     query.tree()
 }
 
-/// Returns the table's name and the rows of an insert, moved out.
+/// Returns the names of the table and the columns and the rows of an insert, moved out.
 pub fn insert_parts(query: Insert) -> InsertParts
     ensures table { result.table ≡ query.table }
+    ensures columns { result.columns ≡ query.columns }
     ensures rows { result.rows ≡ query.rows }
 {
     query.into_parts()

@@ -1,5 +1,5 @@
 -- What follows for calls where reading and the grammar agree, and that they agree on queries of any kind.
-use Rattle.std.proofs.Common.{◌≡◌, ℕ, true, List, ◌∷◌, ◌++◌, Result, Ok, Err, IfOk, refl, sym, ◌∙◌, ap, subst}
+use Rattle.std.proofs.Common.{◌≡◌, ℕ, true, List, [], ◌∷◌, ◌++◌, Result, Ok, Err, IfOk, refl, sym, ◌∙◌, ap, subst}
 use Rattle.msi_query.specs.Queries.{Query, InsertQuery, UpdateQuery, DeleteQuery}
 use Rattle.msi_query_tokens.specs.declared.token.Kind.{Kind}
 use Rattle.msi_query_tokens.specs.declared.token.Kind.TheVariants as k
@@ -11,7 +11,7 @@ use Rattle.msi_query_tokens.proofs.StepLemmas.{Leads, then_ok, ok_is, ok_value, 
 use Rattle.msi_query_parse.specs.declared.statement.Statement.{Statement}
 use Rattle.msi_query_parse.specs.declared.statement.Statement.TheVariants as any
 use Rattle.msi_query_parse.specs.Reading.{whole, Gives, condition, query, insert, update, delete, statement_by, statement}
-use Rattle.msi_query_parse.specs.Grammar.{Source, whole as whole_table, both_of, query_of, is_query, source_symbols, rows_symbols, sets_symbols, where_symbols, column_symbols, SpellsExpression, SpellsSelect, SpellsInsert, SpellsUpdate, SpellsDelete}
+use Rattle.msi_query_parse.specs.Grammar.{Source, whole as whole_table, both_of, query_of, is_query, source_symbols, named_columns_symbols, rows_symbols, sets_symbols, where_symbols, distinct_symbols, column_symbols, back_symbols, SpellsExpression, SpellsSelect, SpellsInsert, SpellsUpdate, SpellsDelete}
 use Rattle.msi_query_parse.specs.Agreement.{SpellsStatement, Agrees, SpellsOne, RefusesUnspelled}
 use Rattle.msi_query_parse.proofs.Wholes.{whole_ok}
 use Rattle.msi_query_parse.proofs.NamesRead.{leads_next, then_read, mark_kind, whole_read}
@@ -81,7 +81,7 @@ statement_spelled text s h =
     statement_from text s w.place (kind (start_of text)) w.read (λ A reader a read. whole_read reader text a w.place read w.end)
 
 select_starts : (s : Source) (i : Input) (b : List ℕ) → is_query s ≡ true → Leads i.ahead (source_symbols s) b → kind i ≡ k.Select
-select_starts (query_of names from on) i b is h = mark_kind {i = i} {other = k.Select} (leads_next i (mark k.Select) ((column_symbols names ++ mark k.From ∷ source_symbols from) ++ where_symbols on) b h).0 (λ x. cc)
+select_starts (query_of c from) i b is h = mark_kind {i = i} {other = k.Select} (leads_next i (mark k.Select) (((distinct_symbols c.is_distinct ++ column_symbols c.columns) ++ mark k.From ∷ []) ++ source_symbols from ++ back_symbols c) b h).0 (λ x. cc)
 select_starts (whole_table n) i b is h = absurd (cc)
 select_starts (both_of join l r on) i b is h = absurd (cc)
 
@@ -95,7 +95,7 @@ statement_spells : (text : List ℕ) (s : Statement) → SpellsStatement text s 
 statement_spells text (any.Select q) s = as_statement (query 201) any.Select text q k.Select
     (select_starts s.source (start_of text) s.symbols.rest (both_left _ _ s.rules) (record { spans = s.symbols.spans })) (λ i. refl) (select_spells text q s)
 statement_spells text (any.Insert q) s = as_statement insert any.Insert text q k.Insert
-    (mark_kind (leads_next (start_of text) (mark k.Insert) (mark k.Into ∷ named q.table ∷ rows_symbols s.rows) s.symbols.rest (record { spans = s.symbols.spans })).0 (λ x. cc)) (λ i. refl) (insert_spells text q s)
+    (mark_kind (leads_next (start_of text) (mark k.Insert) (mark k.Into ∷ named q.table ∷ named_columns_symbols s.columns ++ rows_symbols s.rows) s.symbols.rest (record { spans = s.symbols.spans })).0 (λ x. cc)) (λ i. refl) (insert_spells text q s)
 statement_spells text (any.Update q) s = as_statement update any.Update text q k.Update
     (mark_kind (leads_next (start_of text) (mark k.Update) (named q.table ∷ sets_symbols s.sets ++ where_symbols s.condition) s.symbols.rest (record { spans = s.symbols.spans })).0 (λ x. cc)) (λ i. refl) (update_spells text q s)
 statement_spells text (any.Delete q) s = as_statement delete any.Delete text q k.Delete

@@ -12,10 +12,11 @@ use Rattle.msi_query_tokens.specs.Symbols.{Symbol, mark, named}
 use Rattle.msi_query_tokens.proofs.StepLemmas.{Leads, after_yes, after_no}
 use Rattle.msi_query_parse.specs.Operators.{binds}
 use Rattle.msi_query_parse.specs.Reading.{condition, rows, one_row, insert_into, insert, assignment, assignments, sets, update_of, where_also, update, delete_from, delete, whole}
-use Rattle.msi_query_parse.specs.Grammar.{Phrase, ColumnName, plain, parts, Constant, name_symbols, constant_symbols, is_literal, is_where, where_symbols, phrase_symbols, expression_of, row_symbols, rows_symbols, set_symbols, sets_symbols, separated, SpellsInsert, SpellsUpdate, SpellsDelete}
+use Rattle.msi_query_parse.specs.Grammar.{Phrase, ColumnName, plain, parts, Constant, name_symbols, bytes_of, constant_symbols, is_literal, is_where, where_symbols, phrase_symbols, expression_of, row_symbols, named_columns_symbols, rows_symbols, set_symbols, sets_symbols, separated, SpellsInsert, SpellsUpdate, SpellsDelete}
 use Rattle.msi_query_parse.proofs.NamesRead.{first_kind, at, kind_at, leads_next, then_read, mark_kind, sees_yes, sees_no, expect_read, name_read, column_read, whole_read, end_kind}
 use Rattle.msi_query_parse.proofs.ExpressionsRead.{both_left, both_right, leads_split, condition_read}
 use Rattle.msi_query_parse.proofs.ListLemmas.{listed_read}
+use Rattle.msi_query_parse.proofs.ColumnLemmas.{named_columns_read}
 use Rattle.msi_query_parse.proofs.ValueLemmas.{value_read, row_read}
 use Rattle.msi_query_parse.proofs.ChangesSpelled.{chosen, with_rows, goes_rows, with_sets, is_set, goes_sets, met, deleted}
 
@@ -50,32 +51,43 @@ row_item found x i b good h no_dot = then_read _ (row_read x i b good h) refl
 row_some : (x : List Constant) → 1 ≤ length (row_symbols x)
 row_some x = omega arith
 
-rows_read : (xs : List (List Constant)) (into : List ℕ) (i : Input) (b : List ℕ) → list_all (list_all is_literal) xs ≡ true → Leads i.ahead (rows_symbols xs) b → first_kind b ≡ k.End
-    → (if sees k.Values i then rows (insert_into into) else pure (insert_into into)) (after k.Values i) ≡ Ok (with_rows (insert_into into) xs, at i b i.height)
+rows_read : (xs : List (List Constant)) (into : List ℕ) (columns : List (List ℕ)) (i : Input) (b : List ℕ) → list_all (list_all is_literal) xs ≡ true → Leads i.ahead (rows_symbols xs) b → first_kind b ≡ k.End
+    → (if sees k.Values i then rows (insert_into into columns) else pure (insert_into into columns)) (after k.Values i) ≡ Ok (with_rows (insert_into into columns) xs, at i b i.height)
 unfolding left
-rows_read [] into i b good h end =
+rows_read [] into columns i b good h end =
     let off = sees_no k.Values i (λ e. let f : k.End ≡ k.Values = sym end ∙ sym (kind_at i b h.spans) ∙ e in cc) in
-    ap (λ t. (if t then rows (insert_into into) else pure (insert_into into)) (after k.Values i)) off ∙ ap (λ y. Ok (insert_into into, y)) (after_no k.Values i off) ∙ ap (λ x. Ok (insert_into into, at i x i.height)) h.spans
-rows_read (x ∷ xs) into i b good h end =
+    ap (λ t. (if t then rows (insert_into into columns) else pure (insert_into into columns)) (after k.Values i)) off ∙ ap (λ y. Ok (insert_into into columns, y)) (after_no k.Values i off) ∙ ap (λ x. Ok (insert_into into columns, at i x i.height)) h.spans
+rows_read (x ∷ xs) into columns i b good h end =
     let l = leads_next i (mark k.Values) (separated (map row_symbols (x ∷ xs))) b h in
     let on = sees_yes k.Values i (mark_kind l.0 (λ x. cc)) in
-    ap (λ t. (if t then rows (insert_into into) else pure (insert_into into)) (after k.Values i)) on ∙ ap (rows (insert_into into)) (after_yes k.Values i on)
-    ∙ listed_read InsertQuery (List Constant) expected.OpenBracket one_row row_symbols (list_all is_literal) with_rows row_item row_some goes_rows xs x (length (next i).ahead) (insert_into into) (next i) b (omega arith) good l.1
+    ap (λ t. (if t then rows (insert_into into columns) else pure (insert_into into columns)) (after k.Values i)) on ∙ ap (rows (insert_into into columns)) (after_yes k.Values i on)
+    ∙ listed_read InsertQuery (List Constant) expected.OpenBracket one_row row_symbols (list_all is_literal) with_rows row_item row_some goes_rows xs x (length (next i).ahead) (insert_into into columns) (next i) b (omega arith) good l.1
     (λ e. let f : k.End ≡ k.Comma = sym end ∙ e in cc) (λ e. let f : k.End ≡ k.Dot = sym end ∙ e in cc)
-    ∙ ap (λ y. Ok (with_rows (insert_into into) (x ∷ xs), y)) (after_mark i i.ahead b i.height)
+    ∙ ap (λ y. Ok (with_rows (insert_into into columns) (x ∷ xs), y)) (after_mark i i.ahead b i.height)
+
+-- rows, or the end in their place, begin with no bracket
+rows_no_open : (xs : List (List Constant)) (i : Input) (b : List ℕ) → Leads i.ahead (rows_symbols xs) b → first_kind b ≡ k.End → kind i ≡ k.Open → ⊥
+rows_no_open [] i b h end e = let f : k.End ≡ k.Open = sym end ∙ sym (kind_at i b h.spans) ∙ e in cc
+rows_no_open (x ∷ xs) i b h end e = let f : k.Values ≡ k.Open = sym (mark_kind {i = i} {other = k.Values} (leads_next i (mark k.Values) (separated (map row_symbols (x ∷ xs))) b h).0 (λ x. cc)) ∙ e in cc
 
 pub insert_spells : (text : List ℕ) (q : InsertQuery) → SpellsInsert text q → whole insert text ≡ Ok q
 unfolding insert
 insert_spells text q s =
     let i = start_of text in
     let b = s.symbols.rest in
-    let one = leads_next i (mark k.Insert) (mark k.Into ∷ named q.table ∷ rows_symbols s.rows) b (record { spans = s.symbols.spans }) in
-    let two = leads_next (next i) (mark k.Into) (named q.table ∷ rows_symbols s.rows) b one.1 in
-    let three = leads_next (next (next i)) (named q.table) (rows_symbols s.rows) b two.1 in
+    let one = leads_next i (mark k.Insert) (mark k.Into ∷ named q.table ∷ named_columns_symbols s.columns ++ rows_symbols s.rows) b (record { spans = s.symbols.spans }) in
+    let two = leads_next (next i) (mark k.Into) (named q.table ∷ named_columns_symbols s.columns ++ rows_symbols s.rows) b one.1 in
+    let three = leads_next (next (next i)) (named q.table) (named_columns_symbols s.columns ++ rows_symbols s.rows) b two.1 in
+    let m = next (next (next i)) in
+    let p = leads_split (named_columns_symbols s.columns) (rows_symbols s.rows) m.ahead b three.1 in
+    let place = at m p.0 m.height in
+    let end = end_kind b s.symbols.end in
+    let read_columns = named_columns_read s.columns m p.0 p.1 (λ e. rows_no_open s.rows place b p.2 end (kind_at place p.0 refl ∙ e)) in
     whole_read insert text _ _
     (then_read _ (expect_read k.Insert expected.Insert i (mark_kind one.0 (λ x. cc))) (then_read _ (expect_read k.Into expected.Into (next i) (mark_kind two.0 (λ x. cc)))
-    (then_read _ (name_read expected.Name (next (next i)) q.table three.0) (rows_read s.rows q.table (next (next (next i))) b s.rules three.1 (end_kind b s.symbols.end)))))
-    s.symbols.end ∙ ap (λ r. Ok (record q { rows = r })) s.value
+    (then_read _ (name_read expected.Name (next (next i)) q.table three.0) (then_read _ read_columns
+    (rows_read s.rows q.table (map bytes_of s.columns) place b s.rules p.2 end)))))
+    s.symbols.end ∙ ap Ok (ap₂ (λ c r. record q { columns = c; rows = r }) s.names s.value)
 
 -- ---- updates
 

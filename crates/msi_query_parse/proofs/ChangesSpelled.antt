@@ -9,12 +9,13 @@ use Rattle.msi_query_tokens.specs.declared.refusal.Expected.TheVariants as expec
 use Rattle.msi_query_tokens.specs.Input.{Input, ◌<$>◌, pure, next, sees, after, expect, left, start_of}
 use Rattle.msi_query_tokens.specs.Symbols.{mark, named}
 use Rattle.msi_query_tokens.proofs.StepLemmas.{Leads, stays, leads_on, then_ok, ok_value, ok_place, next_to, next_height, next_mark, sees_ok, after_yes, after_no, expect_ok}
-use Rattle.msi_query_parse.specs.Reading.{name, column, condition, value, row, rows, one_row, insert_into, insert, assignment, assignments, sets, update_of, where_also, update, delete_from, delete, whole}
-use Rattle.msi_query_parse.specs.Grammar.{Phrase, ColumnName, Constant, bytes_of, constant_symbols, constant_value, is_literal, is_where, where_symbols, phrase_symbols, expression_of, row_symbols, rows_symbols, set_symbols, sets_symbols, SpellsInsert, SpellsUpdate, SpellsDelete}
+use Rattle.msi_query_parse.specs.Reading.{name, column, named_columns, condition, value, row, rows, one_row, insert_into, insert, assignment, assignments, sets, update_of, where_also, update, delete_from, delete, whole}
+use Rattle.msi_query_parse.specs.Grammar.{Phrase, ColumnName, Constant, bytes_of, constant_symbols, constant_value, is_literal, is_where, where_symbols, phrase_symbols, expression_of, row_symbols, named_columns_symbols, rows_symbols, set_symbols, sets_symbols, SpellsInsert, SpellsUpdate, SpellsDelete}
 use Rattle.msi_query_parse.proofs.Wholes.{whole_ok}
 use Rattle.msi_query_parse.proofs.NamesSpelled.{name_ok, column_ok}
 use Rattle.msi_query_parse.proofs.ExpressionsSpelled.{both_true, condition_ok}
 use Rattle.msi_query_parse.proofs.ListLemmas.{Item, listed_ok}
+use Rattle.msi_query_parse.proofs.ColumnLemmas.{ListRead, named_columns_ok}
 use Rattle.msi_query_parse.proofs.ValueLemmas.{value_ok, row_ok, goes_map}
 
 -- ---- conditions
@@ -79,26 +80,26 @@ row_item found more i j h =
       height = sym (ap (λ (y : Input). y.height) past) ∙ r.height;
     }
 
-pub record RowsRead (i j : Input) (into : List ℕ) (q : InsertQuery) : Type 0 where
+pub record RowsRead (i j : Input) (into : List ℕ) (columns : List (List ℕ)) (q : InsertQuery) : Type 0 where
   pub it : List (List Constant)
   pub good : list_all (list_all is_literal) it ≡ true
   pub leads : Leads i.ahead (rows_symbols it) j.ahead
-  pub value : with_rows (insert_into into) it ≡ q
+  pub value : with_rows (insert_into into columns) it ≡ q
 
-rows_from : (i j : Input) (into : List ℕ) (q : InsertQuery) (t : Bool) → sees k.Values i ≡ t → (if t then rows (insert_into into) else pure (insert_into into)) (after k.Values i) ≡ Ok (q, j) → RowsRead i j into q
+rows_from : (i j : Input) (into : List ℕ) (columns : List (List ℕ)) (q : InsertQuery) (t : Bool) → sees k.Values i ≡ t → (if t then rows (insert_into into columns) else pure (insert_into into columns)) (after k.Values i) ≡ Ok (q, j) → RowsRead i j into columns q
 unfolding left
-rows_from i j into q true s h =
+rows_from i j into columns q true s h =
     let m = after k.Values i in
-    let xs = listed_ok InsertQuery (List Constant) expected.OpenBracket one_row row_symbols (list_all is_literal) with_rows row_item goes_rows (length m.ahead) (insert_into into) q m j h in
+    let xs = listed_ok InsertQuery (List Constant) expected.OpenBracket one_row row_symbols (list_all is_literal) with_rows row_item goes_rows (length m.ahead) (insert_into into columns) q m j h in
     record {
       it = xs.first ∷ xs.others;
       good = xs.good;
       value = xs.value;
       leads = next_to (next_mark i k.Values (mark k.Values) (sees_ok k.Values i s) (λ x. cc) refl) (sym (after_yes k.Values i s)) xs.leads;
     }
-rows_from i j into q false s h =
-    let done : i ≡ j = sym (after_no k.Values i s) ∙ ok_place (insert_into into) q (after k.Values i) j h in
-    record { it = []; good = refl; leads = stays (ap (λ (y : Input). y.ahead) done); value = ok_value (insert_into into) q (after k.Values i) j h }
+rows_from i j into columns q false s h =
+    let done : i ≡ j = sym (after_no k.Values i s) ∙ ok_place (insert_into into columns) q (after k.Values i) j h in
+    record { it = []; good = refl; leads = stays (ap (λ (y : Input). y.ahead) done); value = ok_value (insert_into into columns) q (after k.Values i) j h }
 
 pub insert_spelled : (text : List ℕ) (q : InsertQuery) → whole insert text ≡ Ok q → SpellsInsert text q
 unfolding insert
@@ -112,14 +113,18 @@ insert_spelled text q h =
     let second = expect_ok k.Into expected.Into a.place b.place b.found b.first in
     let c = then_ok (name expected.Name b.place) _ q j b.second in
     let third = name_ok expected.Name b.place c.place c.found c.first in
-    let r = rows_from c.place j c.found q (sees k.Values c.place) refl c.second in
+    let n = then_ok (named_columns c.place) _ q j c.second in
+    let cols = named_columns_ok c.place n.place n.found n.first in
+    let r = rows_from n.place j c.found n.found q (sees k.Values n.place) refl n.second in
     let into : c.found ≡ q.table = ap (λ (x : InsertQuery). x.table) r.value in
-    let leads = next_to (next_mark i k.Insert (mark k.Insert) first.0 (λ x. cc) refl) first.1 (next_to (next_mark a.place k.Into (mark k.Into) second.0 (λ x. cc) refl) second.1 (next_to third.0 third.1 r.leads)) in
+    let leads = next_to (next_mark i k.Insert (mark k.Insert) first.0 (λ x. cc) refl) first.1 (next_to (next_mark a.place k.Into (mark k.Into) second.0 (λ x. cc) refl) second.1 (next_to third.0 third.1 (leads_on cols.leads r.leads))) in
     record {
+      columns = cols.it;
       rows = r.it;
       rules = r.good;
+      names = cols.value ∙ ap (λ (x : InsertQuery). x.columns) r.value;
       value = ap (λ (x : InsertQuery). x.rows) r.value;
-      symbols = record { rest = j.ahead; end = w.end; spans = (subst (λ n. Leads i.ahead (mark k.Insert ∷ mark k.Into ∷ named n ∷ rows_symbols r.it) j.ahead) into leads).spans };
+      symbols = record { rest = j.ahead; end = w.end; spans = (subst (λ n'. Leads i.ahead (mark k.Insert ∷ mark k.Into ∷ named n' ∷ named_columns_symbols cols.it ++ rows_symbols r.it) j.ahead) into leads).spans };
     }
 
 -- ---- updates

@@ -11,16 +11,16 @@ use Rattle.msi_query_tokens.specs.declared.token.Kind.{Kind}
 use Rattle.msi_query_tokens.specs.declared.token.Kind.TheVariants as k
 use Rattle.msi_query_tokens.specs.declared.refusal.Expected.TheVariants as expected
 use Rattle.msi_query_tokens.specs.Tokens.{is_name}
-use Rattle.msi_query_tokens.specs.Input.{Input, Outcome, Reader, and_then, ◌<$>◌, ◌>>=◌, pure, kind, spelling, next, sees, left, start_of}
+use Rattle.msi_query_tokens.specs.Input.{Input, Outcome, Reader, and_then, ◌<$>◌, ◌>>=◌, pure, peek, refuse, expect, kind, spelling, next, sees, after, left, start_of}
 use Rattle.msi_query_tokens.specs.Texts.{text, negative}
 use Rattle.msi_query_tokens.specs.Symbols.{Symbol, mark, named, number, quote, symbol_of}
 use Rattle.msi_query_tokens.proofs.SymbolLemmas.{is_text, quoted_token, spans_split, spans_shorter}
-use Rattle.msi_query_tokens.proofs.StepLemmas.{Next, Leads, risen, risen_height}
-use Rattle.msi_query_parse.specs.Operators.{binds, linked}
-use Rattle.msi_query_parse.specs.Reading.{column, term_by, term, negated, bracketed, operand_by, operand, operation_by, operation, climb, operations, level, expression, condition, whole}
-use Rattle.msi_query_parse.specs.Grammar.{Phrase, constant, minus_zero, reference, grouped, front, link, ColumnName, plain, parts, bytes_of, name_symbols, value_symbols, phrase_symbols, phrase_level, phrase_height, is_phrase, is_digits, front_mark, expression_of, SpellsExpression}
+use Rattle.msi_query_tokens.proofs.StepLemmas.{Next, Leads, after_yes, after_no, risen, risen_height}
+use Rattle.msi_query_parse.specs.Operators.{binds, links, linked, null_compared}
+use Rattle.msi_query_parse.specs.Reading.{column, term_by, term, compared, null_test, negated, bracketed, operand_by, operand, behind, operation_by, operation, climb, operations, level, expression, condition, whole}
+use Rattle.msi_query_parse.specs.Grammar.{Phrase, constant, minus_zero, reference, grouped, front, link, null_test as null_test_of, null_symbols, ColumnName, plain, parts, bytes_of, name_symbols, value_symbols, phrase_symbols, phrase_level, phrase_height, is_phrase, is_digits, front_mark, expression_of, SpellsExpression}
 use Rattle.msi_query_parse.proofs.NamesRead.{first_kind, at, kind_at, next_at, leads_next, then_read, mark_kind, sees_yes, sees_no, expect_read, risen_read, text_read, named_here, column_read, positive_read, negative_read, number_here, whole_read, end_kind}
-use Rattle.msi_query_parse.proofs.ExpressionsSpelled.{binds_small}
+use Rattle.msi_query_parse.proofs.ExpressionsSpelled.{binds_small, links_some}
 
 -- ---- rules in parts
 
@@ -48,6 +48,10 @@ risen_at : (i : Input) (b : List ℕ) (h m : ℕ) → h ≡ m → at (risen i) b
 unfolding next
 risen_at i b h m e = ap (λ x. at i b x) e
 
+pub past_at : (i : Input) (b : List ℕ) → at (next i) b (next i).height ≡ at i b i.height
+unfolding next
+past_at i b = refl
+
 -- ---- operands of one token
 
 is_number : Symbol → Bool
@@ -70,6 +74,7 @@ not_digits (reference (parts n s)) i b rules tight other h = not_number (i) (nam
 not_digits (grouped p) i b rules tight other h = not_number (i) (mark k.Open) (leads_next (i) (mark k.Open) (phrase_symbols p ++ mark k.Close ∷ []) (b) h).0 (λ e. cc)
 not_digits (front op p) i b rules tight other h = not_number (i) (mark (front_mark op)) (leads_next (i) (mark (front_mark op)) (phrase_symbols p) (b) h).0 (λ e. cc)
 not_digits (link kind l r) i b rules tight other h = let low = binds_small kind in absurd (omega arith)
+not_digits (null_test_of is_not p) i b rules tight other h = absurd (omega arith)
 
 text_by : (d : ℕ) (below : ℕ → Reader Expression) (i : Input) (c : Kind) → kind i ≡ c → is_text c ≡ true → operand_by d below c i ≡ ((λ t. literal (v.Str t)) <$> text) i
 unfolding term
@@ -93,8 +98,41 @@ ReadsInner d below = (p : Phrase) (least : ℕ) (i : Input) (b : List ℕ) → L
     → binds (first_kind b) < least → (first_kind b ≡ k.Dot → ⊥) → below least i ≡ Ok (expression_of p, at i b (max i.height (phrase_height p + 1)))
 
 loosest : (p : Phrase) → is_phrase p ≡ true → 1 ≤ phrase_level p
-loosest (link kind l r) rules = leb-true 1 (binds kind) (both_right _ _ (both_left _ _ (both_left _ _ rules)))
+loosest (link kind l r) rules = links_some kind (both_right _ _ (both_left _ _ (both_left _ _ rules)))
 loosest p rules = omega arith
+
+-- ---- behind IS
+
+compared_read : (e : Expression) (i : Input) → binds (kind i) ≤ 3 → compared e (kind i) i ≡ Ok (e, i)
+compared_read e i h = ap (λ t. (if t then refuse expected.End else pure e) i) (le-ltb 3 (binds (kind i)) h)
+
+null_read : (left : Expression) (i : Input) (b : List ℕ) → kind i ≡ k.Null → (next i).ahead ≡ b → binds (first_kind b) ≤ 3 → (t : Bool)
+    → and_then (expect k.Null expected.Null i) (λ _. peek >>= compared (null_compared t left)) ≡ Ok (null_compared t left, at i b i.height)
+null_read left i b is past loose t =
+    let end = next_at i b i.height past refl in
+    let binding : binds (kind (next i)) ≡ binds (first_kind b) = ap binds (kind_at (next i) b past) in
+    then_read _ (expect_read k.Null expected.Null i is) (compared_read (null_compared t left) (next i) (omega arith) ∙ ap (λ x. Ok (null_compared t left, x)) end)
+
+null_test_read : (t : Bool) (left : Expression) (i : Input) (b : List ℕ) → Leads i.ahead (null_symbols t) b → binds (first_kind b) ≤ 3 → null_test left i ≡ Ok (null_compared t left, at i b i.height)
+unfolding null_test
+null_test_read false left i b h loose =
+    let l = leads_next i (mark k.Null) [] b h in
+    let is = mark_kind l.0 (λ x. cc) in
+    let off = sees_no k.Not i (λ e. let f : k.Null ≡ k.Not = sym is ∙ e in cc) in
+    ap (λ t. and_then (expect k.Null expected.Null (after k.Not i)) (λ _. peek >>= compared (null_compared t left))) off
+    ∙ ap (λ x. and_then (expect k.Null expected.Null x) (λ _. peek >>= compared (null_compared false left))) (after_no k.Not i off)
+    ∙ null_read left i b is l.1.spans loose false
+null_test_read true left i b h loose =
+    let l = leads_next i (mark k.Not) (mark k.Null ∷ []) b h in
+    let n = leads_next (next i) (mark k.Null) [] b l.1 in
+    let on = sees_yes k.Not i (mark_kind l.0 (λ x. cc)) in
+    ap (λ t. and_then (expect k.Null expected.Null (after k.Not i)) (λ _. peek >>= compared (null_compared t left))) on
+    ∙ ap (λ x. and_then (expect k.Null expected.Null x) (λ _. peek >>= compared (null_compared true left))) (after_yes k.Not i on)
+    ∙ null_read left (next i) b (mark_kind n.0 (λ x. cc)) n.1.spans loose true ∙ ap (λ x. Ok (null_compared true left, x)) (past_at i b)
+
+behind_link : (d : ℕ) (below : ℕ → Reader Expression) (left : Expression) (c : Kind) (i : Input) → links c ≡ true → behind d below left c i ≡ (linked c left <$> below (binds c + 1)) i
+behind_link d below left k.Is i e = absurd (cc)
+behind_link d below left c i e = refl
 
 -- what follows two readers follows the second
 regrouped : {A B C : Type 0} (p : Outcome A) (f : A → Reader B) (g : B → Reader C) → and_then p (λ a m. and_then (f a m) g) ≡ and_then (and_then p f) g
@@ -192,20 +230,32 @@ module _ (d : ℕ) (below : ℕ → Reader Expression) (reads : ReadsInner d bel
       by_kind i k.Not (mark_kind (leads_next (i) (mark k.Not) (phrase_symbols p) (b) h).0 (λ x. cc)) ∙ risen_read d (folded_unary one.BoolNot <$> below 10) i (omega arith)
       ∙ then_read _ (front_read one.BoolNot p i b h rules high flat no_dot) refl
   operand_read (link kind l r) i b tight h rules high flat no_dot = let low = binds_small kind in absurd (omega arith)
+  operand_read (null_test_of is_not p) i b tight h rules high flat no_dot = absurd (omega arith)
 
   -- ---- operators between operands
 
   operation_read : (l r : Phrase) (kind_seen : Kind) (i : Input) (a b : List ℕ) → kind (at i a (phrase_height l)) ≡ kind_seen → Leads (risen (at i a (phrase_height l))).ahead (phrase_symbols r) b
-      → is_phrase r ≡ true → phrase_height l < d → phrase_height r < d → binds kind_seen + 1 ≤ phrase_level r → binds (first_kind b) ≤ binds kind_seen → (first_kind b ≡ k.Dot → ⊥)
+      → is_phrase r ≡ true → links kind_seen ≡ true → phrase_height l < d → phrase_height r < d → binds kind_seen + 1 ≤ phrase_level r → binds (first_kind b) ≤ binds kind_seen → (first_kind b ≡ k.Dot → ⊥)
       → operation d below (expression_of l) (at i a (phrase_height l)) ≡ Ok (linked kind_seen (expression_of l) (expression_of r), at i b (max (phrase_height l) (phrase_height r) + 1))
   unfolding operation
-  operation_read l r kind_seen i a b is h rules left right tight follow no_dot =
+  operation_read l r kind_seen i a b is h rules operator left right tight follow no_dot =
       let m = at i a (phrase_height l) in
       let up = risen_height m in
       ap (λ c. operation_by d below (expression_of l) c m) is
-      ∙ risen_read d (linked kind_seen (expression_of l) <$> below (binds kind_seen + 1)) m left
+      ∙ risen_read d (behind d below (expression_of l) kind_seen) m left
+      ∙ behind_link d below (expression_of l) kind_seen (risen m) operator
       ∙ then_read _ (reads r (binds kind_seen + 1) (risen m) b h rules right (omega arith) tight (omega arith) no_dot)
       (ap (λ x. Ok (linked kind_seen (expression_of l) (expression_of r), x)) (risen_at m b _ (max (phrase_height l) (phrase_height r) + 1) (omega arith)))
+
+  null_operation : (t : Bool) (p : Phrase) (i : Input) (a b : List ℕ) → kind (at i a (phrase_height p)) ≡ k.Is → Leads (risen (at i a (phrase_height p))).ahead (null_symbols t) b
+      → phrase_height p < d → binds (first_kind b) ≤ 3 → operation d below (expression_of p) (at i a (phrase_height p)) ≡ Ok (null_compared t (expression_of p), at i b (phrase_height p + 1))
+  unfolding operation
+  null_operation t p i a b is h room loose =
+      let m = at i a (phrase_height p) in
+      ap (λ c. operation_by d below (expression_of p) c m) is
+      ∙ risen_read d (null_test (expression_of p)) m room
+      ∙ null_test_read t (expression_of p) (risen m) b h loose
+      ∙ ap (λ x. Ok (null_compared t (expression_of p), x)) (risen_at m b _ (phrase_height p + 1) (risen_height m))
 
   climb_on : (least n : ℕ) (left e : Expression) (m j : Input) → least ≤ binds (kind m) → operation d below left m ≡ Ok (e, j) → climb d below least (suc n) left m ≡ climb d below least n e j
   unfolding climb
@@ -222,18 +272,19 @@ module _ (d : ℕ) (below : ℕ → Reader Expression) (reads : ReadsInner d bel
     pub enough : length b ≤ turns_left
     pub read : and_then (operand d below i) (operations d below least) ≡ climb d below least turns_left (expression_of p) (at i b (phrase_height p))
 
-  reached : (l r : Phrase) (kind_seen : Kind) (least : ℕ) (i : Input) (a b : List ℕ) → Leads a (mark kind_seen ∷ phrase_symbols r) b → kind (at i a (phrase_height l)) ≡ kind_seen → least ≤ binds kind_seen
-      → operation d below (expression_of l) (at i a (phrase_height l)) ≡ Ok (linked kind_seen (expression_of l) (expression_of r), at i b (max (phrase_height l) (phrase_height r) + 1))
-      → (n : ℕ) → length a ≤ n → and_then (operand d below i) (operations d below least) ≡ climb d below least n (expression_of l) (at i a (phrase_height l))
-      → Reached (link kind_seen l r) least i b
-  reached l r kind_seen least i a b h is met o zero short e = let fewer = spans_shorter (mark kind_seen ∷ phrase_symbols r) a b h.spans in absurd (omega arith)
-  reached l r kind_seen least i a b h is met o (suc n) short e =
-      let fewer = spans_shorter (mark kind_seen ∷ phrase_symbols r) a b h.spans in
-      let binding : binds (kind (at i a (phrase_height l))) ≡ binds kind_seen = ap binds is in
+  -- an operator took what was read before it
+  reached : (p q : Phrase) (c : Kind) (symbols : List Symbol) (least : ℕ) (i : Input) (a b : List ℕ) → Leads a (mark c ∷ symbols) b → kind (at i a (phrase_height p)) ≡ c → least ≤ binds c
+      → operation d below (expression_of p) (at i a (phrase_height p)) ≡ Ok (expression_of q, at i b (phrase_height q))
+      → (n : ℕ) → length a ≤ n → and_then (operand d below i) (operations d below least) ≡ climb d below least n (expression_of p) (at i a (phrase_height p))
+      → Reached q least i b
+  reached p q c symbols least i a b h is met o zero short e = let fewer = spans_shorter (mark c ∷ symbols) a b h.spans in absurd (omega arith)
+  reached p q c symbols least i a b h is met o (suc n) short e =
+      let fewer = spans_shorter (mark c ∷ symbols) a b h.spans in
+      let binding : binds (kind (at i a (phrase_height p))) ≡ binds c = ap binds is in
       record {
         turns_left = n;
         enough = omega arith;
-        read = e ∙ climb_on least n (expression_of l) _ (at i a (phrase_height l)) _ (omega arith) o;
+        read = e ∙ climb_on least n (expression_of p) _ (at i a (phrase_height p)) _ (omega arith) o;
       }
 
   linked_read : (p : Phrase) (least : ℕ) (i : Input) (b : List ℕ) → Leads i.ahead (phrase_symbols p) b → is_phrase p ≡ true → phrase_height p ≤ d → i.height ≡ 0 → least ≤ phrase_level p
@@ -245,16 +296,27 @@ module _ (d : ℕ) (below : ℕ → Reader Expression) (reads : ReadsInner d bel
       let right = leb-true (binds kind_seen + 1) (phrase_level r) (both_right _ _ rules) in
       let rest = both_left _ _ rules in
       let left = leb-true (binds kind_seen) (phrase_level l) (both_right _ _ rest) in
-      let operator = leb-true 1 (binds kind_seen) (both_right _ _ (both_left _ _ rest)) in
+      let operator = both_right _ _ (both_left _ _ rest) in
+      let some = links_some kind_seen operator in
       let sides = both_left _ _ (both_left _ _ rest) in
       let next_kind = risen_leads (m) (mark kind_seen) (phrase_symbols r) (b) s.2 in
       let is = mark_kind {i = m} {other = kind_seen} next_kind.0 (λ e. let none : binds kind_seen ≡ 0 = ap binds e in omega arith) in
       let first : first_kind s.0 ≡ kind_seen = sym (kind_at m s.0 refl) ∙ is in
       let binding : binds (first_kind s.0) ≡ binds kind_seen = ap binds first in
       let before = linked_read l least i s.0 s.1 (both_left _ _ sides) (omega arith) flat (omega arith) (omega arith) (λ e. let none : binds kind_seen ≡ 0 = ap binds (sym first ∙ e) in omega arith) in
-      reached l r kind_seen least i s.0 b s.2 is meets
-      (operation_read l r kind_seen i s.0 b is next_kind.1 (both_right _ _ sides) (omega arith) (omega arith) right follow no_dot)
+      reached l (link kind_seen l r) kind_seen (phrase_symbols r) least i s.0 b s.2 is meets
+      (operation_read l r kind_seen i s.0 b is next_kind.1 (both_right _ _ sides) operator (omega arith) (omega arith) right follow no_dot)
       before.turns_left before.enough before.read
+  linked_read (null_test_of t p) least i b h rules high flat meets follow no_dot =
+      let s = leads_split (phrase_symbols p) (mark k.Is ∷ null_symbols t) i.ahead b h in
+      let m = at i s.0 (phrase_height p) in
+      let tight = leb-true 3 (phrase_level p) (both_right _ _ rules) in
+      let next_kind = risen_leads m (mark k.Is) (null_symbols t) b s.2 in
+      let is = mark_kind {i = m} {other = k.Is} next_kind.0 (λ x. cc) in
+      let first : first_kind s.0 ≡ k.Is = sym (kind_at m s.0 refl) ∙ is in
+      let binding : binds (first_kind s.0) ≡ 3 = ap binds first in
+      let before = linked_read p least i s.0 s.1 (both_left _ _ rules) (omega arith) flat (omega arith) (omega arith) (λ e. let f : k.Is ≡ k.Dot = sym first ∙ e in cc) in
+      reached p (null_test_of t p) k.Is (null_symbols t) least i s.0 b s.2 is meets (null_operation t p i s.0 b is next_kind.1 (omega arith) follow) before.turns_left before.enough before.read
   linked_read p least i b h rules high flat meets follow no_dot = record {
     turns_left = length b;
     enough = omega arith;

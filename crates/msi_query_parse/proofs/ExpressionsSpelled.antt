@@ -10,15 +10,15 @@ use Rattle.msi_query_tokens.specs.declared.token.Kind.{Kind}
 use Rattle.msi_query_tokens.specs.declared.token.Kind.TheVariants as k
 use Rattle.msi_query_tokens.specs.declared.refusal.Expected.TheVariants as expected
 use Rattle.msi_query_tokens.specs.Tokens.{token}
-use Rattle.msi_query_tokens.specs.Input.{Input, Reader, ◌<$>◌, ◌>>=◌, pure, kind, spelling, next, sees, expect, refusal, left, start_of}
+use Rattle.msi_query_tokens.specs.Input.{Input, Reader, ◌<$>◌, ◌>>=◌, pure, refuse, kind, spelling, next, sees, after, expect, refusal, left, start_of}
 use Rattle.msi_query_tokens.specs.Texts.{text, positive, negative, number_of}
 use Rattle.msi_query_tokens.specs.Symbols.{Symbol, mark, ends, symbol_of}
 use Rattle.msi_query_tokens.proofs.TokenLemmas.{is_kind}
 use Rattle.msi_query_tokens.proofs.SymbolLemmas.{quoted_symbol, is_text, number_token, behind_shorter, spans_shorter}
-use Rattle.msi_query_tokens.proofs.StepLemmas.{Next, Leads, stays, leads_on, then_ok, ok_value, ok_place, refused, text_ok, next_to, next_height, next_mark, goes_on, sees_ok, expect_ok, risen, rise_take, risen_to, risen_height}
-use Rattle.msi_query_parse.specs.Operators.{binds, linked}
-use Rattle.msi_query_parse.specs.Reading.{column, term_by, term, negated, bracketed, operand_by, operand, operation, climb, operations, level, expression, condition, whole}
-use Rattle.msi_query_parse.specs.Grammar.{Phrase, constant, minus_zero, reference, grouped, front, link, phrase_symbols, name_symbols, phrase_level, phrase_height, is_phrase, is_digits, is_minus, front_mark, expression_of, SpellsExpression}
+use Rattle.msi_query_tokens.proofs.StepLemmas.{Next, Leads, stays, leads_on, then_ok, ok_value, ok_place, refused, text_ok, next_to, next_height, next_mark, goes_on, sees_ok, after_yes, after_no, expect_ok, risen, rise_take, risen_to, risen_height}
+use Rattle.msi_query_parse.specs.Operators.{binds, links, linked, null_compared}
+use Rattle.msi_query_parse.specs.Reading.{column, term_by, term, null_test, negated, bracketed, operand_by, operand, behind, operation, climb, operations, level, expression, condition, whole}
+use Rattle.msi_query_parse.specs.Grammar.{Phrase, constant, minus_zero, reference, grouped, front, link, null_test as null_test_of, null_symbols, phrase_symbols, name_symbols, phrase_level, phrase_height, is_phrase, is_digits, is_minus, front_mark, expression_of, SpellsExpression}
 use Rattle.msi_query_parse.proofs.Wholes.{whole_ok}
 use Rattle.msi_query_parse.proofs.NamesSpelled.{column_ok, positive_ok, negative_ok, next_number}
 
@@ -38,6 +38,15 @@ operator_symbol k.Number s h = absurd (omega arith)
 operator_symbol k.SingleQuoted s h = absurd (omega arith)
 operator_symbol k.DoubleQuoted s h = absurd (omega arith)
 operator_symbol kind s h = refl
+
+-- an operator between two operands binds, and is another than IS
+pub links_some : (c : Kind) → links c ≡ true → 1 ≤ binds c
+links_some k.Is e = absurd (cc)
+links_some c e = leb-true 1 (binds c) e
+
+links_of : (c : Kind) → (c ≡ k.Is → ⊥) → 1 ≤ binds c → links c ≡ true
+links_of k.Is f h = absurd (f refl)
+links_of c f h = le-leb 1 (binds c) h
 
 next_operator : (i : Input) → 1 ≤ binds (kind i) → Next i (mark (kind i))
 next_operator i h = next_mark i (kind i) (mark (kind i)) refl (λ e. let z : binds (kind i) ≡ 0 = ap binds e in omega arith) (operator_symbol (kind i) (spelling i) h)
@@ -136,6 +145,44 @@ term_from d i j e k.DoubleQuoted is flat h = text_term d i j e (goes_on i k.Doub
 term_from d i j e k.Name is flat h = column_term d i j e flat h
 term_from d i j e k.QuotedName is flat h = column_term d i j e flat h
 term_from d i j e kind_seen is flat h = refused (refusal expected.Operand i) e j h
+
+-- ---- behind IS
+
+pub record NullTestRead (i j : Input) (left e : Expression) : Type 0 where
+  pub is_not : Bool
+  pub leads : Leads i.ahead (null_symbols is_not) j.ahead
+  pub stops : binds (kind j) ≤ 3
+  pub height : j.height ≡ i.height
+  pub value : null_compared is_not left ≡ e
+
+compared_ok : (x e : Expression) (m j : Input) (t : Bool) → nat_lt 3 (binds (kind m)) ≡ t → (if t then refuse expected.End else pure x) m ≡ Ok (e, j) → (x ≡ e) × (m ≡ j) × (binds (kind m) ≤ 3)
+compared_ok x e m j true s h = refused (refusal expected.End m) e j h
+compared_ok x e m j false s h = (ok_value x e m j h, ok_place x e m j h, ltb-false 3 (binds (kind m)) s)
+
+null_leads : (i m : Input) (t : Bool) → sees k.Not i ≡ t → kind (after k.Not i) ≡ k.Null → next (after k.Not i) ≡ m → Leads i.ahead (null_symbols t) m.ahead × (m.height ≡ i.height)
+null_leads i m true s is past =
+    let first : next i ≡ after k.Not i = sym (after_yes k.Not i s) in
+    (next_to (next_mark i k.Not (mark k.Not) (sees_ok k.Not i s) (λ x. cc) refl) first (next_to (next_mark (after k.Not i) k.Null (mark k.Null) is (λ x. cc) refl) past (stays refl)),
+    next_height (after k.Not i) m past ∙ next_height i (after k.Not i) first)
+null_leads i m false s is past =
+    let same : after k.Not i ≡ i = after_no k.Not i s in
+    let on : next i ≡ m = ap next (sym same) ∙ past in
+    (next_to (next_mark i k.Null (mark k.Null) (ap kind (sym same) ∙ is) (λ x. cc) refl) on (stays refl), next_height i m on)
+
+null_test_ok : (i j : Input) (left e : Expression) → null_test left i ≡ Ok (e, j) → NullTestRead i j left e
+unfolding null_test
+null_test_ok i j left e h =
+    let g = then_ok (expect k.Null expected.Null (after k.Not i)) _ e j h in
+    let n = expect_ok k.Null expected.Null (after k.Not i) g.place g.found g.first in
+    let c = compared_ok (null_compared (sees k.Not i) left) e g.place j (nat_lt 3 (binds (kind g.place))) refl g.second in
+    let l = null_leads i g.place (sees k.Not i) refl n.0 n.1 in
+    record {
+      is_not = sees k.Not i;
+      leads = subst (λ (y : Input). Leads i.ahead (null_symbols (sees k.Not i)) y.ahead) c.1 l.0;
+      stops = subst (λ x. binds (kind x) ≤ 3) c.1 c.2;
+      height = sym (ap (λ (y : Input). y.height) c.1) ∙ l.1;
+      value = c.0;
+    }
 
 -- ---- behind a minus
 
@@ -265,13 +312,22 @@ module _ (d : ℕ) (below : ℕ → Reader Expression) (gives : GivesInner d bel
     pub leads : Leads a (phrase_symbols phrase) i.ahead
     pub value : expression_of phrase ≡ e
 
-  link_rules : (kind : Kind) (l r : Phrase) → is_phrase l ≡ true → is_phrase r ≡ true → 1 ≤ binds kind → binds kind ≤ phrase_level l → binds kind + 1 ≤ phrase_level r → is_phrase (link kind l r) ≡ true
-  link_rules kind l r lr rr one left right =
-      both_true _ _ (both_true _ _ (both_true _ _ (both_true _ _ lr rr) (le-leb 1 (binds kind) one)) (le-leb (binds kind) (phrase_level l) left)) (le-leb (binds kind + 1) (phrase_level r) right)
+  link_rules : (kind : Kind) (l r : Phrase) → is_phrase l ≡ true → is_phrase r ≡ true → links kind ≡ true → binds kind ≤ phrase_level l → binds kind + 1 ≤ phrase_level r → is_phrase (link kind l r) ≡ true
+  link_rules kind l r lr rr operator left right =
+      both_true _ _ (both_true _ _ (both_true _ _ (both_true _ _ lr rr) operator) (le-leb (binds kind) (phrase_level l) left)) (le-leb (binds kind + 1) (phrase_level r) right)
 
-  linked_left : (least : ℕ) (a : List ℕ) (i m : Input) (left right : Expression) → 1 ≤ least → least ≤ binds (kind i) → i.height < d → Left least a i left → Inner d (binds (kind i) + 1) (risen i) m right
-      → Left least a m (linked (kind i) left right)
-  linked_left least a i m left right one least_met room l r =
+  -- what an operation made of what stands on its left
+  pub record Operated (least : ℕ) (a : List ℕ) (i m : Input) (e : Expression) : Type 0 where
+    pub made : Left least a m e
+    pub fewer : length m.ahead + 1 ≤ length i.ahead
+
+  shorter : (i m : Input) (symbol : Symbol) (symbols : List Symbol) → Next i symbol → Leads (risen i).ahead symbols m.ahead → length m.ahead + 1 ≤ length i.ahead
+  unfolding next
+  shorter i m symbol symbols n h = let one = behind_shorter i.ahead n.goes_on in let more = spans_shorter symbols (risen i).ahead m.ahead h.spans in omega arith
+
+  link_made : (least : ℕ) (a : List ℕ) (i m : Input) (left right : Expression) (c : Kind) → kind i ≡ c → links c ≡ true → least ≤ binds c → i.height < d → Left least a i left → Inner d (binds c + 1) (risen i) m right
+      → Operated least a i m (linked c left right)
+  link_made least a i m left right c is operator least_met room l r =
       let up = risen_height i in
       let high = r.height in
       let low = r.low in
@@ -279,36 +335,64 @@ module _ (d : ℕ) (below : ℕ → Reader Expression) (gives : GivesInner d bel
       let stops = r.stops in
       let follow = l.follow in
       let height = l.height in
+      let binding : binds (kind i) ≡ binds c = ap binds is in
+      let some = links_some c operator in
+      let n = subst (λ x. Next i (mark x)) is (next_operator i (omega arith)) in
       record {
-        phrase = link (kind i) l.phrase r.phrase;
-        rules = link_rules (kind i) l.phrase r.phrase l.rules r.rules (omega arith) follow level;
-        level = least_met;
-        follow = omega arith;
-        height = omega arith;
-        low = omega arith;
-        leads = leads_on l.leads (risen_to (next_operator i (omega arith)) r.leads);
-        value = ap (λ x. linked (kind i) x (expression_of r.phrase)) l.value ∙ ap (linked (kind i) left) r.value;
+        fewer = shorter i m _ _ n r.leads;
+        made = record {
+          phrase = link c l.phrase r.phrase;
+          rules = link_rules c l.phrase r.phrase l.rules r.rules operator (omega arith) level;
+          level = least_met;
+          follow = omega arith;
+          height = omega arith;
+          low = omega arith;
+          leads = leads_on l.leads (risen_to n r.leads);
+          value = ap (λ x. linked c x (expression_of r.phrase)) l.value ∙ ap (linked c left) r.value;
+        };
       }
 
-  pub record Operated (i m : Input) (left e : Expression) : Type 0 where
-    pub right : Expression
-    pub room : i.height < d
-    pub inner : Inner d (binds (kind i) + 1) (risen i) m right
-    pub value : linked (kind i) left right ≡ e
+  link_ok : (least : ℕ) (a : List ℕ) (i m : Input) (left e : Expression) (c : Kind) → kind i ≡ c → links c ≡ true → least ≤ binds c → i.height < d → Left least a i left
+      → (linked c left <$> below (binds c + 1)) (risen i) ≡ Ok (e, m) → Operated least a i m e
+  link_ok least a i m left e c is operator least_met room l h =
+      let g = then_ok (below (binds c + 1) (risen i)) _ e m h in
+      let low = binds_small c in
+      let inner = subst (λ x. Inner d (binds c + 1) (risen i) x g.found) (ok_place _ e g.place m g.second) (gives (binds c + 1) (risen i) g.place g.found (omega arith) (omega arith) g.first) in
+      subst (λ x. Operated least a i m x) (ok_value _ e g.place m g.second) (link_made least a i m left g.found c is operator least_met room l inner)
 
-  operation_ok : (i m : Input) (left e : Expression) → operation d below left i ≡ Ok (e, m) → Operated i m left e
+  null_ok : (least : ℕ) (a : List ℕ) (i m : Input) (left e : Expression) → kind i ≡ k.Is → least ≤ 3 → i.height < d → Left least a i left → null_test left (risen i) ≡ Ok (e, m) → Operated least a i m e
+  null_ok least a i m left e is least_met room l h =
+      let n = null_test_ok (risen i) m left e h in
+      let up = risen_height i in
+      let same = n.height in
+      let follow = l.follow in
+      let height = l.height in
+      let binding : binds (kind i) ≡ 3 = ap binds is in
+      let mark_is = next_mark i k.Is (mark k.Is) is (λ x. cc) refl in
+      record {
+        fewer = shorter i m _ _ mark_is n.leads;
+        made = record {
+          phrase = null_test_of n.is_not l.phrase;
+          rules = both_true _ _ l.rules (le-leb 3 (phrase_level l.phrase) (omega arith));
+          level = least_met;
+          follow = n.stops;
+          height = omega arith;
+          low = omega arith;
+          leads = leads_on l.leads (risen_to mark_is n.leads);
+          value = ap (null_compared n.is_not) l.value ∙ n.value;
+        };
+      }
+
+  behind_ok : (least : ℕ) (a : List ℕ) (i m : Input) (left e : Expression) (c : Kind) → kind i ≡ c → 1 ≤ binds c → least ≤ binds c → i.height < d → Left least a i left → behind d below left c (risen i) ≡ Ok (e, m)
+      → Operated least a i m e
+  behind_ok least a i m left e k.Is is some least_met room l h = null_ok least a i m left e is least_met room l h
+  behind_ok least a i m left e c is some least_met room l h = link_ok least a i m left e c is (links_of c (λ x. cc) some) least_met room l h
+
+  operation_ok : (least : ℕ) (a : List ℕ) (i m : Input) (left e : Expression) → 1 ≤ least → least ≤ binds (kind i) → Left least a i left → operation d below left i ≡ Ok (e, m) → Operated least a i m e
   unfolding operation
-  operation_ok i m left e h =
-      let r = rise_take d (linked (kind i) left <$> below (binds (kind i) + 1)) i m e h in
-      let g = then_ok (below (binds (kind i) + 1) (risen i)) _ e m r.1 in
-      let low = binds_small (kind i) in
-      let inner = gives (binds (kind i) + 1) (risen i) g.place g.found (omega arith) (omega arith) g.first in
-      record {
-        right = g.found;
-        room = r.0;
-        inner = subst (λ x. Inner d (binds (kind i) + 1) (risen i) x g.found) (ok_place _ e g.place m g.second) inner;
-        value = ok_value _ e g.place m g.second;
-      }
+  operation_ok least a i m left e one least_met l h =
+      let r = rise_take d (behind d below left (kind i)) i m e h in
+      behind_ok least a i m left e (kind i) refl (omega arith) least_met r.0 l r.1
 
   at_end : (least : ℕ) (i : Input) → 1 ≤ least → length i.ahead ≤ 0 → binds (kind i) < least
   unfolding kind token
@@ -317,10 +401,6 @@ module _ (d : ℕ) (below : ℕ → Reader Expression) (gives : GivesInner d bel
       go : (a : List ℕ) → length a ≤ 0 → binds (token a).0 < least
       go [] h = omega arith
       go (b ∷ a) h = absurd (omega arith)
-
-  shorter : (i m : Input) (symbols : List Symbol) → Next i (mark (kind i)) → Leads (risen i).ahead symbols m.ahead → length m.ahead + 1 ≤ length i.ahead
-  unfolding next
-  shorter i m symbols n h = let one = behind_shorter i.ahead n.goes_on in let more = spans_shorter symbols (risen i).ahead m.ahead h.spans in omega arith
 
   climb_ok : (least n : ℕ) (a : List ℕ) (i j : Input) (left e : Expression) → 1 ≤ least → length i.ahead ≤ n → Left least a i left → climb d below least n left i ≡ Ok (e, j)
       → Left least a j e × binds (kind j) < least
@@ -339,10 +419,9 @@ module _ (d : ℕ) (below : ℕ → Reader Expression) (gives : GivesInner d bel
       by false s h more =
           let met = ltb-false (binds (kind i)) least s in
           let g = then_ok (operation d below left i) _ e j h in
-          let o = operation_ok i g.place left g.found g.first in
-          let fewer = shorter i g.place _ (next_operator i (omega arith)) o.inner.leads in
-          let made = linked_left least a i g.place left o.right one met o.room l o.inner in
-          more g.place j g.found e one (omega arith) (subst (λ x. Left least a g.place x) o.value made) g.second
+          let o = operation_ok least a i g.place left g.found one met l g.first in
+          let fewer = o.fewer in
+          more g.place j g.found e one (omega arith) o.made g.second
 
   unlifted : (least : ℕ) (m : Input) (h : ℕ) → binds (kind m) < least → binds (kind (record m { height = h })) < least
   unfolding kind

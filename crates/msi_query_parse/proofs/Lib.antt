@@ -7,6 +7,7 @@ pub mod NamesRead
 pub mod ExpressionsRead
 pub mod ListLemmas
 pub mod ValueLemmas
+pub mod ColumnLemmas
 pub mod ChangesSpelled
 pub mod ChangesRead
 pub mod SourcesSpelled

@@ -33,6 +33,9 @@ pub open_front : Front (codes "(") (mark k.Open ∷ [])
 unfolding token skip_blanks same_kind
 open_front = record { over = λ after. over_one (40 ∷ after) after (mark k.Open) (k.Open, 1) refl refl refl refl refl }
 
+pub open_link : Link (codes " (") (mark k.Open ∷ [])
+open_link = record { apart = λ after. refl; over = λ after. blank_before (40 ∷ after) after (mark k.Open ∷ []) (open_front.over after) }
+
 pub close_link : Link (codes ")") (mark k.Close ∷ [])
 unfolding token skip_blanks same_kind
 close_link = record { apart = λ after. refl; over = λ after. over_one (41 ∷ after) after (mark k.Close) (k.Close, 1) refl refl refl refl refl }
@@ -170,6 +173,27 @@ delete_word after = over_one (codes "DELETE " ++ after) (32 ∷ after) (mark k.D
 
 pub select_front : Front (codes "SELECT ") (mark k.Select ∷ [])
 select_front = record { over = word_front (codes "SELECT") k.Select select_word }
+
+distinct_word : Word (codes "DISTINCT") k.Distinct
+unfolding token skip_blanks same_kind kind_of_word
+distinct_word after = over_one (codes "DISTINCT " ++ after) (32 ∷ after) (mark k.Distinct) (k.Distinct, 8) refl refl refl refl refl
+
+order_word : Word (codes "ORDER") k.Order
+unfolding token skip_blanks same_kind kind_of_word
+order_word after = over_one (codes "ORDER " ++ after) (32 ∷ after) (mark k.Order) (k.Order, 5) refl refl refl refl refl
+
+by_word : Word (codes "BY") k.By
+unfolding token skip_blanks same_kind kind_of_word
+by_word after = over_one (codes "BY " ++ after) (32 ∷ after) (mark k.By) (k.By, 2) refl refl refl refl refl
+
+pub select_distinct_front : Front (codes "SELECT DISTINCT ") (mark k.Select ∷ mark k.Distinct ∷ [])
+select_distinct_front = record { over = two_words (codes "SELECT") (codes "DISTINCT") k.Select k.Distinct select_word distinct_word }
+
+pub order_link : Link (codes " ORDER BY ") (mark k.Order ∷ mark k.By ∷ [])
+order_link = record {
+  apart = λ after. refl;
+  over = λ after. blank_before (codes "ORDER BY " ++ after) after (mark k.Order ∷ mark k.By ∷ []) (two_words (codes "ORDER") (codes "BY") k.Order k.By order_word by_word after);
+}
 
 pub from_link : Link (codes " FROM ") (mark k.From ∷ [])
 from_link = record { apart = λ after. refl; over = word_link (codes "FROM") k.From from_word }

@@ -2,7 +2,7 @@
 use Rattle.std.proofs.Common.{◌≡◌, ℕ, zero, suc, ◌+◌, ◌-◌, ◌^◌, max, min, Bool, true, false, if◌then◌else◌, nat_le, nat_lt, ◌==◌, List, [], ◌∷◌, ◌++◌, length, drop, Option, Some, None, pos, neg_ℤ, Ok, Err, refl, sym, ◌∙◌, ap, arith}
 use Rattle.msi_table_values.specs.declared.value.Value.{Value}
 use Rattle.msi_query_expressions.specs.Expressions.{Expression}
-use Rattle.msi_query.specs.Queries.{Query, UpdateQuery, narrowed_query, projected_query}
+use Rattle.msi_query.specs.Queries.{Query, UpdateQuery, narrowed_query, projected_query, ordered_query}
 use Rattle.msi_query_tokens.specs.declared.token.Kind.{Kind}
 use Rattle.msi_query_tokens.specs.declared.token.Kind.TheVariants as k
 use Rattle.msi_query_tokens.specs.declared.refusal.Expected.{Expected}
@@ -13,7 +13,7 @@ use Rattle.msi_query_tokens.specs.declared.refusal.Refused.{Refused}
 use Rattle.msi_query_tokens.specs.Tokens.{token, skip_blanks, same_kind, is_name}
 use Rattle.msi_query_tokens.specs.Input.{Input, Outcome, start_of, Reader, and_then, ◌>>=◌, ◌>>◌, ◌<$>◌, pure, refuse, refusal, peek, take_token, eat, expect, kind, spelling, next, left, sees, after, turns, enter, rise, leave, lower, restore}
 use Rattle.msi_query_tokens.specs.Texts.{text, checked, taken, plain_bytes, utf8_text, positive, negative, number_of}
-use Rattle.msi_query_parse.specs.Operators.{binds}
+use Rattle.msi_query_parse.specs.Operators.{binds, null_compared}
 use Rattle.msi_query_parse.specs.Reading as r
 use Rattle.msi_query_parse.specs.Places.{past_tokens, IsAtToken, RefusesTokens}
 
@@ -171,12 +171,23 @@ s_listed_from x item h (suc n) found = s_then (item found) _ (h found) (λ more.
 s_listed : {A : Type 0} (x : Expected) (item : A → Reader A) → ((a : A) → Steps (item a)) → (found : A) → Steps (r.listed x item found)
 s_listed x item h found = record { good = λ i. let g = s_listed_from x item h (turns i) found in g.good i }
 
-s_columns : Steps r.columns
-s_columns = s_listed expected.Columns r.one_column (λ found. s_map (λ name. found ++ name ∷ []) (r.column expected.Columns) (s_column expected.Columns)) []
+s_columns : (x : Expected) → Steps (r.columns x)
+s_columns x = s_listed x (r.one_column x) (λ found. s_map (λ name. found ++ name ∷ []) (r.column x) (s_column x)) []
 
 s_selected : Steps r.selected
 unfolding r.selected
-s_selected = s_then (eat k.Star) _ (s_eat k.Star) (λ b. s_if b _ _ (s_pure []) s_columns)
+s_selected = s_then (eat k.Star) _ (s_eat k.Star) (λ b. s_if b _ _ (s_pure []) (s_columns expected.Columns))
+
+s_order : Steps r.order
+unfolding r.order
+s_order = s_then (eat k.Order) _ (s_eat k.Order) (λ b. s_if b _ _ (s_next (expect k.By expected.By) _ (s_expect _ _) (s_columns expected.Name)) (s_pure []))
+
+s_columns_in_brackets : Steps r.columns_in_brackets
+s_columns_in_brackets = s_then (r.columns expected.Name) _ (s_columns expected.Name) (λ found. s_then (expect k.Close expected.CloseBracket) _ (s_expect _ _) (λ _. s_pure found))
+
+s_named_columns : Steps r.named_columns
+unfolding r.named_columns
+s_named_columns = s_then (eat k.Open) _ (s_eat k.Open) (λ b. s_if b _ _ s_columns_in_brackets (s_pure []))
 
 s_digits : Steps r.digits
 s_digits = s_when (sees k.Number) _ (refuse expected.Number) (s_map _ negative s_negative) (s_refuse expected.Number)
@@ -221,6 +232,11 @@ s_term : Steps r.term
 unfolding r.term
 s_term = s_then peek r.term_by s_peek s_term_by
 
+s_null_test : (l : Expression) → Steps (r.null_test l)
+unfolding r.null_test
+s_null_test l = s_then (eat k.Not) _ (s_eat k.Not) (λ b. s_then (expect k.Null expected.Null) _ (s_expect _ _) (λ _. s_then peek _ s_peek
+    (λ c. s_if (nat_lt 3 (binds c)) _ _ (s_refuse expected.End) (s_pure (null_compared b l)))))
+
 module _ (depth : ℕ) (below : ℕ → Reader Expression) (h : (least : ℕ) → Steps (below least)) where
   s_negated : Steps (r.negated depth below)
   unfolding r.negated
@@ -244,9 +260,13 @@ module _ (depth : ℕ) (below : ℕ → Reader Expression) (h : (least : ℕ) �
   unfolding r.operand
   s_operand = s_then peek (r.operand_by depth below) s_peek s_operand_by
 
+  s_behind : (l : Expression) (c : Kind) → Steps (r.behind depth below l c)
+  s_behind l k.Is = s_null_test l
+  s_behind l c = s_map _ (below (binds c + 1)) (h (binds c + 1))
+
   s_operation : (l : Expression) → Steps (r.operation depth below l)
   unfolding r.operation
-  s_operation l = s_then peek (r.operation_by depth below l) s_peek (λ c. s_prefixed _ (s_map _ (below (binds c + 1)) (h (binds c + 1))))
+  s_operation l = s_then peek (r.operation_by depth below l) s_peek (λ c. s_prefixed _ (s_behind l c))
 
   s_climb : (least n : ℕ) (l : Expression) → Steps (r.climb depth below least n l)
   unfolding r.climb
@@ -315,10 +335,14 @@ module _ (depth : ℕ) (below : Reader Query) (h : Steps below) where
   s_source = s_when (λ i. is_name (kind i)) (r.table_named >>= r.joins depth below) (r.first_bracketed depth below) (s_then r.table_named (r.joins depth below) s_table_named s_joins)
       (s_then (r.side depth below) _ s_side (λ first. s_then lower _ s_lower (λ _. s_joins_behind first)))
 
+  s_selection : (b : Bool) → Steps (r.selection depth below b)
+  unfolding r.selection
+  s_selection b = s_then r.selected _ s_selected (λ columns. s_then (expect k.From expected.From) _ (s_expect _ _) (λ _. s_then enter _ s_enter (λ outer. s_then (r.source depth below) _ s_source
+      (λ found. s_then (leave outer) _ (s_leave outer) (λ _. s_then (r.narrowed found) _ (s_narrowed found) (λ q. s_map (λ names. ordered_query (r.once_each b (projected_query q columns)) names) r.order s_order))))))
+
   s_select : Steps (r.select depth below)
   unfolding r.select
-  s_select = s_then (expect k.Select expected.Select) _ (s_expect _ _) (λ _. s_then r.selected _ s_selected (λ columns. s_then (expect k.From expected.From) _ (s_expect _ _) (λ _. s_then enter _ s_enter
-      (λ outer. s_then (r.source depth below) _ s_source (λ found. s_then (leave outer) _ (s_leave outer) (λ _. s_then (r.narrowed found) _ (s_narrowed found) (λ q. s_pure (projected_query q columns))))))))
+  s_select = s_then (expect k.Select expected.Select) _ (s_expect _ _) (λ _. s_then (eat k.Distinct) _ (s_eat k.Distinct) s_selection)
 
 s_query : (depth : ℕ) → Steps (r.query depth)
 unfolding r.query
@@ -330,7 +354,8 @@ s_query (suc depth) = s_select depth (r.query depth) (s_query depth)
 s_insert : Steps r.insert
 unfolding r.insert
 s_insert = s_then (expect k.Insert expected.Insert) _ (s_expect _ _) (λ _. s_then (expect k.Into expected.Into) _ (s_expect _ _) (λ _. s_then (r.name expected.Name) _ (s_name expected.Name) (λ into.
-    s_then (eat k.Values) _ (s_eat k.Values) (λ b. s_if b _ _ (s_listed expected.OpenBracket r.one_row (λ q. s_map _ r.row s_row) (r.insert_into into)) (s_pure (r.insert_into into))))))
+    s_then r.named_columns _ s_named_columns (λ columns. s_then (eat k.Values) _ (s_eat k.Values) (λ b. s_if b _ _ (s_listed expected.OpenBracket r.one_row (λ q. s_map _ r.row s_row) (r.insert_into into columns))
+    (s_pure (r.insert_into into columns)))))))
 
 s_assignment : (q : UpdateQuery) → Steps (r.assignment q)
 unfolding r.assignment
@@ -365,7 +390,6 @@ s_statement = s_then peek r.statement_by s_peek s_statement_by
 
 s_end_by : (c : Kind) → Steps (r.end_by c)
 s_end_by k.End = s_pure (tt {0})
-s_end_by k.Order = s_refuse expected.NoOrder
 s_end_by _ = s_refuse expected.End
 
 s_end : Steps r.end

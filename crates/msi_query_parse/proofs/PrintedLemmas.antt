@@ -23,7 +23,7 @@ use Rattle.msi_query_tokens.proofs.CutLemmas.{Over, word_over, digits_over, Digi
 use Rattle.msi_query_tokens.specs.Names.{name_text}
 use Rattle.msi_query_tokens.proofs.NameLemmas.{name_text_over}
 use Rattle.msi_query_tokens.proofs.LeadsLemmas.{Leads, Link, Prints, text_prints, front_leads, front_prints, linked_prints, enclosed_prints, symbols_of}
-use Rattle.msi_query_parse.specs.Operators.{binds, linked}
+use Rattle.msi_query_parse.specs.Operators.{binds, links, linked}
 use Rattle.msi_query_parse.specs.Grammar.{Phrase, grouped, link, value_symbols, phrase_symbols, phrase_level, phrase_height, is_phrase, is_constant, is_digits, is_minus, is_value, expression_of, front_mark}
 use Rattle.msi_query_parse.specs.Printed.{op_mark, within, phrase_of, is_readable_name, is_readable, PrintedExpressionsAreReadBack}
 use Rattle.msi_query_parse.proofs.PieceLemmas.{open_front, close_link, minus_front, in_front, between, and_link, or_link}
@@ -96,20 +96,24 @@ level_is (binary op l r) = binds-op_mark op
 level_is (both l r) = refl
 level_is (either l r) = refl
 
-op_level-le : (op : BinaryOp) → (1 ≤ op_level op) × (op_level op ≤ 9)
-op_level-le two.Eq = (omega arith, omega arith)
-op_level-le _ = (omega arith, omega arith)
+op_level-le : (op : BinaryOp) → op_level op ≤ 9
+op_level-le two.Eq = omega arith
+op_level-le _ = omega arith
+
+links-op_mark : (op : BinaryOp) → links (op_mark op) ≡ true
+links-op_mark two.Eq = refl
+links-op_mark _ = refl
 
 -- a link whose operands bind tightly enough
-link_rules : (kind : Kind) (n : ℕ) (l r : Phrase) → binds kind ≡ n → 1 ≤ n → is_phrase l ≡ true → is_phrase r ≡ true
+link_rules : (kind : Kind) (n : ℕ) (l r : Phrase) → binds kind ≡ n → links kind ≡ true → is_phrase l ≡ true → is_phrase r ≡ true
     → nat_le n (phrase_level l) ≡ true → nat_le (n + 1) (phrase_level r) ≡ true → is_phrase (link kind l r) ≡ true
-link_rules kind n l r e low h g a b =
-    subst (λ (m : ℕ). (is_phrase l && is_phrase r && nat_le 1 m && nat_le m (phrase_level l) && nat_le (m + 1) (phrase_level r)) ≡ true) (sym e)
-    (and_from _ _ (and_from _ _ (and_from _ _ (and_from _ _ h g) (le-leb 1 n low)) a) b)
+link_rules kind n l r e operator h g a b =
+    subst (λ (m : ℕ). (is_phrase l && is_phrase r && links kind && nat_le m (phrase_level l) && nat_le (m + 1) (phrase_level r)) ≡ true) (sym e)
+    (and_from _ _ (and_from _ _ (and_from _ _ (and_from _ _ h g) operator) a) b)
 
-link_within : (kind : Kind) (n : ℕ) (l r : Expression) → binds kind ≡ n → 1 ≤ n → n ≤ 9 → is_phrase (phrase_of l) ≡ true → is_phrase (phrase_of r) ≡ true
+link_within : (kind : Kind) (n : ℕ) (l r : Expression) → binds kind ≡ n → links kind ≡ true → n ≤ 9 → is_phrase (phrase_of l) ≡ true → is_phrase (phrase_of r) ≡ true
     → is_phrase (link kind (within n (level l) (phrase_of l)) (within (n + 1) (level r) (phrase_of r))) ≡ true
-link_within kind n l r e low high h g = link_rules kind n (within n (level l) (phrase_of l)) (within (n + 1) (level r) (phrase_of r)) e low
+link_within kind n l r e operator high h g = link_rules kind n (within n (level l) (phrase_of l)) (within (n + 1) (level r) (phrase_of r)) e operator
     (within_phrase n (level l) (phrase_of l) h) (within_phrase (n + 1) (level r) (phrase_of r) g)
     (within_level n (level l) (phrase_of l) (omega arith) (level_is l)) (within_level (n + 1) (level r) (phrase_of r) (omega arith) (level_is r))
 
@@ -146,16 +150,16 @@ follows_rules (unary op e) f g =
 follows_rules (binary op l r) f g =
     let parts = and_parts (not (is_literal l && is_literal r) && is_folded l) (is_folded r) f in
     let fit = and_parts (literals_fit l) (literals_fit r) g in
-    link_within (op_mark op) (op_level op) l r (binds-op_mark op) (op_level-le op).0 (op_level-le op).1
+    link_within (op_mark op) (op_level op) l r (binds-op_mark op) (links-op_mark op) (op_level-le op)
     (follows_rules l (and_parts (not (is_literal l && is_literal r)) (is_folded l) parts.0).1 fit.0) (follows_rules r parts.1 fit.1)
 follows_rules (both l r) f g =
     let parts = and_parts (is_folded l) (is_folded r) f in
     let fit = and_parts (literals_fit l) (literals_fit r) g in
-    link_within k.And 2 l r refl (omega arith) (omega arith) (follows_rules l parts.0 fit.0) (follows_rules r parts.1 fit.1)
+    link_within k.And 2 l r refl refl (omega arith) (follows_rules l parts.0 fit.0) (follows_rules r parts.1 fit.1)
 follows_rules (either l r) f g =
     let parts = and_parts (is_folded l) (is_folded r) f in
     let fit = and_parts (literals_fit l) (literals_fit r) g in
-    link_within k.Or 1 l r refl (omega arith) (omega arith) (follows_rules l parts.0 fit.0) (follows_rules r parts.1 fit.1)
+    link_within k.Or 1 l r refl refl (omega arith) (follows_rules l parts.0 fit.0) (follows_rules r parts.1 fit.1)
 
 -- ---- names
 

@@ -1,8 +1,8 @@
 -- What a query prints spells it.
-use Rattle.std.proofs.Common.{◌≡◌, ℕ, suc, Bool, true, false, not, cond, ◌&&◌, ◌==◌, List, [], ◌∷◌, ◌++◌, map, length, nat_le, codes, refl, sym, ap, ap₂, subst, ◌∙◌, Option, Some, None, option_map, option_and_then, is_none, append_assoc, append-nil, flat_map, leb-true, eqb-true, arith}
+use Rattle.std.proofs.Common.{◌≡◌, ℕ, suc, Bool, true, false, not, cond, if◌then◌else◌, ◌&&◌, ◌==◌, List, [], ◌∷◌, ◌++◌, map, length, nat_le, codes, refl, sym, ap, ap₂, subst, ◌∙◌, Option, Some, None, option_map, option_and_then, is_none, append_assoc, append-nil, flat_map, leb-true, eqb-true, arith}
 use Rattle.std.specs.List.{list_all, join_by}
 use Rattle.std.specs.Fmt.{◌++?◌}
-use Rattle.std.proofs.lemmas.Bool.{and_parts, and_from}
+use Rattle.std.proofs.lemmas.Bool.{and_parts, and_from, not-true}
 use Rattle.msi_base.specs.Lists.{all_present}
 use Rattle.msi_table_values.specs.declared.value.Value.{Value}
 use Rattle.msi_table_values.specs.Values.{value_text}
@@ -10,20 +10,21 @@ use Rattle.msi_query_expressions.specs.declared.operators.BinaryOp.TheVariants a
 use Rattle.msi_query_expressions.specs.Expressions.{Expression}
 use Rattle.msi_query_expressions.specs.Printing.{expression_text}
 use Rattle.msi_query_expressions.specs.declared.joins.JoinKind.{JoinKind}
-use Rattle.msi_query.specs.Queries.{Clauses, Query, table, join, no_clauses, projected_query}
+use Rattle.msi_query.specs.Queries.{Clauses, Query, InsertQuery, table, join, no_clauses, projected_query, ordered_query}
 use Rattle.msi_query_expressions.specs.Assignments.{set_text}
-use Rattle.msi_query.specs.QueryTexts.{listed, where_text, columns_text, select_text, join_word, bare_name, or_bracketed, side_text, query_text, row_text, rows_text, insert_text, sets_text, update_text, delete_text}
+use Rattle.msi_query.specs.QueryTexts.{listed, where_text, columns_text, order_text, select_word, select_text, join_word, keep_all, bare_name, or_bracketed, side_text, query_text, row_text, rows_text, named_columns_text, insert_text, sets_text, update_text, delete_text}
 use Rattle.msi_query.proofs.ListedLemmas.{listed-names}
 use Rattle.msi_query_tokens.specs.Names.{name_text}
 use Rattle.msi_query_tokens.specs.declared.token.Kind.TheVariants as k
 use Rattle.msi_query_tokens.specs.Symbols.{Symbol, mark, named}
-use Rattle.msi_query_tokens.proofs.LeadsLemmas.{Front, Leads, front_leads, tail_tail, link_leads, leads_link, leads_tail, as_leads, no_tail, Prints, Tails, text_prints, text_tails, prints_tails, tails_tails, front_prints, link_prints, linked_prints, enclosed_prints, symbols_of}
+use Rattle.msi_query_tokens.proofs.LeadsLemmas.{Front, Leads, Tail, front_leads, link_tail, tail_tail, link_leads, leads_link, leads_tail, as_leads, no_tail, Prints, Tails, text_prints, text_tails, prints_tails, tails_tails, front_prints, link_prints, linked_prints, enclosed_prints, symbols_of}
+use Rattle.msi_query_parse.specs.Reading.{once_each}
 use Rattle.msi_query_parse.specs.Grammar.{ColumnName, plain, bytes_of, name_symbols, value_symbols, is_value, separated, phrase_symbols, expression_of}
-use Rattle.msi_query_parse.specs.Grammar.{Source, whole, both_of, where_symbols, column_symbols, in_brackets, source_symbols, is_query, is_join, is_where, is_source, source_height, narrowed_by, query_meant, join_mark}
-use Rattle.msi_query_parse.specs.Grammar.{Constant, of_value, constant_symbols, constant_value, is_literal, row_symbols, rows_symbols, set_symbols, sets_symbols}
-use Rattle.msi_query_parse.specs.Printed.{phrase_of, is_readable_name, is_readable, is_readable_condition, are_readable_clauses, selected, or_whole, source_of, has_readable_parts}
+use Rattle.msi_query_parse.specs.Grammar.{Source, whole, both_of, where_symbols, distinct_symbols, column_symbols, order_symbols, front_symbols, back_symbols, in_brackets, source_symbols, is_query, is_join, is_where, is_source, source_height, narrowed_by, query_meant, join_mark}
+use Rattle.msi_query_parse.specs.Grammar.{Constant, of_value, constant_symbols, constant_value, is_literal, row_symbols, named_columns_symbols, rows_symbols, set_symbols, sets_symbols}
+use Rattle.msi_query_parse.specs.Printed.{phrase_of, is_readable_name, is_readable, is_readable_condition, are_readable_clauses, printed_clauses, selected, or_whole, source_of, has_readable_parts}
 use Rattle.msi_query_parse.specs.Printed.{PrintedSelectsAreReadBack, PrintedInsertsAreReadBack, PrintedUpdatesAreReadBack, PrintedDeletesAreReadBack}
-use Rattle.msi_query_parse.proofs.PieceLemmas.{open_front, close_link, comma_link, between, star_front, select_front, from_link, where_link, join_link, on_link, insert_front, values_link, update_front, set_link, delete_front}
+use Rattle.msi_query_parse.proofs.PieceLemmas.{open_front, open_link, close_link, comma_link, between, star_front, select_front, select_distinct_front, order_link, from_link, where_link, join_link, on_link, insert_front, values_link, update_front, set_link, delete_front}
 use Rattle.msi_query_parse.proofs.PrintedLemmas.{name_leads, value_prints, Readable, readable}
 
 -- ---- lists
@@ -95,6 +96,20 @@ condition_met : (c : Option Expression) → is_readable_condition c ≡ true →
 condition_met None h = refl
 condition_met (Some e) h = let r = readable e h in ap (λ (x : Expression). Some x) r.means
 
+-- ---- names
+
+names_lead : (n : List ℕ) (ns : List (List ℕ)) → list_all is_readable_name (n ∷ ns) ≡ true → Leads (join_by name_text (codes ", ") (n ∷ ns)) (separated (map name_symbols (map plain (n ∷ ns))))
+names_lead n ns h =
+    let p = listed_prints (λ (n : List ℕ). Some (name_text n)) (λ (n : List ℕ). named n ∷ []) is_readable_name
+    (λ (n : List ℕ) (a : is_readable_name n ≡ true). text_prints (name_text n) (named n ∷ []) (name_leads n a)) (n ∷ ns) h in
+    subst (λ (ss : List (List Symbol)). Leads (join_by name_text (codes ", ") (n ∷ ns)) (separated ss)) (sym (maps name_symbols plain (n ∷ ns)))
+    (p.leads (join_by name_text (codes ", ") (n ∷ ns)) (listed-names n ns))
+
+named_columns_tail : (names : List (List ℕ)) → list_all is_readable_name names ≡ true → Tail (named_columns_text names) (named_columns_symbols (map plain names))
+named_columns_tail [] h = no_tail
+named_columns_tail (n ∷ ns) h = tail_tail (codes " (" ++ join_by name_text (codes ", ") (n ∷ ns)) (codes ")") (mark k.Open ∷ separated (map name_symbols (map plain (n ∷ ns)))) (mark k.Close ∷ [])
+    (link_leads (codes " (") (join_by name_text (codes ", ") (n ∷ ns)) (mark k.Open ∷ []) (separated (map name_symbols (map plain (n ∷ ns)))) open_link (names_lead n ns h)) (link_tail (codes ")") (mark k.Close ∷ []) close_link)
+
 -- ---- deletes
 
 named_table : (word name : List ℕ) (s : List Symbol) → Front word s → is_readable_name name ≡ true → Prints (Some (word ++ name_text name)) (s ++ (named name ∷ []))
@@ -125,15 +140,25 @@ rows_tails (row ∷ rows) h = link_prints (codes " VALUES ") (listed (map row_te
     (subst (λ (ss : List (List Symbol)). Prints (listed (map row_text (row ∷ rows))) (separated ss)) (sym (maps row_symbols (map of_value) (row ∷ rows)))
     (listed_prints row_text (λ (r : List Value). row_symbols (map of_value r)) (list_all is_value) row_prints (row ∷ rows) h))
 
+inserted_table : (q : InsertQuery) → is_readable_name q.table ≡ true → list_all is_readable_name q.columns ≡ true
+    → Prints (Some (codes "INSERT INTO " ++ name_text q.table ++ named_columns_text q.columns)) (mark k.Insert ∷ mark k.Into ∷ named q.table ∷ named_columns_symbols (map plain q.columns))
+inserted_table q h g = text_prints ((codes "INSERT INTO " ++ name_text q.table) ++ named_columns_text q.columns) (mark k.Insert ∷ mark k.Into ∷ named q.table ∷ named_columns_symbols (map plain q.columns))
+    (leads_tail (codes "INSERT INTO " ++ name_text q.table) (named_columns_text q.columns) (mark k.Insert ∷ mark k.Into ∷ named q.table ∷ []) (named_columns_symbols (map plain q.columns))
+    (front_leads (codes "INSERT INTO ") (name_text q.table) (mark k.Insert ∷ mark k.Into ∷ []) (named q.table ∷ []) insert_front (name_leads q.table h)) (named_columns_tail q.columns g))
+
 pub inserts_are_read_back : PrintedInsertsAreReadBack
 inserts_are_read_back q text h is =
-    let parts = and_parts (is_readable_name q.table) (list_all (list_all is_value) q.rows) h in
+    let outer = and_parts (is_readable_name q.table && list_all is_readable_name q.columns) (list_all (list_all is_value) q.rows) h in
+    let parts = and_parts (is_readable_name q.table) (list_all is_readable_name q.columns) outer.0 in
     record {
+      columns = map plain q.columns;
       rows = map (map of_value) q.rows;
-      rules = all_mapped (list_all is_literal) (list_all is_value) (map of_value) (λ row a. all_mapped is_literal is_value of_value (λ x b. b) row a) q.rows parts.1;
-      symbols = symbols_of (insert_text q) (mark k.Insert ∷ mark k.Into ∷ named q.table ∷ rows_symbols (map (map of_value) q.rows))
-          (prints_tails (Some (codes "INSERT INTO " ++ name_text q.table)) (rows_text q.rows) (mark k.Insert ∷ mark k.Into ∷ named q.table ∷ []) (rows_symbols (map (map of_value) q.rows))
-          (named_table (codes "INSERT INTO ") q.table (mark k.Insert ∷ mark k.Into ∷ []) insert_front parts.0) (rows_tails q.rows parts.1)) text is;
+      rules = all_mapped (list_all is_literal) (list_all is_value) (map of_value) (λ row a. all_mapped is_literal is_value of_value (λ x b. b) row a) q.rows outer.1;
+      symbols = symbols_of (insert_text q) (mark k.Insert ∷ mark k.Into ∷ named q.table ∷ named_columns_symbols (map plain q.columns) ++ rows_symbols (map (map of_value) q.rows))
+          (prints_tails (Some (codes "INSERT INTO " ++ name_text q.table ++ named_columns_text q.columns)) (rows_text q.rows)
+          (mark k.Insert ∷ mark k.Into ∷ named q.table ∷ named_columns_symbols (map plain q.columns)) (rows_symbols (map (map of_value) q.rows))
+          (inserted_table q parts.0 parts.1) (rows_tails q.rows outer.1)) text is;
+      names = maps_back bytes_of plain (λ n. refl) q.columns;
       value = maps_back (map constant_value) (map of_value) (λ row. maps_back constant_value of_value (λ x. refl) row) q.rows;
     }
 
@@ -180,23 +205,41 @@ updates_are_read_back q text h is =
 
 columns_lead : (names : List (List ℕ)) → list_all is_readable_name names ≡ true → Leads (columns_text names) (column_symbols (map plain names))
 columns_lead [] h = as_leads (codes "*") (mark k.Star ∷ []) star_front
-columns_lead (n ∷ ns) h =
-    let p = listed_prints (λ (n : List ℕ). Some (name_text n)) (λ (n : List ℕ). named n ∷ []) is_readable_name
-    (λ (n : List ℕ) (a : is_readable_name n ≡ true). text_prints (name_text n) (named n ∷ []) (name_leads n a)) (n ∷ ns) h in
-    subst (λ (ss : List (List Symbol)). Leads (columns_text (n ∷ ns)) (separated ss)) (sym (maps name_symbols plain (n ∷ ns)))
-    (p.leads (columns_text (n ∷ ns)) (listed-names n ns))
+columns_lead (n ∷ ns) h = names_lead n ns h
+
+select_front_of : (is_distinct : Bool) → Front (if is_distinct then codes "SELECT DISTINCT " else codes "SELECT ") (mark k.Select ∷ distinct_symbols is_distinct)
+select_front_of true = select_distinct_front
+select_front_of false = select_front
+
+order_tail : (names : List (List ℕ)) → list_all is_readable_name names ≡ true → Tail (order_text names) (order_symbols (map plain names))
+order_tail [] h = no_tail
+order_tail (n ∷ ns) h = link_leads (codes " ORDER BY ") (join_by name_text (codes ", ") (n ∷ ns)) (mark k.Order ∷ mark k.By ∷ []) (separated (map name_symbols (map plain (n ∷ ns)))) order_link (names_lead n ns h)
+
+-- the parts that readable clauses have
+record ReadableClauses (c : Clauses) : Type 0 where
+  columns : list_all is_readable_name c.columns ≡ true
+  condition : is_readable_condition c.condition ≡ true
+  order : list_all is_readable_name c.order ≡ true
+
+readable_clauses : (c : Clauses) → are_readable_clauses c ≡ true → ReadableClauses c
+readable_clauses c h =
+    let outer = and_parts (list_all is_readable_name c.columns && is_readable_condition c.condition) (list_all is_readable_name c.order) h in
+    let parts = and_parts (list_all is_readable_name c.columns) (is_readable_condition c.condition) outer.0 in
+    record { columns = parts.0; condition = parts.1; order = outer.1 }
 
 select_prints : (c : Clauses) (o : Option (List ℕ)) (source : Source) → are_readable_clauses c ≡ true → Prints o (source_symbols source) → Prints (select_text c o) (source_symbols (selected c source))
 select_prints c o source h p =
-    let parts = and_parts (list_all is_readable_name c.columns) (is_readable_condition c.condition) h in
-    let first : List Symbol = mark k.Select ∷ column_symbols (map plain c.columns) in
-    let ends : List Symbol = where_symbols (option_map phrase_of c.condition) in
+    let parts = readable_clauses c h in
+    let s = printed_clauses c in
+    let first : List Symbol = mark k.Select ∷ distinct_symbols c.is_distinct ++ column_symbols (map plain c.columns) in
     subst (λ (t : List Symbol). Prints (select_text c o) t)
-    (append_assoc first (mark k.From ∷ []) (source_symbols source ++ ends) ∙ sym (append_assoc first (mark k.From ∷ source_symbols source) ends))
-    (front_prints ((codes "SELECT " ++ columns_text c.columns) ++ codes " FROM ") (o ++? where_text c.condition) (first ++ mark k.From ∷ []) (source_symbols source ++ ends)
-    (leads_link (codes "SELECT " ++ columns_text c.columns) (codes " FROM ") first (mark k.From ∷ [])
-    (front_leads (codes "SELECT ") (columns_text c.columns) (mark k.Select ∷ []) (column_symbols (map plain c.columns)) select_front (columns_lead c.columns parts.0)) from_link)
-    (prints_tails o (where_text c.condition) (source_symbols source) ends p (condition_tails c.condition parts.1)))
+    (sym (append_assoc (front_symbols s) (source_symbols source) (back_symbols s)))
+    (front_prints ((select_word c ++ columns_text c.columns) ++ codes " FROM ") (o ++? where_text c.condition ++? Some (order_text c.order)) (front_symbols s) (source_symbols source ++ back_symbols s)
+    (leads_link (select_word c ++ columns_text c.columns) (codes " FROM ") first (mark k.From ∷ [])
+    (front_leads (select_word c) (columns_text c.columns) (mark k.Select ∷ distinct_symbols c.is_distinct) (column_symbols (map plain c.columns)) (select_front_of c.is_distinct) (columns_lead c.columns parts.columns)) from_link)
+    (prints_tails o (where_text c.condition ++? Some (order_text c.order)) (source_symbols source) (back_symbols s) p
+    (tails_tails (where_text c.condition) (Some (order_text c.order)) (where_symbols s.condition) (order_symbols s.order) (condition_tails c.condition parts.condition)
+    (text_tails (order_text c.order) (order_symbols s.order) (order_tail c.order parts.order)))))
 
 none_at_0 : {X : Type 0} (xs : List X) → (length xs == 0) ≡ true → xs ≡ []
 none_at_0 [] e = refl
@@ -206,26 +249,41 @@ none_is : {X : Type 0} (o : Option X) → is_none o ≡ true → o ≡ None
 none_is None e = refl
 none_is (Some x) e = absurd (let clash : false ≡ true = e in cc)
 
-bare_is : (name : List ℕ) (c : Clauses) → ((length c.columns == 0) && is_none c.condition) ≡ true → table name no_clauses ≡ table name c
-bare_is name c h = let parts = and_parts (length c.columns == 0) (is_none c.condition) h in
-    ap₂ (λ (columns : List (List ℕ)) (condition : Option Expression). table name (record { columns = columns; condition = condition }))
+bare_is : (name : List ℕ) (c : Clauses) → keep_all c ≡ true → table name no_clauses ≡ table name c
+bare_is name c h =
+    let outer = and_parts ((length c.columns == 0) && is_none c.condition && (length c.order == 0)) (not c.is_distinct) h in
+    let inner = and_parts ((length c.columns == 0) && is_none c.condition) (length c.order == 0) outer.0 in
+    let parts = and_parts (length c.columns == 0) (is_none c.condition) inner.0 in
+    ap₂ (λ (columns : List (List ℕ)) (condition : Option Expression). table name (record no_clauses { columns = columns; condition = condition }))
     (sym (none_at_0 c.columns parts.0)) (sym (none_is c.condition parts.1))
+    ∙ ap₂ (λ (order : List (List ℕ)) (is_distinct : Bool). table name (record c { order = order; is_distinct = is_distinct }))
+    (sym (none_at_0 c.order inner.1)) (sym (not-true c.is_distinct outer.1))
 
-clauses_meant : (c : Clauses) (source : Source) → are_readable_clauses c ≡ true
-    → query_meant (selected c source) ≡ projected_query (narrowed_by (query_meant source) c.condition) c.columns
-clauses_meant c source h = let parts = and_parts (list_all is_readable_name c.columns) (is_readable_condition c.condition) h in
-    ap₂ (λ (condition : Option Expression) (columns : List (List ℕ)). projected_query (narrowed_by (query_meant source) condition) columns)
-    (condition_met c.condition parts.1) (maps_back bytes_of plain (λ n. refl) c.columns)
+-- a query under the clauses of another
+abbrev under : Clauses → Query → Query
+under c query = ordered_query (once_each c.is_distinct (projected_query (narrowed_by query c.condition) c.columns)) c.order
 
-table_meant : (name : List ℕ) (condition : Option Expression) (columns : List (List ℕ))
-    → projected_query (narrowed_by (table name no_clauses) condition) columns ≡ table name (record { columns = columns; condition = condition })
-table_meant name None columns = refl
-table_meant name (Some e) columns = refl
+clauses_meant : (c : Clauses) (source : Source) → are_readable_clauses c ≡ true → query_meant (selected c source) ≡ under c (query_meant source)
+clauses_meant c source h = let parts = readable_clauses c h in
+    ap₂ (λ (condition : Option Expression) (columns : List (List ℕ)). ordered_query (once_each c.is_distinct (projected_query (narrowed_by (query_meant source) condition) columns)) (map bytes_of (map plain c.order)))
+    (condition_met c.condition parts.condition) (maps_back bytes_of plain (λ n. refl) c.columns)
+    ∙ ap (ordered_query (once_each c.is_distinct (projected_query (narrowed_by (query_meant source) c.condition) c.columns))) (maps_back bytes_of plain (λ n. refl) c.order)
 
-join_meant : (kind : JoinKind) (l r : Query) (on : Expression) (condition : Option Expression) (columns : List (List ℕ))
-    → projected_query (narrowed_by (join kind l r on no_clauses) condition) columns ≡ join kind l r on (record { columns = columns; condition = condition })
-join_meant kind l r on None columns = refl
-join_meant kind l r on (Some e) columns = refl
+table_meant : (name : List ℕ) (condition : Option Expression) (is_distinct : Bool) (columns order : List (List ℕ))
+    → ordered_query (once_each is_distinct (projected_query (narrowed_by (table name no_clauses) condition) columns)) order
+    ≡ table name (record { columns = columns; condition = condition; order = order; is_distinct = is_distinct })
+table_meant name None true columns order = refl
+table_meant name None false columns order = refl
+table_meant name (Some e) true columns order = refl
+table_meant name (Some e) false columns order = refl
+
+join_meant : (kind : JoinKind) (l r : Query) (on : Expression) (condition : Option Expression) (is_distinct : Bool) (columns order : List (List ℕ))
+    → ordered_query (once_each is_distinct (projected_query (narrowed_by (join kind l r on no_clauses) condition) columns)) order
+    ≡ join kind l r on (record { columns = columns; condition = condition; order = order; is_distinct = is_distinct })
+join_meant kind l r on None true columns order = refl
+join_meant kind l r on None false columns order = refl
+join_meant kind l r on (Some e) true columns order = refl
+join_meant kind l r on (Some e) false columns order = refl
 
 -- a query in its own words, and as a side of a join
 record Printed (q : Query) : Type 0 where
@@ -253,10 +311,10 @@ side (join kind l r on_e c) h p = record {
   means = p.means;
 }
 side (table name c) h p = record {
-  prints = go_prints ((length c.columns == 0) && is_none c.condition);
-  follows = go_follows ((length c.columns == 0) && is_none c.condition);
-  no_join = go_no_join ((length c.columns == 0) && is_none c.condition);
-  means = go_means ((length c.columns == 0) && is_none c.condition) refl;
+  prints = go_prints (keep_all c);
+  follows = go_follows (keep_all c);
+  no_join = go_no_join (keep_all c);
+  means = go_means (keep_all c) refl;
 }
   where
     go_prints : (b : Bool) → Prints (or_bracketed (cond b (Some name) None) (query_text (table name c))) (in_brackets (whole_or name c b) (source_symbols (whole_or name c b)))
@@ -271,7 +329,7 @@ side (table name c) h p = record {
     go_no_join true = refl
     go_no_join false = refl
 
-    go_means : (b : Bool) → ((length c.columns == 0) && is_none c.condition) ≡ b → query_meant (whole_or name c b) ≡ table name c
+    go_means : (b : Bool) → keep_all c ≡ b → query_meant (whole_or name c b) ≡ table name c
     go_means true e = bare_is name c e
     go_means false e = p.means
 
@@ -291,27 +349,27 @@ joined_prints kind l r on_e a b e =
 printed : (q : Query) → has_readable_parts q ≡ true → Printed q
 printed (table name c) h =
     let parts = and_parts (is_readable_name name) (are_readable_clauses c) h in
-    let clauses = and_parts (list_all is_readable_name c.columns) (is_readable_condition c.condition) parts.1 in
+    let clauses = readable_clauses c parts.1 in
     record {
       prints = select_prints c (Some (name_text name)) (whole name) parts.1 (text_prints (name_text name) (named name ∷ []) (name_leads name parts.0));
-      follows = condition_rules c.condition clauses.1;
-      means = clauses_meant c (whole name) parts.1 ∙ table_meant name c.condition c.columns;
+      follows = condition_rules c.condition clauses.condition;
+      means = clauses_meant c (whole name) parts.1 ∙ table_meant name c.condition c.is_distinct c.columns c.order;
     }
 printed (join kind l r on_e c) h =
     let outer = and_parts (has_readable_parts l && has_readable_parts r && is_readable on_e) (are_readable_clauses c) h in
     let inner = and_parts (has_readable_parts l && has_readable_parts r) (is_readable on_e) outer.0 in
     let sides = and_parts (has_readable_parts l) (has_readable_parts r) inner.0 in
-    let clauses = and_parts (list_all is_readable_name c.columns) (is_readable_condition c.condition) outer.1 in
+    let clauses = readable_clauses c outer.1 in
     let a = side l sides.0 (printed l sides.0) in
     let b = side r sides.1 (printed r sides.1) in
     let e = readable on_e inner.1 in
     record {
       prints = select_prints c _ (both_of kind (side_of l) (side_of r) (phrase_of on_e)) outer.1 (joined_prints kind l r on_e a b e);
-      follows = and_from _ _ (and_from _ _ (and_from _ _ (and_from _ _ (and_from _ _ a.follows b.follows) (ap not b.no_join)) (and_from _ _ e.follows e.low)) refl) (condition_rules c.condition clauses.1);
+      follows = and_from _ _ (and_from _ _ (and_from _ _ (and_from _ _ (and_from _ _ a.follows b.follows) (ap not b.no_join)) (and_from _ _ e.follows e.low)) refl) (condition_rules c.condition clauses.condition);
       means = clauses_meant c (both_of kind (side_of l) (side_of r) (phrase_of on_e)) outer.1
-          ∙ ap (λ (q : Query). projected_query (narrowed_by q c.condition) c.columns)
+          ∙ ap (under c)
           (ap₂ (λ (x y : Query). join kind x y (expression_of (phrase_of on_e)) no_clauses) a.means b.means ∙ ap (λ (x : Expression). join kind l r x no_clauses) e.means)
-          ∙ join_meant kind l r on_e c.condition c.columns;
+          ∙ join_meant kind l r on_e c.condition c.is_distinct c.columns c.order;
     }
 
 is_query-source_of : (q : Query) → is_query (source_of q) ≡ true

@@ -1,10 +1,10 @@
 -- Queries for rows that are spelled are read.
-use Rattle.std.proofs.Common.{◌≡◌, ℕ, zero, suc, ◌+◌, ◌-◌, ◌^◌, ◌==◌, ◌<◌, ◌≤◌, ◌⊎◌, inl, inr, max, min, true, false, ◌||◌, if◌then◌else◌, List, [], ◌∷◌, ◌++◌, map, length, Option, Some, None, option_map, Ok, Err, refl, sym, ◌∙◌, ap, arith}
+use Rattle.std.proofs.Common.{◌≡◌, ℕ, zero, suc, ◌+◌, ◌-◌, ◌^◌, ◌==◌, ◌<◌, ◌≤◌, max, min, Bool, true, false, ◌||◌, if◌then◌else◌, List, [], ◌∷◌, ◌++◌, map, length, Option, Some, None, option_map, Ok, Err, refl, sym, ◌∙◌, ap, ap₂, arith}
 use Rattle.std.specs.List.{list_all}
 use Rattle.std.proofs.lemmas.Bool.{leb-true}
 use Rattle.msi_query_expressions.specs.declared.joins.JoinKind.{JoinKind}
 use Rattle.msi_query_expressions.specs.declared.joins.JoinKind.TheVariants.{Inner, Left}
-use Rattle.msi_query.specs.Queries.{Query, table, join, no_clauses, narrowed_query, projected_query}
+use Rattle.msi_query.specs.Queries.{Query, table, join, no_clauses, narrowed_query, projected_query, ordered_query}
 use Rattle.msi_query_tokens.specs.declared.token.Kind.{Kind}
 use Rattle.msi_query_tokens.specs.declared.token.Kind.TheVariants as k
 use Rattle.msi_query_tokens.specs.declared.refusal.Expected.TheVariants as expected
@@ -16,72 +16,60 @@ use Rattle.msi_query_tokens.proofs.SymbolLemmas.{spans_shorter}
 use Rattle.msi_query_tokens.proofs.StepLemmas.{Next, Leads, leads_on, risen, risen_height, after_yes, after_no}
 use Rattle.msi_query_parse.specs.Operators.{binds}
 use Rattle.msi_query_parse.specs.Reading as reading
-use Rattle.msi_query_parse.specs.Reading.{name, column, columns, one_column, selected, condition, dotted, table_named, narrowed, joined_by, sees_join, bracketed_query, side, joined_at, joined, joins_from, joins, joins_behind, first_bracketed, source, select, query, whole, listed_from}
-use Rattle.msi_query_parse.specs.Grammar.{Phrase, ColumnName, plain, parts, Source, whole as whole_table, both_of, query_of, bytes_of, name_symbols, column_symbols, in_brackets, join_mark, source_symbols, is_query, is_join, is_source, is_where, source_height, query_meant, where_symbols, phrase_symbols, expression_of, SpellsSelect}
-use Rattle.msi_query_parse.proofs.NamesRead.{first_kind, at, kind_at, next_at, leads_next, then_read, mark_kind, sees_yes, sees_no, expect_read, risen_then, name_read, named_here, column_read, whole_read, end_kind}
+use Rattle.msi_query_parse.specs.Reading.{selected, order, condition, table_named, narrowed, once_each, joined_by, sees_join, bracketed_query, side, joined_at, joined, joins_from, joins, joins_behind, first_bracketed, source, selection, select, query, whole}
+use Rattle.msi_query_parse.specs.Grammar.{Phrase, ColumnName, SelectClauses, Source, whole as whole_table, both_of, query_of, bytes_of, name_symbols, separated, distinct_symbols, column_symbols, order_symbols, front_symbols, back_symbols, in_brackets, join_mark, source_symbols, is_query, is_join, is_source, is_where, source_height, query_meant, where_symbols, phrase_symbols, expression_of, SpellsSelect}
+use Rattle.msi_query_parse.proofs.NamesRead.{first_kind, at, kind_at, next_at, leads_next, then_read, mark_kind, sees_yes, sees_no, expect_read, risen_then, name_read, named_here, whole_read, end_kind}
 use Rattle.msi_query_parse.proofs.ExpressionsRead.{both_left, both_right, denied, leads_split, condition_read}
-use Rattle.msi_query_parse.proofs.ListLemmas.{listed_read, listed_fails}
-use Rattle.msi_query_parse.proofs.ValueLemmas.{goes_map}
+use Rattle.msi_query_parse.proofs.ColumnLemmas.{not_distinct, selected_read, order_read}
 use Rattle.msi_query_parse.proofs.ChangesRead.{where_read}
-use Rattle.msi_query_parse.proofs.SourcesSpelled.{with_names, any_name, side_height, side_high, narrowed_is, join_rest, join_value}
-
--- ---- columns
-
-name_item : (found : List (List ℕ)) (c : ColumnName) (i : Input) (b : List ℕ) → any_name c ≡ true → Leads i.ahead (name_symbols c) b → (first_kind b ≡ k.Dot → ⊥) → one_column found i ≡ Ok (with_names found (c ∷ []), at i b i.height)
-name_item found c i b good h no_dot = then_read _ (column_read expected.Columns c i b h no_dot) refl
-
-column_some : (c : ColumnName) → 1 ≤ length (name_symbols c)
-column_some (plain n) = omega arith
-column_some (parts n m) = omega arith
-
-any_names : (cs : List ColumnName) → list_all any_name cs ≡ true
-any_names [] = refl
-any_names (c ∷ cs) = any_names cs
-
--- no name begins with a star
-column_fails : (i : Input) → kind i ≡ k.Star → column expected.Columns i ≡ Err (refusal expected.Columns i)
-unfolding column name
-column_fails i e = ap (λ c. and_then (if is_name c then text i else Err (refusal expected.Columns i))
-    (λ first m. (if sees k.Dot m then dotted first <$> name expected.Name else pure first) (after k.Dot m))) e
-
-no_star : (m : Input) (n : ℕ) (all : List (List ℕ)) (j : Input) → listed_from expected.Columns one_column n [] m ≡ Ok (all, j) → kind m ≡ k.Star → ⊥
-no_star m n all j h e = listed_fails (List (List ℕ)) ColumnName expected.Columns one_column name_symbols any_name with_names n [] all m j (refusal expected.Columns m)
-    (ap (λ o. and_then o (λ x. pure ([] ++ x ∷ []))) (column_fails m e)) h
-
-selected_read : (cs : List ColumnName) (i : Input) (b : List ℕ) → Leads i.ahead (column_symbols cs) b → first_kind b ≡ k.From → selected i ≡ Ok (map bytes_of cs, at i b i.height)
-unfolding selected left
-selected_read [] i b h from =
-    let l = leads_next i (mark k.Star) [] b h in
-    let on = sees_yes k.Star i (mark_kind l.0 (λ x. cc)) in
-    ap (λ t. (if t then pure [] else columns) (after k.Star i)) on ∙ ap (λ y. Ok ([], y)) (after_yes k.Star i on ∙ next_at i b i.height l.1.spans refl)
-selected_read (c ∷ cs) i b h from =
-    let read = listed_read (List (List ℕ)) ColumnName expected.Columns one_column name_symbols any_name with_names name_item column_some (goes_map bytes_of) cs c (length i.ahead) [] i b (omega arith) (any_names (c ∷ cs)) h
-    (λ e. let f : k.From ≡ k.Comma = sym from ∙ e in cc) (λ e. let f : k.From ≡ k.Dot = sym from ∙ e in cc) in
-    let off = sees_no k.Star i (no_star i (length i.ahead) _ (at i b i.height) read) in
-    ap (λ t. (if t then pure [] else columns) (after k.Star i)) off ∙ ap columns (after_no k.Star i off) ∙ read
+use Rattle.msi_query_parse.proofs.SourcesSpelled.{side_height, side_high, narrowed_is, join_rest, join_value}
 
 -- ---- what follows
 
--- a query ends at the end, or at a bracket
+-- what may come behind a query, behind its condition and behind its source
+abbrev pub ends_query : Kind → Bool
+ends_query k.End = true
+ends_query k.Close = true
+ends_query _ = false
+
+abbrev ends_condition : Kind → Bool
+ends_condition k.Order = true
+ends_condition kind_seen = ends_query kind_seen
+
+abbrev ends_source : Kind → Bool
+ends_source k.Where = true
+ends_source kind_seen = ends_condition kind_seen
+
 abbrev pub Ends : List ℕ → Type 0
-Ends b = (first_kind b ≡ k.End) ⊎ (first_kind b ≡ k.Close)
+Ends b = ends_query (first_kind b) ≡ true
 
-ends_other : (b : List ℕ) (other : Kind) → Ends b → (k.End ≡ other → ⊥) → (k.Close ≡ other → ⊥) → first_kind b ≡ other → ⊥
-ends_other b other (inl e) f g h = f (sym e ∙ h)
-ends_other b other (inr e) f g h = g (sym e ∙ h)
+-- a kind that a test tells from another
+told : (f : Kind → Bool) (c other : Kind) → f c ≡ true → f other ≡ false → c ≡ other → ⊥
+told f c other h g e = let both : true ≡ false = sym h ∙ ap f e ∙ g in cc
 
-ends_loose : (b : List ℕ) → Ends b → binds (first_kind b) ≡ 0
-ends_loose b (inl e) = ap binds e
-ends_loose b (inr e) = ap binds e
+source_loose : (c : Kind) → ends_source c ≡ true → binds c ≡ 0
+source_loose k.Where e = refl
+source_loose k.Order e = refl
+source_loose k.End e = refl
+source_loose k.Close e = refl
+source_loose _ e = absurd (cc)
 
--- what stands where a condition, or what ends the query, comes next
-where_other : (c : Option Phrase) (i : Input) (b : List ℕ) (other : Kind) → Leads i.ahead (where_symbols c) b → Ends b → (k.Where ≡ other → ⊥) → (k.End ≡ other → ⊥) → (k.Close ≡ other → ⊥) → kind i ≡ other → ⊥
-where_other None i b other h end w f g e = ends_other b other end f g (sym (kind_at i b h.spans) ∙ e)
-where_other (Some p) i b other h end w f g e = w (sym (mark_kind {i = i} {other = k.Where} (leads_next i (mark k.Where) (phrase_symbols p) b h).0 (λ x. cc)) ∙ e)
+as_condition_end : (c : Kind) → ends_query c ≡ true → ends_condition c ≡ true
+as_condition_end k.Order e = refl
+as_condition_end c e = e
 
-where_loose : (c : Option Phrase) (i : Input) (b : List ℕ) → Leads i.ahead (where_symbols c) b → Ends b → binds (kind i) ≡ 0
-where_loose None i b h end = ap binds (kind_at i b h.spans) ∙ ends_loose b end
-where_loose (Some p) i b h end = ap binds (mark_kind {i = i} {other = k.Where} (leads_next i (mark k.Where) (phrase_symbols p) b h).0 (λ x. cc))
+as_source_end : (c : Kind) → ends_condition c ≡ true → ends_source c ≡ true
+as_source_end k.Where e = refl
+as_source_end c e = e
+
+-- what stands where an order, or what ends the query, comes next
+order_starts : (cs : List ColumnName) (i : Input) (b : List ℕ) → Leads i.ahead (order_symbols cs) b → Ends b → ends_condition (kind i) ≡ true
+order_starts [] i b h end = ap ends_condition (kind_at i b h.spans) ∙ as_condition_end (first_kind b) end
+order_starts (c ∷ cs) i b h end = ap ends_condition (mark_kind {i = i} {other = k.Order} (leads_next i (mark k.Order) (mark k.By ∷ separated (map name_symbols (c ∷ cs))) b h).0 (λ x. cc))
+
+where_starts : (c : Option Phrase) (i : Input) (b : List ℕ) → Leads i.ahead (where_symbols c) b → ends_condition (first_kind b) ≡ true → ends_source (kind i) ≡ true
+where_starts None i b h end = ap ends_source (kind_at i b h.spans) ∙ as_source_end (first_kind b) end
+where_starts (Some p) i b h end = ap ends_source (mark_kind {i = i} {other = k.Where} (leads_next i (mark k.Where) (phrase_symbols p) b h).0 (λ x. cc))
 
 join_loose : (kind_seen : JoinKind) → binds (join_mark kind_seen) ≡ 0
 join_loose Inner = refl
@@ -131,13 +119,29 @@ joined_at_end : (i : Input) (a c b : List ℕ) (l r h : ℕ) → max (l + 1) r �
 unfolding next
 joined_at_end i a c b l r h e = ap (λ x. at i b x) e
 
-select_end : (i : Input) (a c b : List ℕ) (h n : ℕ) → max i.height h ≡ n
-    → at (at (record (next (at (next i) a (next i).height)) { height = 0 }) c (max (next (at (next i) a (next i).height)).height h)) b (max (next (at (next i) a (next i).height)).height h) ≡ at i b n
+selection_end : (i : Input) (a c b : List ℕ) (h n : ℕ) → max i.height h ≡ n
+    → at (at (record (next (at i a i.height)) { height = 0 }) c (max (next (at i a i.height)).height h)) b (max (next (at i a i.height)).height h) ≡ at i b n
 unfolding next
-select_end i a c b h n e = ap (λ x. at i b x) e
+selection_end i a c b h n e = ap (λ x. at i b x) e
+
+past_height : (i : Input) (a b : List ℕ) (h : ℕ) → at (at (next i) a (next i).height) b (max (next i).height h) ≡ at i b (max i.height h)
+unfolding next
+past_height i a b h = refl
 
 leads_both : (s t : List Symbol) (a b c : List ℕ) → Leads a s b → Leads b t c → Leads a (s ++ t) c
 leads_both s t a b c h g = leads_on h g
+
+-- SELECT, and what stands behind it
+select_symbols_split : (c : SelectClauses) (s : Source) (a e : List ℕ) → Leads a (source_symbols (query_of c s)) e
+    → (b : List ℕ) × Leads a (mark k.Select ∷ distinct_symbols c.is_distinct) b × Leads b (column_symbols c.columns ++ mark k.From ∷ source_symbols s ++ back_symbols c) e
+select_symbols_split c s a e h =
+    let outer = leads_split (front_symbols c ++ source_symbols s) (back_symbols c) a e h in
+    let inner = leads_split (front_symbols c) (source_symbols s) a outer.0 outer.1 in
+    let from = leads_split (mark k.Select ∷ distinct_symbols c.is_distinct ++ column_symbols c.columns) (mark k.From ∷ []) a inner.0 inner.1 in
+    let first = leads_split (mark k.Select ∷ distinct_symbols c.is_distinct) (column_symbols c.columns) a from.0 from.1 in
+    let source_part = leads_both (mark k.From ∷ []) (source_symbols s) from.0 inner.0 outer.0 from.2 inner.2 in
+    let middle = leads_both (column_symbols c.columns) (mark k.From ∷ source_symbols s) first.0 from.0 outer.0 first.2 source_part in
+    (first.0, first.1, leads_both (column_symbols c.columns ++ mark k.From ∷ source_symbols s) (back_symbols c) first.0 outer.0 e middle outer.2)
 
 -- past a token, a level higher
 leads_up : (i : Input) (c : Kind) (symbols : List Symbol) (b : List ℕ) → Leads i.ahead (mark c ∷ symbols) b → Next i (mark c) × Leads (risen i).ahead symbols b
@@ -146,7 +150,7 @@ leads_up i c symbols b h = let l = leads_next i (mark c) symbols b h in (l.0, l.
 
 side_low : {d : ℕ} (s : Source) → source_height s < d → side_height s ≤ d
 side_low (whole_table n) h = omega arith
-side_low (query_of names from on) h = omega arith
+side_low (query_of c from) h = omega arith
 side_low (both_of kind_seen l r on) h = omega arith
 
 plain_low : {d : ℕ} (s : Source) → is_query s ≡ false → side_height s ≤ d
@@ -155,7 +159,7 @@ plain_low {d} s e = let none : side_height s ≡ 0 = ap (λ t. if t then source_
 plain_leads : (s : Source) (a b : List ℕ) → is_query s ≡ false → Leads a (source_symbols s) b → Leads a (in_brackets s (source_symbols s)) b
 plain_leads (whole_table n) a b e h = h
 plain_leads (both_of kind_seen l r on) a b e h = h
-plain_leads (query_of names from on) a b e h = absurd (cc)
+plain_leads (query_of c from) a b e h = absurd (cc)
 
 module _ (d : ℕ) (below : Reader Query) (reads : ReadsQuery d below) where
   side_read : (s : Source) (i : Input) (b : List ℕ) → is_join s ≡ false → is_source s ≡ true → side_height s ≤ d → Leads i.ahead (in_brackets s (source_symbols s)) b
@@ -166,19 +170,19 @@ module _ (d : ℕ) (below : Reader Query) (reads : ReadsQuery d below) where
       let off = sees_no k.Open i (λ e. let f : is_name (kind i) ≡ false = ap is_name e in let g : is_name (kind i) ≡ true = (named_here i n l.0).0 in let both : true ≡ false = sym g ∙ f in cc) in
       let level : i.height ≡ max i.height 0 = omega arith in
       ap (λ t. if t then bracketed_query d below i else table_named i) off ∙ table_read n i l.0 ∙ ap (λ y. Ok (table n no_clauses, y)) (next_at i b (max i.height 0) l.1.spans level)
-  side_read (query_of names from on) i b no_join rules low h =
-      let s = query_of names from on in
+  side_read (query_of c from) i b no_join rules low h =
+      let s = query_of c from in
       let l = leads_next i (mark k.Open) (source_symbols s ++ mark k.Close ∷ []) b h in
       let m = next i in
       let p = leads_split (source_symbols s) (mark k.Close ∷ []) m.ahead b l.1 in
       let place = at m p.0 (max m.height (source_height s + 1)) in
-      let c = leads_next place (mark k.Close) [] b p.2 in
-      let is = mark_kind {i = place} {other = k.Close} c.0 (λ x. cc) in
+      let close = leads_next place (mark k.Close) [] b p.2 in
+      let is = mark_kind {i = place} {other = k.Close} close.0 (λ x. cc) in
       let opens = mark_kind {i = i} {other = k.Open} l.0 (λ x. cc) in
       ap (λ t. if t then bracketed_query d below i else table_named i) (sees_yes k.Open i opens)
       ∙ ap (λ t. if t then Err (refusal expected.FewerLevels i) else reading.in_brackets d below i) (some_deep d (omega arith))
-      ∙ then_read _ (reads s m p.0 refl rules (omega arith) p.1 (inr (sym (kind_at place p.0 refl) ∙ is)))
-      (then_read _ (expect_read k.Close expected.CloseBracket place is) (ap (λ y. Ok (query_meant s, y)) (close_at i p.0 b (source_height s + 1) c.1.spans)))
+      ∙ then_read _ (reads s m p.0 refl rules (omega arith) p.1 (ap ends_query (sym (kind_at place p.0 refl) ∙ is)))
+      (then_read _ (expect_read k.Close expected.CloseBracket place is) (ap (λ y. Ok (query_meant s, y)) (close_at i p.0 b (source_height s + 1) close.1.spans)))
   side_read (both_of kind_seen l r on) i b no_join rules low h = absurd (cc)
 
   -- ---- joins
@@ -238,8 +242,8 @@ module _ (d : ℕ) (below : Reader Query) (reads : ReadsQuery d below) where
         read = ap (λ t. if t then (table_named >>= joins d below) i else first_bracketed d below i) (named_here i n l.0).0
             ∙ then_read _ (table_read n i l.0) (ap (joins d below (table n no_clauses)) (next_at i b 0 l.1.spans flat));
       }
-  source_reached (query_of names from on) i b rules low room flat h more loose no_dot =
-      let s = query_of names from on in
+  source_reached (query_of c from) i b rules low room flat h more loose no_dot =
+      let s = query_of c from in
       let l = leads_next i (mark k.Open) (source_symbols s ++ mark k.Close ∷ []) b h in
       let opens = mark_kind {i = i} {other = k.Open} l.0 (λ x. cc) in
       let lowered : max i.height (source_height s + 1) - 1 ≡ source_height s = omega arith in
@@ -277,48 +281,77 @@ module _ (d : ℕ) (below : Reader Query) (reads : ReadsQuery d below) where
 
   -- ---- queries
 
-  select_read : (names : List ColumnName) (s : Source) (on : Option Phrase) (i : Input) (b : List ℕ) → d ≤ 200 → is_source (query_of names s on) ≡ true → source_height s ≤ d → Leads i.ahead (source_symbols (query_of names s on)) b → Ends b
-      → select d below i ≡ Ok (query_meant (query_of names s on), at i b (max i.height (source_height s + 1)))
-  unfolding select narrowed
-  select_read names s on i b deep rules low h end =
+  selection_read : (c : SelectClauses) (s : Source) (i : Input) (b : List ℕ) → d ≤ 200 → is_source (query_of c s) ≡ true → source_height s ≤ d
+      → Leads i.ahead (column_symbols c.columns ++ mark k.From ∷ source_symbols s ++ back_symbols c) b → Ends b
+      → selection d below c.is_distinct i ≡ Ok (query_meant (query_of c s), at i b (max i.height (source_height s + 1)))
+  unfolding selection narrowed
+  selection_read c s i b deep rules low h end =
       let good = both_right _ _ rules in
       let parts = both_left _ _ rules in
       let no_query = denied _ (both_right _ _ parts) in
-      let l = leads_next i (mark k.Select) ((column_symbols names ++ mark k.From ∷ source_symbols s) ++ where_symbols on) b h in
-      let m = next i in
-      let outer = leads_split (column_symbols names ++ mark k.From ∷ source_symbols s) (where_symbols on) m.ahead b l.1 in
-      let inner = leads_split (column_symbols names) (mark k.From ∷ source_symbols s) m.ahead outer.0 outer.1 in
-      let cols = at m inner.0 m.height in
+      let outer = leads_split (column_symbols c.columns ++ mark k.From ∷ source_symbols s) (back_symbols c) i.ahead b h in
+      let back = leads_split (where_symbols c.condition) (order_symbols c.order) outer.0 b outer.2 in
+      let inner = leads_split (column_symbols c.columns) (mark k.From ∷ source_symbols s) i.ahead outer.0 outer.1 in
+      let cols = at i inner.0 i.height in
       let f = leads_next cols (mark k.From) (source_symbols s) outer.0 inner.2 in
       let from = mark_kind {i = cols} {other = k.From} f.0 (λ x. cc) in
       let flat = record (next cols) { height = 0 } in
       let place = at flat outer.0 (source_height s) in
-      let tail = outer.2 in
-      let unseen = join_unseen place (where_other on place b k.Inner tail end (λ x. cc) (λ x. cc) (λ x. cc)) (where_other on place b k.Left tail end (λ x. cc) (λ x. cc) (λ x. cc)) in
+      let last = at place back.0 0 in
+      let order_end : ends_condition (first_kind back.0) ≡ true = ap ends_condition (sym (kind_at last back.0 refl)) ∙ order_starts c.order last b back.2 end in
+      let stop = where_starts c.condition place back.0 back.1 order_end in
+      let first_stop : ends_source (first_kind outer.0) ≡ true = ap ends_source (sym (kind_at place outer.0 refl)) ∙ stop in
+      let unseen = join_unseen place (told ends_source (kind place) k.Inner stop refl) (told ends_source (kind place) k.Left stop refl) in
       let reached_source = source_reached s flat outer.0 (both_left _ _ parts) low (plain_low s no_query) refl (plain_leads s flat.ahead outer.0 no_query f.1) (λ e. let g : true ≡ false = sym e ∙ no_query in cc)
-      (ap binds (sym (kind_at place outer.0 refl)) ∙ where_loose on place b tail end)
-      (λ e. where_other on place b k.Dot tail end (λ x. cc) (λ x. cc) (λ x. cc) (kind_at place outer.0 refl ∙ e)) in
-      let o = option_map expression_of on in
+      (source_loose (first_kind outer.0) first_stop) (told ends_source (first_kind outer.0) k.Dot first_stop refl) in
+      let o = option_map expression_of c.condition in
       let left_at = at flat outer.0 (max (next cols).height (min (source_height s + 1) (2 ^ 64 - 1))) in
-      let read_where = where_read (narrowed_query (query_meant s)) (query_meant s) on left_at b good tail (ends_loose b end) (ends_other b k.Dot end (λ x. cc) (λ x. cc)) (ends_other b k.Where end (λ x. cc) (λ x. cc)) in
+      let order_stop = as_source_end (first_kind back.0) order_end in
+      let read_where = where_read (narrowed_query (query_meant s)) (query_meant s) c.condition left_at back.0 good back.1 (source_loose (first_kind back.0) order_stop)
+      (told ends_source (first_kind back.0) k.Dot order_stop refl) (told ends_condition (first_kind back.0) k.Where order_end refl) in
+      let order_at = at left_at back.0 left_at.height in
+      let read_order = order_read c.order order_at b back.2 (told ends_query (first_kind b) k.Order end refl) (told ends_query (first_kind b) k.Comma end refl) (told ends_query (first_kind b) k.Dot end refl) in
       let capped : max i.height (min (source_height s + 1) (2 ^ 64 - 1)) ≡ max i.height (source_height s + 1) = omega arith in
-      then_read _ (expect_read k.Select expected.Select i (mark_kind l.0 (λ x. cc)))
-      (then_read _ (selected_read names m inner.0 inner.1 (sym (kind_at cols inner.0 refl) ∙ from))
+      then_read _ (selected_read c.columns i inner.0 inner.1 (sym (kind_at cols inner.0 refl) ∙ from))
       (then_read _ (expect_read k.From expected.From cols from)
       (then_read _ (reached_source.read ∙ joins_stop reached_source.turns_left (query_meant s) place unseen)
       (then_read _ read_where
-      (ap (λ q. Ok (projected_query q (map bytes_of names), at left_at b left_at.height)) (narrowed_is (query_meant s) o)
-      ∙ ap (λ y. Ok (query_meant (query_of names s on), y)) (select_end i inner.0 outer.0 b (min (source_height s + 1) (2 ^ 64 - 1)) (max i.height (source_height s + 1)) capped))))))
+      (then_read _ read_order
+      (ap (λ q. Ok (ordered_query (once_each c.is_distinct (projected_query q (map bytes_of c.columns))) (map bytes_of c.order), at order_at b order_at.height)) (narrowed_is (query_meant s) o)
+      ∙ ap (λ y. Ok (query_meant (query_of c s), y)) (selection_end i inner.0 back.0 b (min (source_height s + 1) (2 ^ 64 - 1)) (max i.height (source_height s + 1)) capped))))))
+
+  distinct_read : (t : Bool) (i : Input) (b : List ℕ) → Leads i.ahead (distinct_symbols t) b → (first_kind b ≡ k.Distinct → ⊥) → (sees k.Distinct i ≡ t) × (after k.Distinct i ≡ at i b i.height)
+  distinct_read true i b h other =
+      let l = leads_next i (mark k.Distinct) [] b h in
+      let on = sees_yes k.Distinct i (mark_kind l.0 (λ x. cc)) in
+      (on, after_yes k.Distinct i on ∙ next_at i b i.height l.1.spans refl)
+  distinct_read false i b h other =
+      let off = sees_no k.Distinct i (λ e. other (sym (kind_at i b h.spans) ∙ e)) in
+      (off, after_no k.Distinct i off ∙ ap (λ x. at i x i.height) h.spans)
+
+  select_read : (c : SelectClauses) (s : Source) (i : Input) (b : List ℕ) → d ≤ 200 → is_source (query_of c s) ≡ true → source_height s ≤ d → Leads i.ahead (source_symbols (query_of c s)) b → Ends b
+      → select d below i ≡ Ok (query_meant (query_of c s), at i b (max i.height (source_height s + 1)))
+  unfolding select
+  select_read c s i b deep rules low h end =
+      let p = select_symbols_split c s i.ahead b h in
+      let l = leads_next i (mark k.Select) (distinct_symbols c.is_distinct) p.0 p.1 in
+      let m = next i in
+      let x = at m p.0 m.height in
+      let cols = leads_split (column_symbols c.columns ++ mark k.From ∷ source_symbols s) (back_symbols c) p.0 b p.2 in
+      let first = leads_split (column_symbols c.columns) (mark k.From ∷ source_symbols s) p.0 cols.0 cols.1 in
+      let each = distinct_read c.is_distinct m p.0 l.1 (λ e. not_distinct c.columns x first.0 first.1 (kind_at x p.0 refl ∙ e)) in
+      then_read _ (expect_read k.Select expected.Select i (mark_kind l.0 (λ x. cc)))
+      (ap₂ (λ t y. selection d below t y) each.0 each.1 ∙ selection_read c s x b deep rules low p.2 end ∙ ap (λ y. Ok (query_meant (query_of c s), y)) (past_height i p.0 b (source_height s + 1)))
 
 pub query_read : (d : ℕ) → d ≤ 201 → ReadsQuery d (query d)
 unfolding query
 query_read zero deep s i b is rules low h end = absurd (omega arith)
-query_read (suc d) deep (query_of names s on) i b is rules low h end = select_read d (query d) (query_read d (omega arith)) names s on i b (omega arith) rules (omega arith) h end
+query_read (suc d) deep (query_of c s) i b is rules low h end = select_read d (query d) (query_read d (omega arith)) c s i b (omega arith) rules (omega arith) h end
 query_read (suc d) deep (whole_table n) i b is rules low h end = absurd (cc)
 query_read (suc d) deep (both_of kind_seen l r on) i b is rules low h end = absurd (cc)
 
 pub select_spells : (text : List ℕ) (q : Query) → SpellsSelect text q → whole (query 201) text ≡ Ok q
 select_spells text q s =
     let high = s.height in
-    let read = query_read 201 (omega arith) s.source (start_of text) s.symbols.rest (both_left _ _ s.rules) (both_right _ _ s.rules) (omega arith) (record { spans = s.symbols.spans }) (inl (end_kind s.symbols.rest s.symbols.end)) in
+    let read = query_read 201 (omega arith) s.source (start_of text) s.symbols.rest (both_left _ _ s.rules) (both_right _ _ s.rules) (omega arith) (record { spans = s.symbols.spans }) (ap ends_query (end_kind s.symbols.rest s.symbols.end)) in
     whole_read (query 201) text _ _ read s.symbols.end ∙ ap Ok s.value

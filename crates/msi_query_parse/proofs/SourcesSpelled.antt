@@ -4,7 +4,7 @@ use Rattle.std.proofs.lemmas.Bool.{le-leb}
 use Rattle.msi_query_expressions.specs.Expressions.{Expression}
 use Rattle.msi_query_expressions.specs.declared.joins.JoinKind.{JoinKind}
 use Rattle.msi_query_expressions.specs.declared.joins.JoinKind.TheVariants.{Inner, Left}
-use Rattle.msi_query.specs.Queries.{Query, table, join, no_clauses, narrowed_query, projected_query}
+use Rattle.msi_query.specs.Queries.{Query, table, join, no_clauses, narrowed_query, projected_query, ordered_query}
 use Rattle.msi_query_tokens.specs.declared.token.Kind.{Kind}
 use Rattle.msi_query_tokens.specs.declared.token.Kind.TheVariants as k
 use Rattle.msi_query_tokens.specs.declared.refusal.Expected.TheVariants as expected
@@ -14,61 +14,14 @@ use Rattle.msi_query_tokens.specs.Symbols.{Symbol, mark, named}
 use Rattle.msi_query_tokens.proofs.SymbolLemmas.{behind_shorter}
 use Rattle.msi_query_tokens.proofs.StepLemmas.{Next, Leads, stays, leads_on, then_ok, ok_value, ok_place, refused, next_to, next_height, next_mark, sees_ok, after_yes, after_no, expect_ok, risen, rise_then, risen_to, risen_height}
 use Rattle.msi_query_parse.specs.Reading as reading
-use Rattle.msi_query_parse.specs.Reading.{name, column, columns, one_column, selected, condition, table_named, narrowed, joined_by, sees_join, bracketed_query, side, joined_at, joined, joins_from, joins, joins_behind, first_bracketed, source, select, query, whole}
-use Rattle.msi_query_parse.specs.Grammar.{Phrase, ColumnName, Source, whole as whole_table, both_of, query_of, bytes_of, name_symbols, column_symbols, in_brackets, join_mark, source_symbols, is_query, is_join, is_source, is_where, source_height, query_meant, narrowed_by, where_symbols, phrase_symbols, expression_of, separated, SpellsSelect}
+use Rattle.msi_query_parse.specs.Reading.{name, selected, order, condition, table_named, narrowed, once_each, joined_by, sees_join, bracketed_query, side, joined_at, joined, joins_from, joins, joins_behind, first_bracketed, source, selection, select, query, whole}
+use Rattle.msi_query_parse.specs.Grammar.{Phrase, SelectClauses, Source, whole as whole_table, both_of, query_of, bytes_of, distinct_symbols, column_symbols, order_symbols, back_symbols, in_brackets, join_mark, source_symbols, is_query, is_join, is_source, is_where, source_height, query_meant, narrowed_by, where_symbols, phrase_symbols, expression_of, SpellsSelect}
 use Rattle.msi_query_parse.proofs.Wholes.{whole_ok}
-use Rattle.msi_query_parse.proofs.NamesSpelled.{name_ok, column_ok}
+use Rattle.msi_query_parse.proofs.NamesSpelled.{name_ok}
 use Rattle.msi_query_parse.proofs.ExpressionsSpelled.{both_true, condition_ok}
-use Rattle.msi_query_parse.proofs.ListLemmas.{Item, listed_ok}
-use Rattle.msi_query_parse.proofs.ValueLemmas.{goes_map}
+use Rattle.msi_query_parse.proofs.ExpressionsRead.{leads_split}
+use Rattle.msi_query_parse.proofs.ColumnLemmas.{ListRead, selected_ok, order_ok}
 use Rattle.msi_query_parse.proofs.ChangesSpelled.{chosen, where_ok}
-
--- ---- columns
-
-abbrev pub with_names : List (List ℕ) → List ColumnName → List (List ℕ)
-with_names found xs = found ++ map bytes_of xs
-
-abbrev pub any_name : ColumnName → Bool
-any_name c = true
-
-name_item : (found more : List (List ℕ)) (i j : Input) → one_column found i ≡ Ok (more, j) → Item (List (List ℕ)) ColumnName expected.Columns one_column name_symbols any_name with_names found more i j
-name_item found more i j h =
-    let g = then_ok (column expected.Columns i) _ more j h in
-    let c = column_ok expected.Columns i g.place g.found g.first in
-    let past = ok_place _ more g.place j g.second in
-    record {
-      it = c.name;
-      good = refl;
-      leads = subst (λ (y : Input). Leads i.ahead (name_symbols c.name) y.ahead) past c.leads;
-      value = ap (λ x. found ++ x ∷ []) c.is ∙ ok_value _ more g.place j g.second;
-      height = sym (ap (λ (y : Input). y.height) past) ∙ c.height;
-    }
-
-pub record SelectedRead (i j : Input) (names : List (List ℕ)) : Type 0 where
-  pub it : List ColumnName
-  pub leads : Leads i.ahead (column_symbols it) j.ahead
-  pub value : map bytes_of it ≡ names
-  pub height : j.height ≡ i.height
-
-selected_from : (i j : Input) (names : List (List ℕ)) (t : Bool) → sees k.Star i ≡ t → (if t then pure [] else columns) (after k.Star i) ≡ Ok (names, j) → SelectedRead i j names
-unfolding left
-selected_from i j names true s h =
-    let past : next i ≡ j = sym (after_yes k.Star i s) ∙ ok_place [] names (after k.Star i) j h in
-    record { it = []; value = ok_value [] names (after k.Star i) j h; height = next_height i j past; leads = next_to (next_mark i k.Star (mark k.Star) (sees_ok k.Star i s) (λ x. cc) refl) past (stays refl) }
-selected_from i j names false s h =
-    let m = after k.Star i in
-    let same : m ≡ i = after_no k.Star i s in
-    let xs = listed_ok (List (List ℕ)) ColumnName expected.Columns one_column name_symbols any_name with_names name_item (goes_map bytes_of) (length m.ahead) [] names m j h in
-    record {
-      it = xs.first ∷ xs.others;
-      value = xs.value;
-      height = xs.height ∙ ap (λ (y : Input). y.height) same;
-      leads = subst (λ (y : Input). Leads y.ahead (separated (map name_symbols (xs.first ∷ xs.others))) j.ahead) same xs.leads;
-    }
-
-selected_ok : (i j : Input) (names : List (List ℕ)) → selected i ≡ Ok (names, j) → SelectedRead i j names
-unfolding selected
-selected_ok i j names h = selected_from i j names (sees k.Star i) refl h
 
 -- ---- sides
 
@@ -78,16 +31,16 @@ side_height s = if is_query s then source_height s + 1 else 0
 
 pub side_high : (s : Source) → is_join s ≡ false → max 1 (side_height s) ≡ source_height s + 1
 side_high (whole_table name) e = omega arith
-side_high (query_of names from on) e = omega arith
+side_high (query_of c from) e = omega arith
 side_high (both_of kind l r on) e = absurd (cc)
 
 bracket_symbols : (s : Source) (symbols : List Symbol) → is_query s ≡ true → in_brackets s symbols ≡ mark k.Open ∷ symbols ++ mark k.Close ∷ []
-bracket_symbols (query_of names from on) symbols e = refl
+bracket_symbols (query_of c from) symbols e = refl
 bracket_symbols (whole_table name) symbols e = absurd (cc)
 bracket_symbols (both_of kind l r on) symbols e = absurd (cc)
 
 query_no_join : (s : Source) → is_query s ≡ true → is_join s ≡ false
-query_no_join (query_of names from on) e = refl
+query_no_join (query_of c from) e = refl
 query_no_join (whole_table name) e = absurd (cc)
 query_no_join (both_of kind l r on) e = absurd (cc)
 
@@ -161,6 +114,15 @@ join_rest d below before kind_seen = expect k.Join expected.Join >> (side d belo
 pub narrowed_is : (q : Query) (o : Option Expression) → chosen (narrowed_query q) q o ≡ narrowed_by q o
 narrowed_is q None = refl
 narrowed_is q (Some e) = refl
+
+-- SELECT, and what stands behind it
+select_symbols_lead : (c : SelectClauses) (s : Source) (a b e : List ℕ) → Leads a (mark k.Select ∷ distinct_symbols c.is_distinct) b
+    → Leads b (column_symbols c.columns ++ mark k.From ∷ source_symbols s ++ back_symbols c) e → Leads a (source_symbols (query_of c s)) e
+select_symbols_lead c s a b e h g =
+    let first = leads_split (column_symbols c.columns ++ mark k.From ∷ source_symbols s) (back_symbols c) b e g in
+    let second = leads_split (column_symbols c.columns) (mark k.From ∷ source_symbols s) b first.0 first.1 in
+    let third = leads_split (mark k.From ∷ []) (source_symbols s) second.0 first.0 second.2 in
+    leads_on (leads_on (leads_on (leads_on h second.1) third.1) third.2) first.2
 
 module _ (d : ℕ) (below : Reader Query) (gives : GivesQuery d below) where
   bracketed_from : (i j : Input) (q : Query) (t : Bool) → kind i ≡ k.Open → (if t then Err (refusal expected.FewerLevels i) else reading.in_brackets d below i) ≡ Ok (q, j) → SideRead d i j q
@@ -300,21 +262,30 @@ module _ (d : ℕ) (below : Reader Query) (gives : GivesQuery d below) where
 
   -- ---- queries
 
-  query_rules : (names : List ColumnName) (s : Source) (on : Option Phrase) → is_source s ≡ true → is_query s ≡ false → is_where on ≡ true → is_source (query_of names s on) ≡ true
-  query_rules names s on f g h = both_true _ _ (both_true _ _ f (ap not g)) h
+  query_rules : (c : SelectClauses) (s : Source) → is_source s ≡ true → is_query s ≡ false → is_where c.condition ≡ true → is_source (query_of c s) ≡ true
+  query_rules c s f g h = both_true _ _ (both_true _ _ f (ap not g)) h
 
   plain_source : (s : Source) (symbols : List Symbol) → is_query s ≡ false → in_brackets s symbols ≡ symbols
   plain_source (whole_table name) symbols e = refl
   plain_source (both_of kind_seen l r on) symbols e = refl
-  plain_source (query_of names from on) symbols e = absurd (cc)
+  plain_source (query_of c from) symbols e = absurd (cc)
 
-  select_ok : (i j : Input) (q : Query) → d ≤ 200 → select d below i ≡ Ok (q, j) → QueryRead (suc d) i j q
-  unfolding select narrowed
-  select_ok i j q deep h =
-      let a = then_ok (expect k.Select expected.Select i) _ q j h in
-      let first = expect_ok k.Select expected.Select i a.place a.found a.first in
-      let b = then_ok (selected a.place) _ q j a.second in
-      let cols = selected_ok a.place b.place b.found b.first in
+  -- what stands behind SELECT, or SELECT DISTINCT
+  record SelectionRead (is_distinct : Bool) (i j : Input) (q : Query) : Type 0 where
+    clauses : SelectClauses
+    distinct : clauses.is_distinct ≡ is_distinct
+    source : Source
+    rules : is_source (query_of clauses source) ≡ true
+    low : source_height source ≤ d
+    height : j.height ≡ max i.height (source_height source + 1)
+    leads : Leads i.ahead (column_symbols clauses.columns ++ mark k.From ∷ source_symbols source ++ back_symbols clauses) j.ahead
+    value : query_meant (query_of clauses source) ≡ q
+
+  selection_ok : (is_distinct : Bool) (i j : Input) (q : Query) → d ≤ 200 → selection d below is_distinct i ≡ Ok (q, j) → SelectionRead is_distinct i j q
+  unfolding selection narrowed
+  selection_ok is_distinct i j q deep h =
+      let b = then_ok (selected i) _ q j h in
+      let cols = selected_ok i b.place b.found b.first in
       let c = then_ok (expect k.From expected.From b.place) _ q j b.second in
       let from = expect_ok k.From expected.From b.place c.place c.found c.first in
       let flat = record c.place { height = 0 } in
@@ -324,26 +295,61 @@ module _ (d : ℕ) (below : Reader Query) (gives : GivesQuery d below) where
       let up = record g.place { height = max c.place.height (min (g.place.height + 1) (2 ^ 64 - 1)) } in
       let n = then_ok (narrowed g.found up) _ q j g.second in
       let w = where_ok (narrowed_query g.found) g.found up n.place n.found n.first in
-      let past = ok_place _ q n.place j n.second in
-      let h1 = next_height i a.place first.1 in
+      let o = then_ok (order n.place) _ q j n.second in
+      let names = order_ok n.place o.place o.found o.first in
+      let past = ok_place _ q o.place j o.second in
       let h2 = cols.height in
       let h3 = next_height b.place c.place from.1 in
       let h4 = s.height in
       let h5 = s.low in
       let h6 = w.height in
-      let h7 : n.place.height ≡ j.height = ap (λ (y : Input). y.height) past in
+      let h7 = names.height in
+      let h8 : o.place.height ≡ j.height = ap (λ (y : Input). y.height) past in
       let src = subst (λ x. Leads flat.ahead x g.place.ahead) (plain_source s.source (source_symbols s.source) joined_read.no_query) s.leads in
-      let tail = subst (λ (y : Input). Leads g.place.ahead (where_symbols w.condition) y.ahead) past w.leads in
+      let last = subst (λ (y : Input). Leads n.place.ahead (order_symbols names.it) y.ahead) past names.leads in
+      let narrow : narrowed_by (query_meant s.source) (option_map expression_of w.condition) ≡ n.found =
+      ap (λ x. narrowed_by x (option_map expression_of w.condition)) s.value ∙ sym (narrowed_is g.found (option_map expression_of w.condition)) ∙ w.value in
+      let made : SelectClauses = record { is_distinct = is_distinct; columns = cols.it; condition = w.condition; order = names.it } in
       record {
-        source = query_of cols.it s.source w.condition;
-        is = refl;
-        rules = query_rules cols.it s.source w.condition s.rules joined_read.no_query w.good;
+        clauses = made;
+        distinct = refl;
+        source = s.source;
+        rules = query_rules made s.source s.rules joined_read.no_query w.good;
         low = omega arith;
         height = omega arith;
-        leads = next_to (next_mark i k.Select (mark k.Select) first.0 (λ x. cc) refl) first.1
-            (leads_on (leads_on cols.leads (next_to (next_mark b.place k.From (mark k.From) from.0 (λ x. cc) refl) from.1 src)) tail);
-        value = ap₂ projected_query (ap (λ x. narrowed_by x (option_map expression_of w.condition)) s.value ∙ sym (narrowed_is g.found (option_map expression_of w.condition)) ∙ w.value) cols.value
-            ∙ ok_value _ q n.place j n.second;
+        leads = leads_on (leads_on cols.leads (next_to (next_mark b.place k.From (mark k.From) from.0 (λ x. cc) refl) from.1 src)) (leads_on w.leads last);
+        value = ap (λ x. ordered_query (once_each is_distinct (projected_query x (map bytes_of cols.it))) (map bytes_of names.it)) narrow
+            ∙ ap₂ (λ x y. ordered_query (once_each is_distinct (projected_query n.found x)) y) cols.value names.value ∙ ok_value _ q o.place j o.second;
+      }
+
+  distinct_leads : (i : Input) (t : Bool) → sees k.Distinct i ≡ t → Leads i.ahead (distinct_symbols t) (after k.Distinct i).ahead × ((after k.Distinct i).height ≡ i.height)
+  distinct_leads i true s = let past : next i ≡ after k.Distinct i = sym (after_yes k.Distinct i s) in
+      (next_to (next_mark i k.Distinct (mark k.Distinct) (sees_ok k.Distinct i s) (λ x. cc) refl) past (stays refl), next_height i (after k.Distinct i) past)
+  distinct_leads i false s = let same : after k.Distinct i ≡ i = after_no k.Distinct i s in (stays (ap (λ (y : Input). y.ahead) (sym same)), ap (λ (y : Input). y.height) same)
+
+  select_ok : (i j : Input) (q : Query) → d ≤ 200 → select d below i ≡ Ok (q, j) → QueryRead (suc d) i j q
+  unfolding select
+  select_ok i j q deep h =
+      let a = then_ok (expect k.Select expected.Select i) _ q j h in
+      let first = expect_ok k.Select expected.Select i a.place a.found a.first in
+      let t = sees k.Distinct a.place in
+      let each = distinct_leads a.place t refl in
+      let m = after k.Distinct a.place in
+      let s = selection_ok t m j q deep a.second in
+      let h1 = next_height i a.place first.1 in
+      let h2 = each.1 in
+      let h3 = s.height in
+      let low = s.low in
+      let each_leads = subst (λ x. Leads a.place.ahead (distinct_symbols x) m.ahead) (sym s.distinct) each.0 in
+      let front = next_to (next_mark i k.Select (mark k.Select) first.0 (λ x. cc) refl) first.1 each_leads in
+      record {
+        source = query_of s.clauses s.source;
+        is = refl;
+        rules = s.rules;
+        low = omega arith;
+        height = omega arith;
+        leads = select_symbols_lead s.clauses s.source i.ahead m.ahead j.ahead front s.leads;
+        value = s.value;
       }
 
 pub query_ok : (d : ℕ) → d ≤ 201 → GivesQuery d (query d)

@@ -2,7 +2,7 @@
 use Rattle.std.proofs.Common.{◌≡◌, ℕ, true, List, Result, Ok, Err, refl, ◌∙◌, ap}
 use Rattle.msi_query_tokens.specs.declared.token.Kind.{Kind}
 use Rattle.msi_query_tokens.specs.declared.token.Kind.TheVariants as k
-use Rattle.msi_query_tokens.specs.declared.refusal.Expected.TheVariants.{NoOrder, End}
+use Rattle.msi_query_tokens.specs.declared.refusal.Expected.TheVariants.{End}
 use Rattle.msi_query_tokens.specs.declared.refusal.ParseError.{ParseError}
 use Rattle.msi_query_tokens.specs.Input.{Input, Outcome, Reader, and_then, pure, kind, refusal, ◌>>◌, start_of}
 use Rattle.msi_query_tokens.specs.Symbols.{ends}
@@ -12,7 +12,6 @@ use Rattle.msi_query_parse.specs.Reading.{end_by, end, without_rest, whole}
 
 end_from : (kind_seen : Kind) (i j : Input) (u : Unit {0}) → end_by kind_seen i ≡ Ok (u, j) → kind_seen ≡ k.End
 end_from k.End i j u e = refl
-end_from k.Order i j u e = refused (refusal NoOrder i) u j e
 end_from kind_seen i j u e = refused (refusal End i) u j e
 
 end_ok : (i j : Input) (u : Unit {0}) → end i ≡ Ok (u, j) → ends i.ahead ≡ true

@@ -1,12 +1,13 @@
 -- Operators: how tightly they bind, as printing has it, and what they make.
-use Rattle.std.specs.Prelude.{ℕ}
+use Rattle.std.specs.Prelude.{ℕ, Bool, false, if◌then◌else◌, nat_le}
+use Rattle.msi_table_values.specs.declared.value.Value.TheVariants as v
 use Rattle.msi_query_expressions.specs.declared.operators.BinaryOp.TheVariants as two
-use Rattle.msi_query_expressions.specs.Expressions.{Expression, both, either}
+use Rattle.msi_query_expressions.specs.Expressions.{Expression, literal, both, either}
 use Rattle.msi_query_expressions.specs.Folding.{folded_binary}
 use Rattle.msi_query_tokens.specs.declared.token.Kind.{Kind}
 use Rattle.msi_query_tokens.specs.declared.token.Kind.TheVariants as k
 
--- how tightly an operator between two operands binds; 0 for what is none
+-- how tightly an operator binds that stands between two operands, or IS behind one; 0 for what is none
 abbrev pub binds : Kind → ℕ
 binds k.Or = 1
 binds k.And = 2
@@ -16,6 +17,7 @@ binds k.Lt = 3
 binds k.Le = 3
 binds k.Gt = 3
 binds k.Ge = 3
+binds k.Is = 3
 binds k.BitOr = 4
 binds k.BitXor = 5
 binds k.BitAnd = 6
@@ -26,6 +28,11 @@ binds k.Sub = 8
 binds k.Star = 9
 binds k.Div = 9
 binds _ = 0
+
+-- an operator that stands between two operands
+abbrev pub links : Kind → Bool
+links k.Is = false
+links kind = nat_le 1 (binds kind)
 
 abbrev pub calculated : Kind → Expression → Expression → Expression
 calculated k.BitOr l r = folded_binary two.BitOr l r
@@ -49,3 +56,7 @@ linked k.Le l r = folded_binary two.Le l r
 linked k.Gt l r = folded_binary two.Gt l r
 linked k.Ge l r = folded_binary two.Ge l r
 linked kind l r = calculated kind l r
+
+-- a comparison with null: IS NULL, or IS NOT NULL
+abbrev pub null_compared : Bool → Expression → Expression
+null_compared is_not e = linked (if is_not then k.Ne else k.Eq) e (literal v.Null)

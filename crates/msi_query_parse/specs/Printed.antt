@@ -16,7 +16,7 @@ use Rattle.msi_query_tokens.specs.declared.token.Kind.TheVariants as k
 use Rattle.msi_query_parse.specs.declared.statement.Statement.{Statement}
 use Rattle.msi_query_parse.specs.declared.statement.Statement.TheVariants as any
 use Rattle.msi_query_parse.specs.Grammar.{Phrase, constant, reference, grouped, front, link, plain, phrase_height}
-use Rattle.msi_query_parse.specs.Grammar.{is_value, Source, whole, both_of, query_of, source_height}
+use Rattle.msi_query_parse.specs.Grammar.{is_value, Source, SelectClauses, whole, both_of, query_of, source_height}
 use Rattle.msi_query_parse.specs.Grammar.{SpellsExpression, SpellsSelect, SpellsInsert, SpellsUpdate, SpellsDelete}
 
 -- ---- expressions
@@ -72,11 +72,20 @@ is_readable_condition None = true
 is_readable_condition (Some e) = is_readable e
 
 abbrev pub are_readable_clauses : Clauses → Bool
-are_readable_clauses c = list_all is_readable_name c.columns && is_readable_condition c.condition
+are_readable_clauses c =
+    list_all is_readable_name c.columns && is_readable_condition c.condition && list_all is_readable_name c.order
 
 -- the source that a query prints as
+abbrev pub printed_clauses : Clauses → SelectClauses
+printed_clauses c = record {
+  is_distinct = c.is_distinct;
+  columns = map plain c.columns;
+  condition = option_map phrase_of c.condition;
+  order = map plain c.order;
+}
+
 abbrev pub selected : Clauses → Source → Source
-selected c from = query_of (map plain c.columns) from (option_map phrase_of c.condition)
+selected c from = query_of (printed_clauses c) from
 
 abbrev pub or_whole : Option (List ℕ) → Source → Source
 or_whole (Some name) source = whole name
@@ -97,7 +106,8 @@ abbrev pub is_readable_select : Query → Bool
 is_readable_select q = has_readable_parts q && nat_le (source_height (source_of q)) 200
 
 abbrev pub is_readable_insert : InsertQuery → Bool
-is_readable_insert q = is_readable_name q.table && list_all (list_all is_value) q.rows
+is_readable_insert q =
+    is_readable_name q.table && list_all is_readable_name q.columns && list_all (list_all is_value) q.rows
 
 abbrev pub is_readable_update : UpdateQuery → Bool
 is_readable_update q = is_readable_name q.table

@@ -8,7 +8,8 @@ use Rattle.msi_query_expressions.specs.Expressions.{Expression, literal, column 
 use Rattle.msi_query_expressions.specs.Folding.{folded_unary}
 use Rattle.msi_query_expressions.specs.declared.joins.JoinKind.TheVariants.{Inner, Left}
 use Rattle.msi_query.specs.Queries.{Query, table, join, no_clauses, narrowed as narrowed_by, narrowed_query}
-use Rattle.msi_query.specs.Queries.{projected_query, InsertQuery, UpdateQuery, DeleteQuery}
+use Rattle.msi_query.specs.Queries.{projected_query, ordered_query, distinct_query}
+use Rattle.msi_query.specs.Queries.{InsertQuery, UpdateQuery, DeleteQuery}
 use Rattle.msi_query_tokens.specs.declared.token.Kind.{Kind}
 use Rattle.msi_query_tokens.specs.declared.token.Kind.TheVariants as k
 use Rattle.msi_query_tokens.specs.declared.refusal.Expected.{Expected}
@@ -22,7 +23,7 @@ use Rattle.msi_query_tokens.specs.Input.{kind, sees, turns, enter, rise, leave, 
 use Rattle.msi_query_tokens.specs.Texts.{text, positive, negative}
 use Rattle.msi_query_parse.specs.declared.statement.Statement.{Statement}
 use Rattle.msi_query_parse.specs.declared.statement.Statement.TheVariants as any
-use Rattle.msi_query_parse.specs.Operators.{binds, linked}
+use Rattle.msi_query_parse.specs.Operators.{binds, linked, null_compared}
 
 -- ---- names
 
@@ -50,17 +51,35 @@ listed_from missing item (suc n) found = do
 abbrev pub listed : {A : Type 0} → Expected → (A → Reader A) → A → Reader A
 listed missing item found = λ i. listed_from missing item (turns i) found i
 
-abbrev pub one_column : List (List ℕ) → Reader (List (List ℕ))
-one_column found = (λ name. found ++ name ∷ []) <$> column expected.Columns
+abbrev pub one_column : Expected → List (List ℕ) → Reader (List (List ℕ))
+one_column missing found = (λ name. found ++ name ∷ []) <$> column missing
 
-abbrev pub columns : Reader (List (List ℕ))
-columns = listed expected.Columns one_column []
+abbrev pub columns : Expected → Reader (List (List ℕ))
+columns missing = listed missing (one_column missing) []
 
 -- none for a star
 unfoldable pub selected : Reader (List (List ℕ))
 selected = do
   is_all ← eat k.Star
-  if is_all then pure [] else columns
+  if is_all then pure [] else columns expected.Columns
+
+-- none where no order is asked for
+unfoldable pub order : Reader (List (List ℕ))
+order = do
+  is_ordered ← eat k.Order
+  if is_ordered then (expect k.By expected.By >> columns expected.Name) else pure []
+
+abbrev pub columns_in_brackets : Reader (List (List ℕ))
+columns_in_brackets = do
+  found ← columns expected.Name
+  expect k.Close expected.CloseBracket
+  pure found
+
+-- none where no columns are named
+unfoldable pub named_columns : Reader (List (List ℕ))
+named_columns = do
+  is_listed ← eat k.Open
+  if is_listed then columns_in_brackets else pure []
 
 -- ---- literals
 
@@ -108,6 +127,17 @@ term_by _ = refuse expected.Operand
 unfoldable pub term : Reader Expression
 term = peek >>= term_by
 
+-- no operator that binds more tightly goes on with a comparison
+abbrev pub compared : Expression → Kind → Reader Expression
+compared e kind = if nat_lt 3 (binds kind) then refuse expected.End else pure e
+
+-- behind IS
+unfoldable pub null_test : Expression → Reader Expression
+null_test left = do
+  is_not ← eat k.Not
+  expect k.Null expected.Null
+  peek >>= compared (null_compared is_not left)
+
 -- The first number is how high what is read may be. The reader is that of what stands one level below, whose number
 -- is how tightly an operator binds that it goes on with.
 module _ (depth : ℕ) (below : ℕ → Reader Expression) where
@@ -132,8 +162,12 @@ module _ (depth : ℕ) (below : ℕ → Reader Expression) where
   unfoldable pub operand : Reader Expression
   operand = peek >>= operand_by
 
+  abbrev pub behind : Expression → Kind → Reader Expression
+  behind left k.Is = null_test left
+  behind left kind = linked kind left <$> below (binds kind + 1)
+
   abbrev pub operation_by : Expression → Kind → Reader Expression
-  operation_by left kind = rise depth >> take_token >> linked kind left <$> below (binds kind + 1)
+  operation_by left kind = rise depth >> take_token >> behind left kind
 
   unfoldable pub operation : Expression → Reader Expression
   operation left = peek >>= operation_by left
@@ -176,6 +210,10 @@ unfoldable pub narrowed : Query → Reader Query
 narrowed query = do
   is_narrowed ← eat k.Where
   if is_narrowed then narrowed_query query <$> condition else pure query
+
+-- the same query, or with each of its rows once
+abbrev pub once_each : Bool → Query → Query
+once_each is_distinct query = if is_distinct then distinct_query query else query
 
 abbrev pub joined_by : Kind → Query → Query → Expression → Query
 joined_by k.Left left right on = join Left left right on no_clauses
@@ -231,16 +269,23 @@ module _ (depth : ℕ) (below : Reader Query) where
   unfoldable pub source : Reader Query
   source = λ i. if is_name (kind i) then (table_named >>= joins) i else first_bracketed i
 
-  unfoldable pub select : Reader Query
-  select = do
-    expect k.Select expected.Select
+  -- behind SELECT, or SELECT DISTINCT
+  unfoldable pub selection : Bool → Reader Query
+  selection is_distinct = do
     columns ← selected
     expect k.From expected.From
     outer ← enter
     found ← source
     leave outer
     query ← narrowed found
-    pure (projected_query query columns)
+    names ← order
+    pure (ordered_query (once_each is_distinct (projected_query query columns)) names)
+
+  unfoldable pub select : Reader Query
+  select = do
+    expect k.Select expected.Select
+    is_distinct ← eat k.Distinct
+    selection is_distinct
 
 -- queries whose joins are less high than the number
 unfoldable pub query : ℕ → Reader Query
@@ -255,16 +300,17 @@ one_row query = (λ values. record query { rows = query.rows ++ values ∷ [] })
 abbrev pub rows : InsertQuery → Reader InsertQuery
 rows query = listed expected.OpenBracket one_row query
 
-abbrev pub insert_into : List ℕ → InsertQuery
-insert_into into = record { table = into; rows = [] }
+abbrev pub insert_into : List ℕ → List (List ℕ) → InsertQuery
+insert_into into columns = record { table = into; columns = columns; rows = [] }
 
 unfoldable pub insert : Reader InsertQuery
 insert = do
   expect k.Insert expected.Insert
   expect k.Into expected.Into
   into ← name expected.Name
+  columns ← named_columns
   has_rows ← eat k.Values
-  if has_rows then rows (insert_into into) else pure (insert_into into)
+  if has_rows then rows (insert_into into columns) else pure (insert_into into columns)
 
 unfoldable pub assignment : UpdateQuery → Reader UpdateQuery
 assignment query = do
@@ -319,7 +365,6 @@ statement = peek >>= statement_by
 
 abbrev pub end_by : Kind → Reader (Unit {0})
 end_by k.End = pure tt
-end_by k.Order = refuse expected.NoOrder
 end_by _ = refuse expected.End
 
 unfoldable pub end : Reader (Unit {0})

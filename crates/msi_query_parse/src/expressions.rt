@@ -6,7 +6,7 @@ ghost use Rattle.msi_query_parse.specs.Nests.{Nests};
 
 use crate::grammar::Grammar;
 use crate::names::column;
-use crate::operators::{binds, linked};
+use crate::operators::{binds, linked, null_compared};
 use msi_query_expressions::expr::Expr;
 use msi_query_tokens::refusal::{Expected, ParseError};
 use msi_query_tokens::texts::{negative, positive, text};
@@ -16,6 +16,9 @@ use std::alloc::Global;
 
 /// What an operand in front of which an operator stands needs: no operator between two operands binds so tightly.
 const TIGHTEST: u8 = 10;
+
+/// How tightly comparisons bind.
+const COMPARISON: u8 = 3;
 
 #[tactic(auto, unfolding(crate::specs::Reading::term))]
 fn term(alloc: Global, tokens: &mut Tokens<'_>) -> Result<Expr, ParseError>
@@ -37,6 +40,19 @@ fn term(alloc: Global, tokens: &mut Tokens<'_>) -> Result<Expr, ParseError>
         }
         _ => Err(tokens.refuse(Expected::Operand)),
     }
+}
+
+/// Reads what follows `IS`. No operator that binds more tightly than a comparison goes on with it.
+#[tactic(auto, unfolding(crate::specs::Reading::null_test))]
+fn null_test(alloc: Global, tokens: &mut Tokens<'_>, left: Expr) -> Result<Expr, ParseError>
+    ensures { Reads (spec.null_test left tokens.old) result tokens.new }
+{
+    let is_not = tokens.eat(Kind::Not);
+    tokens.expect(Kind::Null, Expected::Null)?;
+    if binds(tokens.peek()) > COMPARISON {
+        return Err(tokens.refuse(Expected::End));
+    }
+    Ok(null_compared(alloc, is_not, left)?)
 }
 
 impl<F: Fn(Global, &mut Tokens<'_>, usize, u8) -> Result<Expr, ParseError>> Grammar<F> {
@@ -101,8 +117,13 @@ impl<F: Fn(Global, &mut Tokens<'_>, usize, u8) -> Result<Expr, ParseError>> Gram
         let kind = tokens.peek();
         tokens.rise(self.depth)?;
         tokens.take();
-        let right = self.expression(tokens, binds(kind) + 1)?;
-        Ok(linked(self.alloc, kind, left, right)?)
+        match kind {
+            Kind::Is => null_test(self.alloc, tokens, left),
+            _ => {
+                let right = self.expression(tokens, binds(kind) + 1)?;
+                Ok(linked(self.alloc, kind, left, right)?)
+            }
+        }
     }
 
     /// Goes on with the operators that bind at least as tightly as `least`.

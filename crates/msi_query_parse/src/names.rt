@@ -1,6 +1,6 @@
 //! Names of tables and columns.
 
-ghost use Rattle.std.specs.Prelude.{◌≡◌, ◌++◌, ◌∷◌, [], IfOk};
+ghost use Rattle.std.specs.Prelude.{◌≡◌, ◌++◌, ◌∷◌, [], IfOk, map};
 ghost use Rattle.msi_query_tokens.specs.Input.{Reads};
 ghost use Rattle.msi_query_parse.specs.Reading as spec;
 
@@ -60,17 +60,21 @@ fn with_name(names: Items<Text>, name: Text) -> Result<Items<Text>, AllocError>
     Ok(Items::from_vec(names))
 }
 
-fn columns(alloc: Global, tokens: &mut Tokens<'_>) -> Result<Items<Text>, ParseError>
-    ensures { Reads (spec.columns tokens.old) result tokens.new }
+fn columns(
+    alloc: Global,
+    tokens: &mut Tokens<'_>,
+    expected: Expected,
+) -> Result<Items<Text>, ParseError>
+    ensures { Reads (spec.columns expected tokens.old) result tokens.new }
 {
     let mut found = Items::from_vec(Vec::new(alloc));
     for _turn in 0..tokens.left() {
-        found = with_name(found, column(alloc, tokens, Expected::Columns)?)?;
+        found = with_name(found, column(alloc, tokens, expected)?)?;
         if !tokens.eat(Kind::Comma) {
             return Ok(found);
         }
     }
-    Err(tokens.refuse(Expected::Columns))
+    Err(tokens.refuse(expected))
 }
 
 /// Reads the columns that are selected: none for a star.
@@ -81,5 +85,51 @@ pub(crate) fn selected(alloc: Global, tokens: &mut Tokens<'_>) -> Result<Items<T
     if tokens.eat(Kind::Star) {
         return Ok(Items::from_vec(Vec::new(alloc)));
     }
-    columns(alloc, tokens)
+    columns(alloc, tokens, Expected::Columns)
+}
+
+/// Reads the columns by which rows are ordered, if any.
+#[tactic(auto, unfolding(crate::specs::Reading::order))]
+pub(crate) fn order(alloc: Global, tokens: &mut Tokens<'_>) -> Result<Items<Text>, ParseError>
+    ensures { Reads (spec.order tokens.old) result tokens.new }
+{
+    if !tokens.eat(Kind::Order) {
+        return Ok(Items::from_vec(Vec::new(alloc)));
+    }
+    tokens.expect(Kind::By, Expected::By)?;
+    columns(alloc, tokens, Expected::Name)
+}
+
+/// Reads columns behind an opening bracket.
+fn columns_in_brackets(alloc: Global, tokens: &mut Tokens<'_>) -> Result<Items<Text>, ParseError>
+    ensures { Reads (spec.columns_in_brackets tokens.old) result tokens.new }
+{
+    let found = columns(alloc, tokens, Expected::Name)?;
+    tokens.expect(Kind::Close, Expected::CloseBracket)?;
+    Ok(found)
+}
+
+/// Reads the columns that the values of an insert are of, if they are named.
+#[tactic(auto, unfolding(crate::specs::Reading::named_columns))]
+pub(crate) fn named_columns(
+    alloc: Global,
+    tokens: &mut Tokens<'_>,
+) -> Result<Items<Text>, ParseError>
+    ensures { Reads (spec.named_columns tokens.old) result tokens.new }
+{
+    if !tokens.eat(Kind::Open) {
+        return Ok(Items::from_vec(Vec::new(alloc)));
+    }
+    columns_in_brackets(alloc, tokens)
+}
+
+/// Returns the names as texts that are lent.
+pub(crate) fn lent<'a>(alloc: Global, names: &'a [Text]) -> Result<Vec<&'a str>, AllocError>
+    ensures { IfOk result (λ all. map (λ name. name.now) all.items ≡ names.now) }
+{
+    let mut all = Vec::new(alloc);
+    for name in names {
+        all.push(name.as_str())?;
+    }
+    Ok(all)
 }

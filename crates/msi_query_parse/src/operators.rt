@@ -8,7 +8,7 @@ use msi_query_expressions::expr::Expr;
 use msi_query_tokens::token::Kind;
 use std::alloc::Global;
 
-/// Returns how tightly an operator between two operands binds; 0 for all other tokens.
+/// Returns how tightly an operator between two operands binds, or `IS` behind one; 0 for all other tokens.
 pub(crate) fn binds(kind: Kind) -> u8
     ensures value { result ≡ spec.binds kind }
     ensures small { result ≤ 9 }
@@ -16,7 +16,7 @@ pub(crate) fn binds(kind: Kind) -> u8
     match kind {
         Kind::Or => 1,
         Kind::And => 2,
-        Kind::Eq | Kind::Ne | Kind::Lt | Kind::Le | Kind::Gt | Kind::Ge => 3,
+        Kind::Eq | Kind::Ne | Kind::Lt | Kind::Le | Kind::Gt | Kind::Ge | Kind::Is => 3,
         Kind::BitOr => 4,
         Kind::BitXor => 5,
         Kind::BitAnd => 6,
@@ -24,6 +24,17 @@ pub(crate) fn binds(kind: Kind) -> u8
         Kind::Add | Kind::Sub => 8,
         Kind::Star | Kind::Div => 9,
         _ => 0,
+    }
+}
+
+/// Compares an expression with null.
+pub(crate) fn null_compared(alloc: Global, is_not: bool, left: Expr) -> Result<Expr, Error>
+    ensures { IfOk result (λ expression. expression ≡ spec.null_compared is_not left) }
+{
+    if is_not {
+        left.ne(alloc, Expr::null())
+    } else {
+        left.eq(alloc, Expr::null())
     }
 }
 

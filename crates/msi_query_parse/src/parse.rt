@@ -25,7 +25,6 @@ fn end(tokens: &Tokens<'_>) -> Result<(), ParseError>
 {
     match tokens.peek() {
         Kind::End => Ok(()),
-        Kind::Order => Err(tokens.refuse(Expected::NoOrder)),
         _ => Err(tokens.refuse(Expected::End)),
     }
 }
@@ -61,7 +60,7 @@ fn whole_expression(alloc: Global, text: &str) -> Result<Expr, ParseError>
 }
 
 impl Parse for Select {
-    /// Reads a query for rows, as `SELECT Foo, Bar FROM Quux WHERE Foo > 42`.
+    /// Reads a query for rows, as `SELECT Foo, Bar FROM Quux WHERE Foo > 42 ORDER BY Bar`.
     fn parse(alloc: Global, text: &str) -> Result<Select, ParseError>
         ensures spelled { IfOk result (λ found. SpellsSelect text.now found) }
         ensures none { RefusesUnspelled SpellsSelect text.now result }
@@ -81,7 +80,7 @@ fn whole_select(alloc: Global, text: &str) -> Result<Select, ParseError>
 }
 
 impl Parse for Insert {
-    /// Reads a query that inserts rows, as `INSERT INTO Quux VALUES (1, 'a'), (NULL, 'b')`.
+    /// Reads a query that inserts rows, as `INSERT INTO Quux (Foo, Bar) VALUES (1, 'a'), (NULL, 'b')`.
     fn parse(alloc: Global, text: &str) -> Result<Insert, ParseError>
         ensures spelled { IfOk result (λ found. SpellsInsert text.now found) }
         ensures none { RefusesUnspelled SpellsInsert text.now result }

@@ -1,11 +1,14 @@
 //! Queries that change rows.
 
+ghost use Rattle.std.specs.Prelude.{◌≡◌, IfOk};
 ghost use Rattle.msi_query_tokens.specs.Input.{Reads};
 ghost use Rattle.msi_query_parse.specs.Reading as spec;
 
 use crate::grammar::condition;
-use crate::names::{column, name};
+use crate::names::{column, lent, name, named_columns};
 use crate::values::{row, value};
+use msi_base::errors::Error;
+use msi_base::text::Text;
 use msi_query::{Delete, Insert, Update};
 use msi_query_tokens::refusal::{Expected, ParseError};
 use msi_query_tokens::token::Kind;
@@ -24,6 +27,12 @@ fn rows(alloc: Global, tokens: &mut Tokens<'_>, mut query: Insert) -> Result<Ins
     Err(tokens.refuse(Expected::OpenBracket))
 }
 
+fn insert_into(alloc: Global, table: &Text, columns: &[Text]) -> Result<Insert, Error>
+    ensures { IfOk result (λ query. query ≡ spec.insert_into table.now columns.now) }
+{
+    Insert::into(alloc, table.as_str())?.columns(lent(alloc, columns)?.as_slice())
+}
+
 #[tactic(auto, unfolding(crate::specs::Reading::insert))]
 pub(crate) fn insert(alloc: Global, tokens: &mut Tokens<'_>) -> Result<Insert, ParseError>
     ensures { Reads (spec.insert tokens.old) result tokens.new }
@@ -31,7 +40,8 @@ pub(crate) fn insert(alloc: Global, tokens: &mut Tokens<'_>) -> Result<Insert, P
     tokens.expect(Kind::Insert, Expected::Insert)?;
     tokens.expect(Kind::Into, Expected::Into)?;
     let table = name(alloc, tokens, Expected::Name)?;
-    let query = Insert::into(alloc, table.as_str())?;
+    let columns = named_columns(alloc, tokens)?;
+    let query = insert_into(alloc, &table, columns.as_slice())?;
     if !tokens.eat(Kind::Values) {
         return Ok(query);
     }

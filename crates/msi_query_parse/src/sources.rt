@@ -1,13 +1,13 @@
 //! Queries for rows: the tables that rows come from, and how they are joined.
 
 ghost use Rattle.std.specs.Prelude.{◌≡◌, IfOk};
-ghost use Rattle.msi_query.specs.Queries.{projected_query};
+ghost use Rattle.msi_query.specs.Queries.{ordered_query, projected_query};
 ghost use Rattle.msi_query_tokens.specs.Input.{Reads};
 ghost use Rattle.msi_query_parse.specs.Reading as spec;
 ghost use Rattle.msi_query_parse.specs.Nests.{NestsQueries};
 
 use crate::grammar::condition;
-use crate::names::{name, selected};
+use crate::names::{lent, name, order, selected};
 use msi_base::errors::Error;
 use msi_base::text::Text;
 use msi_query::Select;
@@ -43,11 +43,19 @@ fn table(alloc: Global, tokens: &mut Tokens<'_>) -> Result<Select, ParseError>
 fn projected(alloc: Global, query: Select, columns: &[Text]) -> Result<Select, Error>
     ensures { IfOk result (λ all. all ≡ projected_query query columns.now) }
 {
-    let mut names = Vec::new(alloc);
-    for column in columns {
-        names.push(column.as_str())?;
-    }
-    query.columns(names.as_slice())
+    query.columns(lent(alloc, columns)?.as_slice())
+}
+
+fn ordered(alloc: Global, query: Select, columns: &[Text]) -> Result<Select, Error>
+    ensures { IfOk result (λ all. all ≡ ordered_query query columns.now) }
+{
+    query.order_by(lent(alloc, columns)?.as_slice())
+}
+
+fn once_each(is_distinct: bool, query: Select) -> Select
+    ensures { result ≡ spec.once_each is_distinct query }
+{
+    if is_distinct { query.distinct() } else { query }
 }
 
 #[tactic(auto, unfolding(crate::specs::Reading::narrowed))]
@@ -142,19 +150,32 @@ impl<F: Fn(Global, &mut Tokens<'_>, usize) -> Result<Select, ParseError>> Source
         self.joins(tokens, first)
     }
 
-    #[tactic(auto, unfolding(crate::specs::Reading::select))]
-    fn select(&self, tokens: &mut Tokens<'_>) -> Result<Select, ParseError>
+    /// Reads what follows `SELECT` or `SELECT DISTINCT`.
+    #[tactic(auto, unfolding(crate::specs::Reading::selection))]
+    fn selection(&self, tokens: &mut Tokens<'_>, is_distinct: bool) -> Result<Select, ParseError>
         requires { NestsQueries self.now.depth (F.pre self.now.query) (F.post self.now.query) }
-        ensures { Reads (spec.select self.now.depth (spec.query self.now.depth) tokens.old) result tokens.new }
+        ensures { Reads (spec.selection self.now.depth (spec.query self.now.depth) is_distinct tokens.old) result
+            tokens.new }
     {
-        tokens.expect(Kind::Select, Expected::Select)?;
         let columns = selected(self.alloc, tokens)?;
         tokens.expect(Kind::From, Expected::From)?;
         let outer = tokens.enter();
         let source = self.source(tokens)?;
         tokens.leave(outer);
         let query = narrowed(self.alloc, tokens, source)?;
-        Ok(projected(self.alloc, query, columns.as_slice())?)
+        let names = order(self.alloc, tokens)?;
+        let query = projected(self.alloc, query, columns.as_slice())?;
+        Ok(ordered(self.alloc, once_each(is_distinct, query), names.as_slice())?)
+    }
+
+    #[tactic(auto, unfolding(crate::specs::Reading::select))]
+    fn select(&self, tokens: &mut Tokens<'_>) -> Result<Select, ParseError>
+        requires { NestsQueries self.now.depth (F.pre self.now.query) (F.post self.now.query) }
+        ensures { Reads (spec.select self.now.depth (spec.query self.now.depth) tokens.old) result tokens.new }
+    {
+        tokens.expect(Kind::Select, Expected::Select)?;
+        let is_distinct = tokens.eat(Kind::Distinct);
+        self.selection(tokens, is_distinct)
     }
 }
 

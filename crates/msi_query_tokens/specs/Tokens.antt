@@ -37,7 +37,8 @@ key_words =
     ∷ (codes "BINARY_STREAM", k.BinaryStream) ∷ (codes "SELECT", k.Select) ∷ (codes "FROM", k.From)
     ∷ (codes "WHERE", k.Where) ∷ (codes "INNER", k.Inner) ∷ (codes "LEFT", k.Left) ∷ (codes "JOIN", k.Join)
     ∷ (codes "ON", k.On) ∷ (codes "INSERT", k.Insert) ∷ (codes "INTO", k.Into) ∷ (codes "VALUES", k.Values)
-    ∷ (codes "UPDATE", k.Update) ∷ (codes "SET", k.Set) ∷ (codes "DELETE", k.Delete) ∷ (codes "ORDER", k.Order) ∷ []
+    ∷ (codes "UPDATE", k.Update) ∷ (codes "SET", k.Set) ∷ (codes "DELETE", k.Delete) ∷ (codes "ORDER", k.Order)
+    ∷ (codes "IS", k.Is) ∷ (codes "DISTINCT", k.Distinct) ∷ (codes "BY", k.By) ∷ []
 
 -- a key word in any case, or else a name
 unfoldable pub kind_of_word : List ℕ → Kind

@@ -41,8 +41,10 @@ pub enum Expected {
     CloseBracket,
     /// The end of the text, or what goes on with the query.
     End,
-    /// No `ORDER BY`: rows come in the order in which they are stored.
-    NoOrder,
+    /// Behind `ORDER`.
+    By,
+    /// Behind `IS` or `IS NOT`.
+    Null,
     /// A number of 32 bits.
     Number,
     /// The end of a quote.
@@ -76,7 +78,8 @@ impl Expected {
             Expected::OpenBracket => "expected an opening bracket",
             Expected::CloseBracket => "expected a closing bracket",
             Expected::End => "expected the end of the text",
-            Expected::NoOrder => "ORDER BY is not supported",
+            Expected::By => "expected BY",
+            Expected::Null => "expected NULL",
             Expected::Number => "expected a number of 32 bits",
             Expected::ClosingQuote => "expected the end of a quote",
             Expected::Escape => "expected an escape that is known",

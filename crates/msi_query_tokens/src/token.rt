@@ -61,8 +61,12 @@ pub enum Kind {
     Update,
     Set,
     Delete,
-    /// Begins `ORDER BY`, which no query here has.
+    /// Begins `ORDER BY`.
     Order,
+    /// Begins `IS NULL` and `IS NOT NULL`.
+    Is,
+    Distinct,
+    By,
 }
 
 impl Kind {
@@ -75,7 +79,7 @@ impl Kind {
 }
 
 /// The key words, which may be written in any case.
-pub(crate) const KEY_WORDS: [(&[u8], Kind); 19] = [
+pub(crate) const KEY_WORDS: [(&[u8], Kind); 22] = [
     (b"AND", Kind::And),
     (b"OR", Kind::Or),
     (b"NOT", Kind::Not),
@@ -95,4 +99,7 @@ pub(crate) const KEY_WORDS: [(&[u8], Kind); 19] = [
     (b"SET", Kind::Set),
     (b"DELETE", Kind::Delete),
     (b"ORDER", Kind::Order),
+    (b"IS", Kind::Is),
+    (b"DISTINCT", Kind::Distinct),
+    (b"BY", Kind::By),
 ];

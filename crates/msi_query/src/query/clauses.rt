@@ -1,8 +1,9 @@
-//! The columns and the condition of a query for rows.
+//! The clauses of a query for rows: its columns, its condition, its order, and whether its rows are distinct.
 
-ghost use Rattle.std.specs.Prelude.{◌≡◌, ◌==◌, ◌&&◌, IfOk, IfErr, is_none, length, option_copied};
+ghost use Rattle.std.specs.Prelude.{◌≡◌, IfOk, IfErr, option_copied, true};
 ghost use Rattle.msi_base.specs.declared.errors.ErrorKind.TheVariants.{OutOfMemory};
 ghost use Rattle.msi_query.specs.Queries.{narrowed as narrowed_by, no_clauses};
+ghost use Rattle.msi_query.specs.QueryTexts.{keep_all as leave_rows};
 
 use super::narrowed;
 use msi_base::errors::Error;
@@ -11,11 +12,14 @@ use msi_query_expressions::Expr;
 use std::alloc::Global;
 use std::marker::Model;
 
-/// The columns that are selected, where an empty list selects all, and the condition on rows, if any. The condition
-/// is evaluated before columns are left out.
+/// The columns that are selected, where an empty list selects all, the condition on rows, if any, the columns by which
+/// the rows are ordered, where an empty list leaves them in their order, and whether equal rows are returned once. The
+/// condition and the order are evaluated before columns are left out, and rows are compared for equality after that.
 pub struct Clauses {
     columns: Items<Text>,
     condition: Option<Expr>,
+    order: Items<Text>,
+    is_distinct: bool,
 }
 
 /// Written out, so that a function that owns them calls one drop, and its proof doesn't go through those of the parts.
@@ -24,6 +28,8 @@ impl Drop for Clauses {
         let Clauses {
             columns: _,
             condition: _,
+            order: _,
+            is_distinct: _,
         } = self;
     }
 }
@@ -37,18 +43,20 @@ impl Model for Clauses {
 
     ghost coded = { Prim.hlevel (codes, expression_code (Prim.hlevel codes)) };
 
-    ghost view = { λ c. record { columns = c.columns; condition = c.condition } };
+    ghost view = { λ c. record {
+      columns = c.columns;
+      condition = c.condition;
+      order = c.order;
+      is_distinct = c.is_distinct;
+    } };
 }
 
 impl Clauses {
-    /// Selects all columns of all rows.
+    /// Selects all columns of all rows, in their order.
     pub(crate) fn new(alloc: Global) -> Clauses
         ensures { result ≡ no_clauses }
     {
-        Clauses {
-            columns: Items::from_vec(Vec::new(alloc)),
-            condition: None,
-        }
+        Clauses::of_condition(alloc, None)
     }
 
     /// Selects all columns of the rows that meet a condition, if there is one.
@@ -58,6 +66,8 @@ impl Clauses {
         Clauses {
             columns: Items::from_vec(Vec::new(alloc)),
             condition,
+            order: Items::from_vec(Vec::new(alloc)),
+            is_distinct: false,
         }
     }
 
@@ -75,19 +85,43 @@ impl Clauses {
         self.condition.as_ref()
     }
 
+    /// Returns the columns by which the rows are ordered, the first of them foremost; if there is none, the rows stay in
+    /// their order.
+    pub fn order(&self) -> &[Text]
+        ensures { result.now ≡ self.now.order }
+    {
+        self.order.as_slice()
+    }
+
+    /// Returns whether of rows that are equal in the selected columns only the first is returned.
+    pub fn is_distinct(&self) -> bool
+        ensures { result ≡ self.now.is_distinct }
+    {
+        self.is_distinct
+    }
+
     pub(crate) fn clone(&self, alloc: Global) -> Result<Clauses, Error>
         ensures ok { IfOk result (λ clauses. clauses ≡ self.now) }
         ensures kind { IfErr result (λ kind. kind ≡ OutOfMemory) }
     {
         let columns = copied_names(alloc, self.columns())?;
         let condition = copied_condition(alloc, self.condition())?;
-        Ok(Clauses { columns, condition })
+        let order = copied_names(alloc, self.order())?;
+        Ok(Clauses {
+            columns,
+            condition,
+            order,
+            is_distinct: self.is_distinct,
+        })
     }
 
     pub(crate) fn keep_all(&self) -> bool
-        ensures { result ≡ ((length self.now.columns == 0) && is_none self.now.condition) }
+        ensures { result ≡ leave_rows self.now }
     {
-        self.columns.is_empty() && self.condition.is_none()
+        self.columns.is_empty()
+            && self.condition.is_none()
+            && self.order.is_empty()
+            && !self.is_distinct
     }
 
     pub(crate) fn projected(self, columns: Items<Text>) -> Clauses
@@ -96,8 +130,49 @@ impl Clauses {
         let Clauses {
             columns: _before,
             condition,
+            order,
+            is_distinct,
         } = self;
-        Clauses { columns, condition }
+        Clauses {
+            columns,
+            condition,
+            order,
+            is_distinct,
+        }
+    }
+
+    pub(crate) fn ordered(self, order: Items<Text>) -> Clauses
+        ensures { result ≡ record self { order = order } }
+    {
+        let Clauses {
+            columns,
+            condition,
+            order: _before,
+            is_distinct,
+        } = self;
+        Clauses {
+            columns,
+            condition,
+            order,
+            is_distinct,
+        }
+    }
+
+    pub(crate) fn distinct(self) -> Clauses
+        ensures { result ≡ record self { is_distinct = true } }
+    {
+        let Clauses {
+            columns,
+            condition,
+            order,
+            is_distinct: _,
+        } = self;
+        Clauses {
+            columns,
+            condition,
+            order,
+            is_distinct: true,
+        }
     }
 
     pub(crate) fn narrowed(self, alloc: Global, condition: Expr) -> Result<Clauses, Error>
@@ -108,11 +183,15 @@ impl Clauses {
         let Clauses {
             columns,
             condition: first,
+            order,
+            is_distinct,
         } = self;
         let both = narrowed(alloc, first, condition)?;
         Ok(Clauses {
             columns,
             condition: Some(both),
+            order,
+            is_distinct,
         })
     }
 }

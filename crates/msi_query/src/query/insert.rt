@@ -1,17 +1,19 @@
 //! Queries that add rows.
 
-ghost use Rattle.std.specs.Prelude.{◌≡◌, ◌++◌, ◌∷◌, [], IfOk, IfErr, OnOk, length, map};
+ghost use Rattle.std.specs.Prelude.{◌≡◌, ◌++◌, ◌∷◌, [], IfOk, IfErr, OnOk, Some, length, map};
 ghost use Rattle.std.specs.Fmt.{DisplaysOnOk};
 ghost use Rattle.msi_base.specs.declared.errors.ErrorKind.TheVariants.{OutOfMemory};
-ghost use Rattle.msi_query.specs.QueryTexts.{insert_text, row_text, rows_text};
+ghost use Rattle.msi_query.specs.QueryTexts.{insert_text, named_columns_text, row_text, rows_text};
 ghost use Rattle.msi_query.specs.Utf8Queries.{IsUtf8Insert};
 
-use super::printing::{write_list, write_named};
+use super::printing::{write_list, write_name_list, write_named};
 use super::texts::look_at_rows;
 use msi_base::errors::Error;
 use msi_base::laws::texts_are_utf8;
 use msi_base::text::{IntoText, Items, Text};
 use msi_table::Value;
+use msi_table::laws::listed_texts_are_utf8;
+use msi_table::parts::copied_list;
 use std::alloc::Global;
 use std::fmt;
 use std::marker::Model;
@@ -58,16 +60,24 @@ impl fmt::Display for NewRow {
     }
 }
 
-/// A query that inserts rows into a table. A contract sees the table's name and the lists of values.
+/// A query that inserts rows into a table. A contract sees the names of the table and of the columns that the values
+/// are of, and the lists of values.
 pub struct Insert {
+    alloc: Global,
     table: Text,
+    columns: Items<Text>,
     rows: Items<NewRow>,
 }
 
 /// Written out, so that a function that owns one calls one drop, and its proof doesn't go through those of the parts.
 impl Drop for Insert {
     fn drop(self) {
-        let Insert { table: _, rows: _ } = self;
+        let Insert {
+            alloc: _,
+            table: _,
+            columns: _,
+            rows: _,
+        } = self;
     }
 }
 
@@ -76,29 +86,59 @@ impl Model for Insert {
 
     ghost Value = { InsertQuery };
 
-    ghost view = { λ q. record { table = q.table; rows = q.rows } };
+    ghost view = { λ q. record { table = q.table; columns = q.columns; rows = q.rows } };
 }
 
-/// What an insert is made of: the table's name, and the rows to be added, in order.
+/// What an insert is made of: the table's name, the columns that the values are of, where none stands for all in their
+/// order, and the rows to be added, in order.
 #[derive(Drop)]
 pub struct InsertParts {
     pub table: Text,
+    pub columns: Items<Text>,
     pub rows: Items<NewRow>,
 }
 
 impl Insert {
-    /// Starts a query that inserts rows into the table of this name. It has no row yet.
+    /// Starts a query that inserts rows into the table of this name, with a value for each of its columns. It has no
+    /// row yet.
     ///
     /// # Errors
     /// Fails with `OutOfMemory`.
     pub fn into<S: IntoText>(alloc: Global, table: S) -> Result<Insert, Error>
-        ensures ok { IfOk result (λ query. query ≡ record { table = S.text table; rows = [] }) }
+        ensures ok { IfOk result (λ query. query
+            ≡ record { table = S.text table; columns = []; rows = [] }) }
         ensures kind { IfErr result (λ kind. kind ≡ OutOfMemory) }
     {
         let table = table.into_text(alloc)?;
         Ok(Insert {
+            alloc,
             table,
+            columns: Items::from_vec(Vec::new(alloc)),
             rows: Items::from_vec(Vec::new(alloc)),
+        })
+    }
+
+    /// Names the columns that the values of each row are of, in place of those that were named before. Columns that
+    /// aren't named get null. An empty list stands for all columns in their order.
+    ///
+    /// # Errors
+    /// Fails with `OutOfMemory`.
+    pub fn columns(self, names: &[&str]) -> Result<Insert, Error>
+        ensures ok { IfOk result (λ query. query ≡ record self { columns = map (λ name. name.now) names.now }) }
+        ensures kind { IfErr result (λ kind. kind ≡ OutOfMemory) }
+    {
+        let Insert {
+            alloc,
+            table,
+            columns: _before,
+            rows,
+        } = self;
+        let columns = copied_list(alloc, names)?;
+        Ok(Insert {
+            alloc,
+            table,
+            columns,
+            rows,
         })
     }
 
@@ -110,11 +150,18 @@ impl Insert {
         ensures ok { IfOk result (λ query. query ≡ record self { rows = self.rows ++ (values.items ∷ []) }) }
         ensures kind { IfErr result (λ kind. kind ≡ OutOfMemory) }
     {
-        let Insert { table, rows } = self;
+        let Insert {
+            alloc,
+            table,
+            columns,
+            rows,
+        } = self;
         let mut rows = rows.into_vec();
         rows.push(NewRow { values })?;
         Ok(Insert {
+            alloc,
             table,
+            columns,
             rows: Items::from_vec(rows),
         })
     }
@@ -129,7 +176,9 @@ impl Insert {
         ensures kind { IfErr result (λ kind. kind ≡ OutOfMemory) }
     {
         let Insert {
+            alloc,
             table,
+            columns,
             rows: before,
         } = self;
         let mut all = before.into_vec();
@@ -137,7 +186,9 @@ impl Insert {
             all.push(NewRow { values })?;
         }
         Ok(Insert {
+            alloc,
             table,
+            columns,
             rows: Items::from_vec(all),
         })
     }
@@ -152,16 +203,38 @@ impl Insert {
         ensures { IsUtf8Insert self.now }
     {
         texts_are_utf8(&self.table);
+        listed_texts_are_utf8(self.columns.as_slice());
         look_at_rows(self.rows.as_slice());
     }
 
     pub(crate) fn into_parts(self) -> InsertParts
         ensures table { result.table ≡ self.table }
+        ensures columns { result.columns ≡ self.columns }
         ensures rows { result.rows ≡ self.rows }
     {
-        let Insert { table, rows } = self;
-        InsertParts { table, rows }
+        let Insert {
+            alloc: _,
+            table,
+            columns,
+            rows,
+        } = self;
+        InsertParts {
+            table,
+            columns,
+            rows,
+        }
     }
+}
+
+fn write_columns<W: fmt::Write>(f: &mut fmt::Formatter<W>, columns: &[Text]) -> fmt::Result
+    ensures { DisplaysOnOk W.write_str_gives f.old result (Some (named_columns_text columns.now)) f.new }
+{
+    if columns.is_empty() {
+        return Ok(());
+    }
+    f.write_str(" (")?;
+    write_name_list(f, columns)?;
+    f.write_str(")")
 }
 
 fn write_rows<W: fmt::Write>(f: &mut fmt::Formatter<W>, rows: &[NewRow]) -> fmt::Result
@@ -174,13 +247,15 @@ fn write_rows<W: fmt::Write>(f: &mut fmt::Formatter<W>, rows: &[NewRow]) -> fmt:
     write_list(f, rows)
 }
 
-/// Writes the query as SQL, as `INSERT INTO Quux VALUES (1, "a"), (NULL, "b")`. Literal texts past ASCII, and formats
-/// with a width or other options, are promised nothing.
+/// Writes the query as SQL, as `INSERT INTO Quux VALUES (1, "a"), (NULL, "b")`, or with its columns as
+/// `INSERT INTO Quux (Foo, Bar) VALUES (1, "a")`. Literal texts past ASCII, and formats with a width or other options,
+/// are promised nothing.
 impl fmt::Display for Insert {
     ghost output = { insert_text };
 
     fn fmt<W: fmt::Write>(&self, f: &mut fmt::Formatter<W>) -> fmt::Result {
         write_named(f, "INSERT INTO ", &self.table)?;
+        write_columns(f, self.columns.as_slice())?;
         write_rows(f, self.rows.as_slice())
     }
 }

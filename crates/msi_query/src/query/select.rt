@@ -3,8 +3,10 @@
 ghost use Rattle.std.specs.Prelude.{◌≡◌, ◌++◌, IfOk, IfErr, List, ℕ, Some, codes, map, option_copied};
 ghost use Rattle.std.specs.Fmt.{DisplaysOnOk, ◌++?◌};
 ghost use Rattle.msi_base.specs.declared.errors.ErrorKind.TheVariants.{OutOfMemory};
-ghost use Rattle.msi_query.specs.Queries.{table, join, no_clauses, narrowed_query, projected_query};
-ghost use Rattle.msi_query.specs.QueryTexts.{bare_name, columns_text, join_word, query_text, side_text};
+ghost use Rattle.msi_query.specs.Queries.{table, join, no_clauses, distinct_query, narrowed_query, ordered_query};
+ghost use Rattle.msi_query.specs.Queries.{projected_query};
+ghost use Rattle.msi_query.specs.QueryTexts.{bare_name, columns_text, join_word, order_text, query_text, select_word};
+ghost use Rattle.msi_query.specs.QueryTexts.{side_text, where_text};
 ghost use Rattle.msi_query.specs.QueryTrees.{query_of};
 ghost use Rattle.msi_query.specs.Utf8Queries.{IsUtf8Query};
 
@@ -185,6 +187,68 @@ impl Select {
         Ok(Select { alloc, tree })
     }
 
+    /// Orders the rows by the values of these columns, in place of those that were named before: by the first column,
+    /// rows that are equal in it by the second, and so on. Null comes first, then numbers, then texts by their bytes.
+    /// Rows that are equal in all of them stay in their order; so do all rows under an empty list. The order is taken
+    /// before columns are left out, so it may name columns that aren't selected.
+    ///
+    /// # Errors
+    /// Fails with `OutOfMemory`.
+    pub fn order_by(self, names: &[&str]) -> Result<Select, Error>
+        ensures ok { IfOk result (λ query. query ≡ ordered_query self (map (λ name. name.now) names.now)) }
+        ensures kind { IfErr result (λ kind. kind ≡ OutOfMemory) }
+    {
+        let Select { alloc, tree } = self;
+        let order = copied_list(alloc, names)?;
+        let tree = match tree {
+            SelectTree::Table { name, clauses } => SelectTree::Table {
+                name,
+                clauses: clauses.ordered(order),
+            },
+            SelectTree::Join {
+                kind,
+                left,
+                right,
+                on,
+                clauses,
+            } => SelectTree::Join {
+                kind,
+                left,
+                right,
+                on,
+                clauses: clauses.ordered(order),
+            },
+        };
+        Ok(Select { alloc, tree })
+    }
+
+    /// Keeps of rows that are equal in the selected columns the first one only.
+    pub fn distinct(self) -> Select
+        ensures { result ≡ distinct_query self }
+    {
+        let Select { alloc, tree } = self;
+        let tree = match tree {
+            SelectTree::Table { name, clauses } => SelectTree::Table {
+                name,
+                clauses: clauses.distinct(),
+            },
+            SelectTree::Join {
+                kind,
+                left,
+                right,
+                on,
+                clauses,
+            } => SelectTree::Join {
+                kind,
+                left,
+                right,
+                on,
+                clauses: clauses.distinct(),
+            },
+        };
+        Select { alloc, tree }
+    }
+
     /// Restricts the query to the rows for which the condition holds too. The condition is evaluated before columns
     /// are left out.
     ///
@@ -306,13 +370,42 @@ fn write_names<W: fmt::Write>(f: &mut fmt::Formatter<W>, columns: &[Text]) -> fm
     }
 }
 
-fn write_columns<W: fmt::Write>(f: &mut fmt::Formatter<W>, columns: &[Text]) -> fmt::Result
-    ensures { DisplaysOnOk W.write_str_gives f.old result
-        (Some (codes "SELECT " ++ columns_text columns.now ++ codes " FROM ")) f.new }
+fn select_words(clauses: &Clauses) -> &'static str
+    ensures { result.now ≡ select_word clauses.now }
 {
-    f.write_str("SELECT ")?;
-    write_names(f, columns)?;
+    if clauses.is_distinct() {
+        "SELECT DISTINCT "
+    } else {
+        "SELECT "
+    }
+}
+
+fn write_columns<W: fmt::Write>(f: &mut fmt::Formatter<W>, clauses: &Clauses) -> fmt::Result
+    ensures { DisplaysOnOk W.write_str_gives f.old result
+        (Some (select_word clauses.now ++ columns_text clauses.now.columns ++ codes " FROM ")) f.new }
+{
+    f.write_str(select_words(clauses))?;
+    write_names(f, clauses.columns())?;
     f.write_str(" FROM ")
+}
+
+fn write_order<W: fmt::Write>(f: &mut fmt::Formatter<W>, names: &[Text]) -> fmt::Result
+    ensures { DisplaysOnOk W.write_str_gives f.old result (Some (order_text names.now)) f.new }
+{
+    if names.is_empty() {
+        return Ok(());
+    }
+    f.write_str(" ORDER BY ")?;
+    write_name_list(f, names)
+}
+
+/// Writes what stands behind the place that rows come from.
+fn write_rest<W: fmt::Write>(f: &mut fmt::Formatter<W>, clauses: &Clauses) -> fmt::Result
+    ensures { DisplaysOnOk W.write_str_gives f.old result
+        (where_text clauses.now.condition ++? Some (order_text clauses.now.order)) f.new }
+{
+    write_condition(f, clauses.condition())?;
+    write_order(f, clauses.order())
 }
 
 #[cycle(writing)]
@@ -321,9 +414,9 @@ fn write_query<W: fmt::Write>(f: &mut fmt::Formatter<W>, tree: &SelectTree) -> f
 {
     match tree {
         SelectTree::Table { name, clauses } => {
-            write_columns(f, clauses.columns())?;
+            write_columns(f, clauses)?;
             write_name(f, name.as_str())?;
-            write_condition(f, clauses.condition())
+            write_rest(f, clauses)
         }
         SelectTree::Join {
             kind,
@@ -332,12 +425,12 @@ fn write_query<W: fmt::Write>(f: &mut fmt::Formatter<W>, tree: &SelectTree) -> f
             on,
             clauses,
         } => {
-            write_columns(f, clauses.columns())?;
+            write_columns(f, clauses)?;
             write_side(f, left)?;
             f.write_str(join_words(*kind))?;
             write_side(f, right)?;
             write!(f, " ON {on}")?;
-            write_condition(f, clauses.condition())
+            write_rest(f, clauses)
         }
     }
 }
@@ -358,8 +451,8 @@ fn write_side<W: fmt::Write>(f: &mut fmt::Formatter<W>, tree: &SelectTree) -> fm
     }
 }
 
-/// Writes the query as SQL, as `SELECT Foo, Bar FROM Quux WHERE Foo > 42`. Literal texts past ASCII, and formats with
-/// a width or other options, are promised nothing.
+/// Writes the query as SQL, as `SELECT DISTINCT Foo, Bar FROM Quux WHERE Foo > 42 ORDER BY Bar`. Literal texts past
+/// ASCII, and formats with a width or other options, are promised nothing.
 impl fmt::Display for Select {
     ghost output = { query_text };
 

@@ -29,6 +29,7 @@ fn look_at_clauses(clauses: &Clauses)
 {
     listed_texts_are_utf8(clauses.columns());
     look_at_condition(clauses.condition());
+    listed_texts_are_utf8(clauses.order());
 }
 
 pub(crate) fn look_at_tree(tree: &SelectTree)
