@@ -46,16 +46,17 @@ impl<F: Source> Package<F> {
         Ok(())
     }
 
-    /// Inserts rows into a table.
+    /// Inserts rows into a table. If the query names columns, the others get null.
     ///
     /// # Errors
     /// Fails with the first of these that applies: `InvalidInput` if storages lie below the root; `InvalidData` if
-    /// the package isn't sound; `InvalidInput` for a system table; `NotFound` if there is none; row by row
-    /// `InvalidInput` for a wrong number of values and for an invalid one; `InvalidData` if two stored rows share a
-    /// key; row by row `AlreadyExists` if the key is stored, and `InvalidInput` if an earlier new row has it;
-    /// `InvalidInput` above 65536 rows, and if the pool has no place left. If none applies, it fails with
-    /// `OutOfMemory`, which may also come in place of the refusals for keys, for the number of rows, and of the pool.
-    /// Then nothing has changed.
+    /// the package isn't sound; `InvalidInput` for a system table; `NotFound` if there is none; `InvalidInput` if
+    /// the query names a column that isn't there, or one twice, or if columns are named and a row has more or fewer
+    /// values than names; row by row `InvalidInput` for a wrong number of values and for an invalid one, as null is
+    /// where a column is neither named nor nullable; `InvalidData` if two stored rows share a key; row by row
+    /// `AlreadyExists` if the key is stored, and `InvalidInput` if an earlier new row has it; `InvalidInput` above
+    /// 65536 rows, and if the pool has no place left. If none applies, it fails with `OutOfMemory`, which may also come
+    /// in place of the refusals for keys, for the number of rows, and of the pool. Then nothing has changed.
     pub fn insert_rows(&mut self, query: Insert) -> Result<(), Error>
         ensures ok { let change = changing (parts_of self.old.state) (λ d. inserts.insert_rows d query) in
             OnOk result (Leaves self.old change self.new) }

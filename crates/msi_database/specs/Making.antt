@@ -72,7 +72,7 @@ TellsUse (Err kind) used = ⊥
 
 -- the queries of their parts
 abbrev pub insert_of : InsertParts → InsertQuery
-insert_of parts = record { table = parts.table; rows = parts.rows }
+insert_of parts = record { table = parts.table; columns = parts.columns; rows = parts.rows }
 
 abbrev pub delete_of : DeleteParts → DeleteQuery
 delete_of parts = record { table = parts.table; condition = parts.condition }

@@ -20,7 +20,7 @@ use crate::changing::RowsAnew;
 use crate::database::Database;
 use msi_base::errors::Error;
 use msi_database_changes::delete::{refuse_delete, remaining_rows};
-use msi_database_changes::insert::{add_rows, refuse_new_rows, refuse_rows, values_of};
+use msi_database_changes::insert::{add_rows, refuse_new_rows, refuse_rows, whole_rows};
 use msi_database_changes::texts::PoolInUse;
 use msi_database_changes::update::{is_barred, refuse_collisions, refuse_sets, updated_rows};
 use msi_database_schema::system::is_system_table;
@@ -43,7 +43,8 @@ impl Database {
     {
         let name = insert.table.as_str();
         let table = self.table_to_change(name, is_system_table(name))?;
-        refuse_new_rows(table.columns(), insert.rows.as_slice())?;
+        let names = insert.columns.as_slice();
+        refuse_new_rows(table.columns(), names, insert.rows.as_slice())?;
         Ok(table)
     }
 
@@ -51,6 +52,7 @@ impl Database {
         requires sound { is_sound_one self.now.database ≡ true }
         requires free { is_of_system insert.table ≡ false }
         requires known { IsKnown self.now.database insert.table table.now }
+        requires passed { first_refusal (early_insert_refusals self.now.database (insert_of insert)) ≡ None }
         ensures ok { let change = inserts.insert_rows self.now.database (insert_of insert) in
             IfOk result (λ new.
             MakesRows self.now change (base_with new.wide self.now) new.pool new.stored) }
@@ -58,10 +60,15 @@ impl Database {
             TellsUse (inserts.insert_rows self.now.database (insert_of insert)) new.is_pool_used) }
         ensures kind { IfErr result (IsRefusal (inserts.insert_rows self.now.database (insert_of insert))) }
     {
-        let InsertParts { table: _, rows } = insert;
+        let InsertParts {
+            table: _,
+            columns: named,
+            rows,
+        } = insert;
         let columns = table.columns();
         let held = self.sound_rows(table)?;
-        let values = values_of(self.alloc, rows.into_vec())?;
+        let names = named.as_slice();
+        let values = whole_rows(self.alloc, columns, names, rows.into_vec())?;
         let rows = held.as_slice();
         refuse_rows(self.alloc, &self.pool, columns, rows, values.as_slice())?;
         let mut pool = PoolInUse::new(self.pool.clone()?);
@@ -183,16 +190,18 @@ impl Database {
         self.deleted(delete, table)
     }
 
-    /// Inserts rows into a table. The pool's texts and the table's stream change together, at the end. Returns
-    /// whether a text was taken from the pool or given back.
+    /// Inserts rows into a table, with null for the columns that the query doesn't name, if it names some. The pool's
+    /// texts and the table's stream change together, at the end. Returns whether a text was taken from the pool or
+    /// given back.
     ///
     /// # Errors
     /// Fails with the first of these that applies: `InvalidData` if the database isn't sound; `InvalidInput` for a
-    /// system table; `NotFound` if there is no such table; `InvalidInput` if a row doesn't fit the columns;
-    /// `InvalidData` if two of the table's rows share a key; row by row `AlreadyExists` if the table has its key, and
-    /// `InvalidInput` if an earlier new row has it; `InvalidInput` if the table would have more than 65536 rows, and
-    /// if the pool is full. If none applies, it fails with `OutOfMemory`, which may also come in place of the refusals
-    /// for keys, for the number of rows, and of the pool. Then nothing has changed.
+    /// system table; `NotFound` if there is no such table; `InvalidInput` if the query names a column that isn't there
+    /// or one twice, or if columns are named and a row has more or fewer values than names; `InvalidInput` if a row
+    /// doesn't fit the columns; `InvalidData` if two of the table's rows share a key; row by row `AlreadyExists` if the
+    /// table has its key, and `InvalidInput` if an earlier new row has it; `InvalidInput` if the table would have more
+    /// than 65536 rows, and if the pool is full. If none applies, it fails with `OutOfMemory`, which may also come in
+    /// place of the refusals for keys, for the number of rows, and of the pool. Then nothing has changed.
     pub fn insert_rows(&mut self, query: Insert) -> Result<bool, Error>
         ensures ok { OnOk result (Leaves self.old (inserts.insert_rows self.old.database query) self.new) }
         ensures used { IfOk result (TellsUse (inserts.insert_rows self.old.database query)) }

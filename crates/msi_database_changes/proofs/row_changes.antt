@@ -2,6 +2,7 @@
 pub mod InsertLemmas
 pub mod InsertedLemmas
 pub mod InsertingLemmas
+pub mod NamedRowLemmas
 pub mod RowFitLemmas
 pub mod UpdateLemmas
 pub mod UpdatedLemmas

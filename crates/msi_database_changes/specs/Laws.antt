@@ -23,7 +23,7 @@ use Rattle.msi_database_changes.specs.Database.{Database, CountsAreExact, values
 use Rattle.msi_database_changes.specs.Database.{has_table, named_numbers, columns_by_name}
 use Rattle.msi_table_cells.specs.TableCells.{TableCells}
 use Rattle.msi_database_changes.specs.Changes.{Change}
-use Rattle.msi_database_changes.specs.Insert.{insert_rows}
+use Rattle.msi_database_changes.specs.Insert.{insert_rows, whole_insert}
 use Rattle.msi_database_changes.specs.Update.{update_rows, values_after}
 use Rattle.msi_database_changes.specs.Delete.{delete_rows}
 use Rattle.msi_database_changes.specs.Create.{create_table}
@@ -37,10 +37,11 @@ rows_at name d = unwrap_or (option_and_then (λ t. t.rows) (values_of d name)) [
 abbrev pub OthersStay : List ℕ → Database → Database → Type 0
 OthersStay name old new = (other : List ℕ) → bytes_eq name other ≡ false → values_of new other ≡ values_of old other
 
--- an accepted insert adds exactly its rows
+-- an accepted insert adds exactly its rows, each with a value for each column
 abbrev pub InsertAddsItsRows : Type 0
 InsertAddsItsRows = (d : Database) (q : InsertQuery) (c : Change) → is_well_formed d ≡ true → insert_rows d q ≡ Ok c
-    → IsPermutation (rows_at q.table d ++ q.rows) (rows_at q.table c.database) × OthersStay q.table d c.database
+    → IsPermutation (rows_at q.table d ++ (whole_insert d q).rows) (rows_at q.table c.database)
+    × OthersStay q.table d c.database
 
 -- an accepted update sets its columns in exactly the rows whose condition counts as true
 abbrev pub UpdateSetsItsRows : Type 0

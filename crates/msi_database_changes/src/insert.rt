@@ -4,15 +4,17 @@ ghost use Rattle.std.specs.Prelude.{◌≡◌, Some, None, IfOk, IfErr, OnOk, tr
 ghost use Rattle.msi_base.specs.declared.errors.ErrorKind.TheVariants.{InvalidInput};
 ghost use Rattle.msi_base.specs.Results.{OnlyMemory};
 ghost use Rattle.msi_base.specs.Refusals.{IsRefusal, first_refusal, or_refused, unless_refused};
-ghost use Rattle.msi_database_changes.specs.Insert.{cells_added, misfit_refusals, row_fits as fits_columns};
-ghost use Rattle.msi_database_changes.specs.Insert.{row_refusals, table_with};
+ghost use Rattle.msi_database_changes.specs.Insert.{cells_added, misfit_refusals, new_row_refusals};
+ghost use Rattle.msi_database_changes.specs.Insert.{row_fits as fits_columns, row_refusals, table_with};
+ghost use Rattle.msi_database_changes.specs.Insert.{whole_rows as rows_of_all_columns};
 ghost use Rattle.msi_database_changes.specs.Texts.{in_use};
 
 use crate::keys::refuse_clashes;
+use crate::naming::{named_rows, refuse_named_rows};
 use crate::reasons;
 use crate::texts::PoolInUse;
 use msi_base::errors::{Error, ErrorKind};
-use msi_base::text::Items;
+use msi_base::text::{Items, Text};
 use msi_pool::stringpool::StringPool;
 use msi_query::parts::NewRow;
 use msi_table_cells::cell::ValueRef;
@@ -47,11 +49,7 @@ fn refuse_misfits(columns: &[Column], rows: &[Items<Value>]) -> Result<(), Error
     Ok(())
 }
 
-/// Refuses the rows of an insert that don't fit the columns of its table. It takes no memory.
-///
-/// # Errors
-/// Fails with `InvalidInput` if a row has a value too few or too many, or one that its column doesn't take.
-pub fn refuse_new_rows(columns: &[Column], rows: &[NewRow]) -> Result<(), Error>
+fn refuse_new_misfits(columns: &[Column], rows: &[NewRow]) -> Result<(), Error>
     ensures { result ≡ unless_refused (misfit_refusals columns.now rows.now) tt }
 {
     for row in rows {
@@ -62,11 +60,45 @@ pub fn refuse_new_rows(columns: &[Column], rows: &[NewRow]) -> Result<(), Error>
     Ok(())
 }
 
-/// The values of new rows, moved out.
+/// Refuses the rows of an insert for the columns that it names and for their values. It takes no memory.
 ///
 /// # Errors
-/// `OutOfMemory`.
-pub fn values_of(alloc: Global, rows: Vec<NewRow>) -> Result<Vec<Items<Value>>, Error>
+/// Fails with `InvalidInput` if columns are named, of which one isn't there or is named twice, or if a row has more or
+/// fewer values than there are names; and if a row has a value too few or too many, or one that its column doesn't
+/// take: null for a column that isn't named.
+pub fn refuse_new_rows(columns: &[Column], names: &[Text], rows: &[NewRow]) -> Result<(), Error>
+    ensures { result ≡ unless_refused (new_row_refusals columns.now names.now rows.now) tt }
+{
+    if names.is_empty() {
+        refuse_new_misfits(columns, rows)
+    } else {
+        refuse_named_rows(columns, names, rows)
+    }
+}
+
+/// Returns new rows with a value for each column. If columns are named, the values of each row are of those, and the
+/// others get null.
+///
+/// # Errors
+/// Fails with `OutOfMemory`.
+pub fn whole_rows(
+    alloc: Global,
+    columns: &[Column],
+    names: &[Text],
+    rows: Vec<NewRow>,
+) -> Result<Vec<Items<Value>>, Error>
+    ensures ok { IfOk result (λ values. values.items ≡ rows_of_all_columns columns.now names.now rows.items) }
+    ensures kind { OnlyMemory result }
+{
+    if names.is_empty() {
+        values_of(alloc, rows)
+    } else {
+        named_rows(alloc, columns, names, rows.as_slice())
+    }
+}
+
+/// The values of new rows, moved out.
+fn values_of(alloc: Global, rows: Vec<NewRow>) -> Result<Vec<Items<Value>>, Error>
     ensures ok { IfOk result (λ values. values.items ≡ rows.items) }
     ensures kind { OnlyMemory result }
 {

@@ -7,7 +7,8 @@ ghost use Rattle.msi_database_changes.specs.Recounting.{RecountsMakeExact};
 
 use msi_pool::laws::{given_back_takes_one, taken_places_hold_their_text};
 
-/// An accepted insert adds exactly its rows, and every other table has the rows that it had.
+/// An accepted insert adds exactly its rows, with null for the columns that it doesn't name, and every other table has
+/// the rows that it had.
 pub fn inserts_add_their_rows()
     ensures { InsertAddsItsRows }
 {

@@ -10,6 +10,14 @@ pub(crate) const CONDITION_COLUMN: Reason = Reason("a condition names a column t
 
 pub(crate) const KEY_COLLIDES: Reason = Reason("two rows would share a key");
 
+pub(crate) const UNKNOWN_COLUMN: Reason = Reason("an insert names a column that isn't there");
+
+pub(crate) const NAMED_TWICE: Reason = Reason("an insert names a column twice");
+
+pub(crate) const VALUE_COUNT: Reason = Reason(
+    "a row has more or fewer values than the insert names columns",
+);
+
 pub(crate) const ROW_MISFITS: Reason = Reason("a new row does not fit the table's columns");
 
 pub(crate) const TOO_MANY_ROWS: Reason = Reason("a table has at most 65536 rows");

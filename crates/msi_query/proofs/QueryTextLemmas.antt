@@ -45,11 +45,6 @@ pub order_text-some : (names : List (List ℕ)) → (length names == 0) ≡ fals
 order_text-some [] e = let no : true ≡ false = e in cc
 order_text-some (n ∷ ns) e = ap (λ (text : Option (List ℕ)). Some (codes " ORDER BY ") ++? text) (listed-names n ns)
 
--- no order
-pub order_text-none : (names : List (List ℕ)) → (length names == 0) ≡ true → [] ≡ order_text names
-order_text-none [] e = refl
-order_text-none (n ∷ ns) e = let no : false ≡ true = e in cc
-
 -- sets, where there are some
 pub sets_text-some : (sets : List (List ℕ × Value)) → (length sets == 0) ≡ false → (Some (codes " SET ") ++? listed (map set_text sets)) ≡ sets_text sets
 sets_text-some [] e = let no : true ≡ false = e in cc

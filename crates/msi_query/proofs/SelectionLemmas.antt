@@ -17,10 +17,8 @@ use Rattle.msi_table.specs.Columns.{ColumnDef, column_index, column_named}
 use Rattle.msi_query_expressions.specs.declared.joins.JoinKind.{JoinKind}
 use Rattle.msi_query_expressions.specs.declared.joins.JoinKind.TheVariants.{Inner, Left}
 use Rattle.msi_query_expressions.specs.Joins.{is_left}
-use Rattle.msi_query_expressions.specs.Expressions.{Expression}
 use Rattle.msi_query_expressions.specs.Conditions.{meets, value_in}
-use Rattle.msi_query.specs.Queries.{Clauses}
-use Rattle.msi_query.specs.Selection.{or_nulls, projected_row, selected}
+use Rattle.msi_query.specs.Selection.{Relation, or_nulls, projected, projected_row}
 use Rattle.msi_table.specs.Rows.{cell_at, cells_at}
 use Rattle.msi_query.specs.Rows.{RelationCells, column_at, projected_cells, relation_values, rows_values}
 
@@ -46,7 +44,7 @@ value_of_place places row None = refl
 value_of_place places row (Some i) = value_of_present places (slice_get row i) ∙ ap (λ v. unwrap_or v value.Null) (sym (slice_get-map (value_of_cell places) row i))
 
 -- the cells at the places of the columns stand for the projected row
-row_projected : (places : List Place) (columns : List ColumnDef) (names : List (List ℕ)) (row : List ValueRef)
+pub row_projected : (places : List Place) (columns : List ColumnDef) (names : List (List ℕ)) (row : List ValueRef)
     → row_values places (cells_at (map (λ n. column_index n columns) names) row) ≡ projected_row columns names (row_values places row)
 row_projected places columns [] row = refl
 row_projected places columns (n ∷ ns) row = ap (λ v. v ∷ row_values places (cells_at (map (λ n. column_index n columns) ns) row)) (value_of_place places row (column_index n columns))
@@ -64,25 +62,21 @@ columns_projected : (columns : List ColumnDef) (names : List (List ℕ))
 columns_projected columns [] = refl
 columns_projected columns (n ∷ ns) = ap (λ cs. cons_option (column_at columns (column_index n columns)) cs) (columns_projected columns ns)
 
--- a relation of which some columns are kept
-pub projected_is : (places : List Place) (c : Clauses) (r new : RelationCells) (kept : List (List ValueRef)) → (length c.columns == 0) ≡ false
-    → rows_values places kept ≡ filter (meets r.columns c.condition) (rows_values places r.rows) → new ≡ projected_cells c.columns r.columns kept
-    → relation_values places new ≡ selected c (relation_values places r)
-projected_is places c r new kept some k e =
-    ap (relation_values places) e
-    ∙ rw (some, columns_projected r.columns c.columns, rows_projected places r.columns c.columns kept, k) refl
+-- a relation of which some columns are kept, or all
+pub projected_is : (places : List Place) (names : List (List ℕ)) (r : RelationCells) (rows : List (List ValueRef)) → (length names == 0) ≡ false
+    → relation_values places (projected_cells names r.columns rows) ≡ projected names (relation_values places (record r { rows = rows }))
+projected_is places names r rows some = rw (some, columns_projected r.columns names, rows_projected places r.columns names rows) refl
 
-pub projected_answer : (places : List Place) (c : Clauses) (r : RelationCells) (first second : List ColumnDef) (names : List (List ℕ)) (condition : Option Expression)
-    (rows kept slice : List (List ValueRef)) (answer : Result RelationCells ErrorKind)
-    → (length names == 0) ≡ false → names ≡ c.columns → condition ≡ c.condition → first ≡ r.columns → second ≡ r.columns → rows ≡ r.rows → slice ≡ kept
-    → rows_values places kept ≡ filter (meets first condition) (rows_values places rows) → IfOk answer (λ new. new ≡ projected_cells names second slice)
-    → IfOk answer (λ new. relation_values places new ≡ selected c (relation_values places r))
-projected_answer places c r first second names condition rows kept slice (Ok new) some n m f s w t k e =
-    projected_is places c r new kept (ap (λ (ns : List (List ℕ)). length ns == 0) (sym n) ∙ some)
-    (k ∙ ap (λ cs. filter (meets cs condition) (rows_values places rows)) f ∙ ap (λ o. filter (meets r.columns o) (rows_values places rows)) m
-    ∙ ap (λ rs. filter (meets r.columns c.condition) (rows_values places rs)) w)
-    (e ∙ ap (λ cs. projected_cells names cs slice) s ∙ ap (λ ks. projected_cells names r.columns ks) t ∙ ap (λ ns. projected_cells ns r.columns kept) n)
-projected_answer places c r first second names condition rows kept slice (Err kind) some n m f s w t k e = e
+pub some_projected : (places : List Place) (names : List (List ℕ)) (r : RelationCells) (columns : List ColumnDef) (rows : List (List ValueRef)) (answer : Result RelationCells ErrorKind)
+    → (length names == 0) ≡ false → columns ≡ r.columns → rows ≡ r.rows → IfOk answer (λ kept. kept ≡ projected_cells names columns rows)
+    → IfOk answer (λ kept. relation_values places kept ≡ projected names (relation_values places r))
+some_projected places names r columns rows (Ok kept) some e f k =
+    ap (relation_values places) (k ∙ ap (λ cs. projected_cells names cs rows) e ∙ ap (λ rs. projected_cells names r.columns rs) f)
+    ∙ projected_is places names r r.rows some
+some_projected places names r columns rows (Err kind) some e f k = k
+
+pub all_projected : (names : List (List ℕ)) (r : Relation) → (length names == 0) ≡ true → r ≡ projected names r
+all_projected names r all = rw all refl
 
 nulls_values : (places : List Place) (n : ℕ) → row_values places (replicate n cell.Null) ≡ replicate n value.Null
 nulls_values places zero = refl

@@ -68,15 +68,21 @@ once_if is_distinct rows = if is_distinct then unseen [] rows else rows
 abbrev pub rows_kept : Clauses → Relation → List (List Value)
 rows_kept c r = in_order r.columns c.order (filter (meets r.columns c.condition) r.rows)
 
--- those rows, then the columns; no columns keeps all. Whether rows are equal is asked of what is kept of them.
+-- the columns of the names; no names keep all
+abbrev pub projected : List (List ℕ) → Relation → Relation
+projected names r = if length names == 0 then r else record {
+  name = [];
+  columns = filter_map (λ name. column_named name r.columns) names;
+  rows = map (projected_row r.columns names) r.rows;
+}
+
+-- each row once
+abbrev pub distinct_if : Bool → Relation → Relation
+distinct_if is_distinct r = record r { rows = once_if is_distinct r.rows }
+
+-- the rows, then the columns. Whether rows are equal is asked of what is kept of them.
 abbrev pub selected : Clauses → Relation → Relation
-selected c r =
-    if length c.columns == 0 then record r { rows = once_if c.is_distinct (rows_kept c r) }
-    else record {
-      name = [];
-      columns = filter_map (λ name. column_named name r.columns) c.columns;
-      rows = once_if c.is_distinct (map (projected_row r.columns c.columns) (rows_kept c r));
-    }
+selected c r = distinct_if c.is_distinct (projected c.columns (record r { rows = rows_kept c r }))
 
 abbrev pub clause_refusals : Clauses → List ColumnDef → Refusals
 clause_refusals c columns = (not (has_columns columns c.columns), InvalidInput)

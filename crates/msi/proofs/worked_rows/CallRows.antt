@@ -5,13 +5,13 @@ use Rattle.msi_base.specs.declared.errors.ErrorKind.TheVariants.{AlreadyExists, 
 use Rattle.msi_pool.specs.Pool.{Place, pool_stream}
 use Rattle.msi_pool.specs.FirstFit.{taken}
 use Rattle.msi_table_values.specs.declared.value.Value.{Value}
-use Rattle.msi_table_values.specs.declared.value.Value.TheVariants.{Int, Str}
+use Rattle.msi_table_values.specs.declared.value.Value.TheVariants.{Int, Null, Str}
 use Rattle.msi_table_values.specs.declared.column.ColumnType.TheVariants.{Int16, Int32}
 use Rattle.msi_table_values.specs.declared.column.ColumnType.TheVariants as coltype
 use Rattle.msi_table_values.specs.Columns.{ColumnDef}
 use Rattle.msi_database_schema.specs.Keys.{table_key}
 use Rattle.msi_database.specs.Database.{is_sound}
-use Rattle.msi_query.specs.Queries.{table}
+use Rattle.msi_query.specs.Queries.{no_clauses, table}
 use Rattle.msi.specs.declared.kinds.PackageType.TheVariants as kind
 use Rattle.msi_database_schema.specs.System.{plain_column, key, nullable}
 use Rattle.msi.specs.State.{State}
@@ -37,7 +37,7 @@ abbrev pub with_numbers : State
 with_numbers = state_after (fresh kind.Installer) (calls.create_table (codes "Numbers") numbers)
 
 abbrev pub insertion : List (List Value) → Call
-insertion rows = calls.insert_rows (record { table = codes "Numbers"; rows = rows })
+insertion rows = calls.insert_rows (record { table = codes "Numbers"; columns = []; rows = rows })
 
 abbrev pub filled : State
 filled = state_after with_numbers (insertion ((int 2 ∷ Str (codes "Two") ∷ []) ∷ (int 4 ∷ Str (codes "Four") ∷ []) ∷ (int 1 ∷ Str (codes "One") ∷ []) ∷ []))
@@ -105,7 +105,27 @@ keys_collide : answer_to filled (calls.update_rows (record { table = codes "Numb
 unfolding Rattle.std.specs.Str.chars
 keys_collide = refl
 
-barred : answer_to filled (calls.insert_rows (record { table = codes "_Tables"; rows = [] })) ≡ Err InvalidInput
+-- an insert that names its columns: the others get null
+abbrev naming : List (List ℕ) → List (List Value) → Call
+naming columns rows = calls.insert_rows (record { table = codes "Numbers"; columns = columns; rows = rows })
+
+turned : numbers_stream (state_after filled (naming (codes "Word" ∷ codes "Number" ∷ []) ((Str (codes "Six") ∷ int 6 ∷ []) ∷ []))) ≡ numbers_stream (state_after filled (insertion ((int 6 ∷ Str (codes "Six") ∷ []) ∷ [])))
+unfolding Rattle.std.specs.Str.chars
+turned = refl
+
+left_out : numbers_stream (state_after filled (naming (codes "Number" ∷ []) ((int 6 ∷ []) ∷ []))) ≡ numbers_stream (state_after filled (insertion ((int 6 ∷ Null ∷ []) ∷ [])))
+unfolding Rattle.std.specs.Str.chars
+left_out = refl
+
+-- a column that isn't there, one twice, a value too many, and a key that is left out
+misnamed : map (answer_to filled) (
+    naming (codes "Number" ∷ codes "word" ∷ []) ((int 6 ∷ Str (codes "Six") ∷ []) ∷ []) ∷ naming (codes "Number" ∷ codes "Number" ∷ []) ((int 6 ∷ int 6 ∷ []) ∷ [])
+    ∷ naming (codes "Number" ∷ []) ((int 6 ∷ Str (codes "Six") ∷ []) ∷ []) ∷ naming (codes "Word" ∷ []) ((Str (codes "Six") ∷ []) ∷ []) ∷ [])
+    ≡ replicate 4 (Err InvalidInput)
+unfolding Rattle.std.specs.Str.chars
+misnamed = refl
+
+barred : answer_to filled (calls.insert_rows (record { table = codes "_Tables"; columns = []; rows = [] })) ≡ Err InvalidInput
 unfolding Rattle.std.specs.Str.chars
 barred = refl
 
@@ -125,7 +145,7 @@ abbrev rows_in_answer : Result Answer ErrorKind → Option (List (List Value))
 rows_in_answer (Ok (calls.rows_are columns rows)) = Some rows
 rows_in_answer _ = None
 
-selected_rows : rows_in_answer (answer_to filled (calls.select_rows (table (codes "Numbers") (record { columns = []; condition = None }))))
+selected_rows : rows_in_answer (answer_to filled (calls.select_rows (table (codes "Numbers") no_clauses)))
     ≡ Some ((int 1 ∷ Str (codes "One") ∷ []) ∷ (int 2 ∷ Str (codes "Two") ∷ []) ∷ (int 4 ∷ Str (codes "Four") ∷ []) ∷ [])
 unfolding Rattle.std.specs.Str.chars
 selected_rows = refl

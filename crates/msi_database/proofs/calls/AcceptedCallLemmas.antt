@@ -18,7 +18,7 @@ use Rattle.msi_database_changes.specs.Database.{Database, is_sound, table_at, ro
 use Rattle.msi_database_changes.specs.Changes.{Change, no_change, pool_of, with_stored, sound_refusal}
 use Rattle.msi_database_changes.specs.Texts.{PoolInUse, in_turn, rows_put}
 use Rattle.msi_table_cells.specs.KeyOrder.{in_key_order}
-use Rattle.msi_database_changes.specs.Insert.{cells_added, insert_at_width, rows_inserted, rows_added, row_refusals}
+use Rattle.msi_database_changes.specs.Insert.{cells_added, early_insert_refusals, insert_at_width, insert_rows, insert_whole, rows_inserted, rows_added, row_refusals, whole_insert}
 use Rattle.msi_database_changes.specs.Update.{update_at_width, update_refusals, is_update_barred, row_updated, rows_updated}
 use Rattle.msi_database_changes.specs.Delete.{delete_rows, rows_deleted}
 use Rattle.msi_database_changes.specs.Create.{create_at_width, table_refusals, with_new_table}
@@ -60,6 +60,10 @@ pub insert_made : (d : Database) (q : InsertQuery) (t : TableCells) (r : List (L
 insert_made d q t r sound free at passed put =
     goes_on (sound_refusal d ++ (is_system_table q.table, InvalidInput) ∷ []) (no_change d) (rows_inserted q.table q.rows) (both_pass (is_sound d) (is_system_table q.table) InvalidData InvalidInput sound free)
     ∙ inserted_made (no_change d) q.table t q.rows r at passed put
+
+-- what nothing refuses early is the insert of its whole rows
+pub whole_is : (d : Database) (q : InsertQuery) → first_refusal (early_insert_refusals d q) ≡ None → insert_rows d q ≡ insert_whole d (whole_insert d q)
+whole_is d q passed = goes_on (early_insert_refusals d q) (whole_insert d q) (insert_whole d) passed
 
 -- UPDATE AND DELETE
 

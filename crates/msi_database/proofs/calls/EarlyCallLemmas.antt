@@ -1,5 +1,5 @@
 -- What is refused before memory is taken, from what a call knows.
-use Rattle.std.proofs.Common.{◌≡◌, ℕ, ◌+◌, Bool, true, false, not, List, length, map, ◌∷◌, [], ◌++◌, Option, Some, None, option_map, Result, Ok, Err, refl, sym, ap, ap₂, subst, ◌∙◌, inr}
+use Rattle.std.proofs.Common.{◌≡◌, ℕ, ◌+◌, Bool, true, false, not, List, ◌∷◌, [], ◌++◌, Option, Some, None, option_map, Result, Ok, Err, refl, sym, ap, ap₂, subst, ◌∙◌, inr}
 use Rattle.std.specs.Prelude.{if◌then◌else◌}
 use Rattle.msi_base.specs.declared.errors.ErrorKind.{ErrorKind}
 use Rattle.msi_base.specs.declared.errors.ErrorKind.TheVariants.{AlreadyExists, InvalidData, InvalidInput, NotFound}
@@ -9,17 +9,14 @@ use Rattle.msi_query.specs.Queries.{DeleteQuery, InsertQuery, UpdateQuery}
 use Rattle.msi_base.specs.Refusals.{Refusals, IsRefusal, first_refusal, or_refused, unless, unless_refused, ◌>>=◌}
 use Rattle.msi_table_cells.specs.TableCells.{TableCells}
 use Rattle.msi_database_schema.specs.System.{is_system_table}
-use Rattle.msi_database_changes.specs.Database.{Database, is_sound, table_at, rows_of}
+use Rattle.msi_database_changes.specs.Database.{Database, is_sound, table_at}
 use Rattle.msi_database_changes.specs.Widening.{widened}
 use Rattle.msi_database_changes.specs.Changes.{Change, no_change, absent_refusals, barred_refusals, missing_or}
 use Rattle.msi_database_changes.specs.Delete.{condition_refusals, delete_rows, early_delete_refusals, rows_deleted}
-use Rattle.msi_database_changes.specs.Insert.{early_insert_refusals, insert_at_width, insert_rows, keys_of, misfit_refusals, row_refusals, rows_added, rows_inserted}
-use Rattle.msi_table_cells.specs.KeyOrder.{key_of}
-use Rattle.msi_database_changes.specs.KeySets.{clash_refusals}
+use Rattle.msi_database_changes.specs.Insert.{early_insert_refusals, insert_rows, insert_whole, whole_insert}
 use Rattle.msi_database_changes.specs.Update.{early_update_refusals, is_update_barred, keys_collide, rows_updated, set_refusals, update_refusals, update_at_width, update_rows}
 use Rattle.msi_database_changes.proofs.steps.AtWidthLemmas.{sound_widened}
 use Rattle.msi_database_changes.proofs.steps.EarlyLemmas.{found_first}
-use Rattle.msi_database_changes.proofs.row_changes.InsertingLemmas.{length_refusals}
 use Rattle.msi_database_changes.proofs.steps.RefusedLemmas.{first_refused, front_holds, not_refused, refused_first, tail_holds}
 use Rattle.msi_database.specs.Listed.{IsKnown, table_def_at}
 use Rattle.msi_database.proofs.widths.WideRefusalLemmas.{refused_either}
@@ -111,17 +108,6 @@ update_refused_early_at d q k e =
     (refused_there (table_at q.table d) (λ t. set_refusals t.columns q) (judged (no_change d)) k
     (λ t h. ap (λ (o : Option ErrorKind). unless o t >>= last (no_change d)) (front_holds (set_refusals t.columns q) ((keys_collide d.pool.places t q, AlreadyExists) ∷ []) k h))) e)
 
-insert_refused_early_at : (d : Database) (q : InsertQuery) (k : ErrorKind) → first_refusal (early_insert_refusals d q) ≡ Some k → IsRefusal (insert_at_width d q) k
-insert_refused_early_at d q k e =
-    let places = d.pool.places in
-    let last = λ (t : TableCells). or_refused InvalidInput (rows_added q.table t q.rows (no_change d)) in
-    let clashes = λ (t : TableCells). clash_refusals (keys_of places t) (map (key_of t.columns) q.rows) in
-    let lengths = λ (t : TableCells). length_refusals (length (rows_of t) + length q.rows) in
-    inr (early_refused (barred_refusals d (is_system_table q.table)) (missing_or (table_at q.table d) (λ t. misfit_refusals t.columns q.rows)) (no_change d) (rows_inserted q.table q.rows) k
-    (refused_there (table_at q.table d) (λ t. misfit_refusals t.columns q.rows) (λ t. unless_refused (row_refusals places t q.rows) t >>= last) k
-    (λ t h. ap (λ (o : Option ErrorKind). unless o t >>= last)
-    (front_holds (misfit_refusals t.columns q.rows ++ clashes t) (lengths t) k (front_holds (misfit_refusals t.columns q.rows) (clashes t) k h)))) e)
-
 -- also where references may widen
 
 still_refused : (d : Database) (rest : Refusals) (k : ErrorKind) → is_sound d ≡ true → first_refusal ((not (is_sound d), InvalidData) ∷ rest) ≡ Some k → first_refusal ((not (is_sound (widened d)), InvalidData) ∷ rest) ≡ Some k
@@ -132,5 +118,4 @@ update_refused_early d q k e = refused_either (λ d. update_at_width d q) d k (u
     (λ sound. update_refused_early_at (widened d) q k (still_refused d ((is_update_barred q, InvalidInput) ∷ missing_or (table_at q.table d) (λ t. set_refusals t.columns q)) k sound e))
 
 pub insert_refused_early : (d : Database) (q : InsertQuery) (k : ErrorKind) → first_refusal (early_insert_refusals d q) ≡ Some k → IsRefusal (insert_rows d q) k
-insert_refused_early d q k e = refused_either (λ d. insert_at_width d q) d k (insert_refused_early_at d q k e)
-    (λ sound. insert_refused_early_at (widened d) q k (still_refused d ((is_system_table q.table, InvalidInput) ∷ missing_or (table_at q.table d) (λ t. misfit_refusals t.columns q.rows)) k sound e))
+insert_refused_early d q k e = inr (ap (λ (o : Option ErrorKind). unless o (whole_insert d q) >>= insert_whole d) e)

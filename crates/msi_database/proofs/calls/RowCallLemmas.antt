@@ -27,7 +27,7 @@ use Rattle.msi_database_changes.specs.Setting.{cells_set}
 use Rattle.msi_database_changes.specs.Texts.{PoolInUse, UsedPool, cell_released, in_turn, in_use, rows_put, rows_released, settled}
 use Rattle.msi_database_changes.proofs.text_counts.NarrowLemmas.{cells_set_grows, cells_set_narrow, released_many, rows_put_narrow, turn_narrow}
 use Rattle.msi_table_cells.specs.KeyOrder.{in_key_order}
-use Rattle.msi_database_changes.specs.Insert.{table_with, cells_added, insert_at_width, insert_rows, row_refusals}
+use Rattle.msi_database_changes.specs.Insert.{table_with, cells_added, early_insert_refusals, insert_at_width, insert_rows, insert_whole, row_refusals, whole_insert}
 use Rattle.msi_database_changes.specs.Update.{is_update_barred, row_updated, update_refusals, update_at_width, update_rows}
 use Rattle.msi_database_changes.specs.Delete.{delete_rows, rows_meeting}
 use Rattle.msi_database_changes.proofs.steps.AtWidthLemmas.{IsChangeAtWidth, inserted, updated, deleted, sound_widened}
@@ -44,7 +44,7 @@ use Rattle.msi_database_storage.proofs.StreamLemmas.{list_cmp_exact}
 use Rattle.msi_database_schema.proofs.KeyLemmas.{table_key_is_name}
 use Rattle.msi_database.proofs.soundness.SoundLemmas.{sound_is, sound_names}
 use Rattle.msi_database.proofs.widths.RowsAtBothWidthsLemmas.{anew, anew_still}
-use Rattle.msi_database.proofs.calls.AcceptedCallLemmas.{delete_made, insert_made, update_made}
+use Rattle.msi_database.proofs.calls.AcceptedCallLemmas.{delete_made, insert_made, update_made, whole_is}
 
 -- WHAT WAS MADE
 
@@ -240,13 +240,13 @@ module _ (k : Kept) (kept : IsKeptDatabase k) (sound : is_sound k.database ≡ t
       update_is d seen t held rows (record { pool = d.pool; is_used = false }) after sound barred here passed_here refl (rows_updated_narrow d.pool.long d.pool.places t.columns seen start held (rows, in_use after) put_here few)) in
       subst (λ (q : UpdateQuery). Made (update_rows d q)) same (may_widen (λ d. update_at_width d seen) (λ d c e. updated seen e) becomes)
 
-  pub insert_called : (q : InsertQuery) (values : List (List Value)) → name ≡ q.table → values ≡ q.rows → (b : Bool) → b ≡ is_system_table name → b ≡ false
+  whole_called : (q : InsertQuery) (values : List (List Value)) → name ≡ q.table → values ≡ q.rows → (b : Bool) → b ≡ is_system_table name → b ≡ false
       → first_refusal (row_refusals pool.places (table_with columns held) values) ≡ None
       → cells_added true columns (in_use before) held values ≡ Some (rows, in_use after)
-      → Made (insert_rows d q)
-  insert_called q values named values_are b b_is free passed added =
-      let seen : InsertQuery = record { table = name; rows = q.rows } in
-      let same : seen ≡ q = λ i. record { table = named i; rows = q.rows } in
+      → Made (insert_whole d q)
+  whole_called q values named values_are b b_is free passed added =
+      let seen : InsertQuery = record { table = name; columns = q.columns; rows = q.rows } in
+      let same : seen ≡ q = λ i. record { table = named i; columns = q.columns; rows = q.rows } in
       let passed_here = ap₂ (λ (p : Pool) (cs : List ColumnDef). first_refusal (row_refusals p.places (table_with cs held) values)) (sym pool_is) (sym columns_is) ∙ passed in
       let added_here : cells_added true t.columns start held values ≡ Some (rows, in_use after) =
       ap (λ (u : UsedPool). cells_added true t.columns (in_use u) held values) (sym began)
@@ -256,7 +256,14 @@ module _ (k : Kept) (kept : IsKeptDatabase k) (sound : is_sound k.database ≡ t
       insert_is (widened d) seen t held rows values (record { pool = (widened d).pool; is_used = false }) after (sound_widened d sound) barred here values_are passed_here refl added_here in
       let becomes = becomes_by (λ d. insert_at_width d seen) wide (λ few.
       insert_is d seen t held rows values (record { pool = d.pool; is_used = false }) after sound barred here values_are passed_here refl (cells_added_narrow d.pool.long t.columns start held values (rows, in_use after) added_here few)) in
-      subst (λ (q : InsertQuery). Made (insert_rows d q)) same (may_widen (λ d. insert_at_width d seen) (λ d c e. inserted seen e) becomes)
+      subst (λ (q : InsertQuery). Made (insert_whole d q)) same (may_widen (λ d. insert_at_width d seen) (λ d c e. inserted seen e) becomes)
+
+  -- the same of an insert that nothing refuses early
+  pub insert_called : (q : InsertQuery) → first_refusal (early_insert_refusals d q) ≡ None → (values : List (List Value)) → name ≡ q.table → values ≡ (whole_insert d q).rows
+      → (b : Bool) → b ≡ is_system_table name → b ≡ false → first_refusal (row_refusals pool.places (table_with columns held) values) ≡ None
+      → cells_added true columns (in_use before) held values ≡ Some (rows, in_use after) → Made (insert_rows d q)
+  insert_called q early values named values_are b b_is free passed added =
+      subst (λ (r : Result Change ErrorKind). Made r) (sym (whole_is d q early)) (whole_called (whole_insert d q) values named values_are b b_is free passed added)
 
 -- a base over which a change was made is sound
 pub makes_sound : (old : Kept) (r : Result Change ErrorKind) (base : Kept) (pool : Pool) (tables : List TableDef) (stored : List Stored) → Makes old r base pool tables stored → is_sound base.database ≡ true

@@ -11,14 +11,14 @@ use Rattle.msi_query_expressions.specs.Conditions.{meets}
 use Rattle.msi_database_changes.specs.Database.{Database, table_at, is_sound, is_well_formed, CountsAreExact}
 use Rattle.msi_table_cells.specs.TableCells.{TableCells}
 use Rattle.msi_database_changes.specs.Changes.{Change, no_change}
-use Rattle.msi_database_changes.specs.Insert.{insert_at_width}
+use Rattle.msi_database_changes.specs.Insert.{insert_at_width, whole_insert}
 use Rattle.msi_database_changes.specs.Update.{update_at_width, values_after}
 use Rattle.msi_database_changes.specs.Delete.{delete_rows}
 use Rattle.msi_database_changes.specs.Create.{create_at_width}
 use Rattle.msi_database_changes.specs.Drop.{drop_table}
 use Rattle.msi_database_changes.specs.Laws.{rows_at, OthersStay, KeysAreDistinct, Keeps, InsertAddsItsRows, UpdateSetsItsRows, DeleteRemovesItsRows, ChangesKeep, TableChangesKeep, CountsTellTexts, RowsFit}
 use Rattle.msi_database_changes.specs.Widening.{widened}
-use Rattle.msi_database_changes.proofs.steps.AtWidthLemmas.{IsTableChangeAtWidth, change_at, fits_widened, sound_widened, table_change_at, widening_made, IsChangeAtWidth, inserted, updated, deleted, created, dropped}
+use Rattle.msi_database_changes.proofs.steps.AtWidthLemmas.{IsTableChangeAtWidth, change_at, fits_widened, sound_widened, table_change_at, whole_inserted, widening_made, IsChangeAtWidth, inserted, updated, deleted, created, dropped}
 use Rattle.msi_table_values.specs.Columns.{ColumnDef}
 use Rattle.msi_database_changes.proofs.row_keys.KeysLemmas.{inserted_distinct}
 use Rattle.msi_database_changes.proofs.row_keys.KeysKeptLemmas.{delete_distinct, update_distinct}
@@ -105,9 +105,11 @@ module _ (takes : TakenPlacesHoldTheirText) (gives : GivenBackTakesOne) where
 
   -- the same as they are told
   pub inserts_add : InsertAddsItsRows
-  inserts_add d q c well e = widening_made (λ d. insert_at_width d q) d c e
-      (λ sound short is. insert_adds_its_rows (widened d) q c (well_formed_from (widened d) well) is)
-      (λ is. insert_adds_its_rows d q c (well_formed_from d well) is)
+  inserts_add d q c well e =
+      let w = whole_insert d q in
+      widening_made (λ d. insert_at_width d w) d c (whole_inserted d q c e).1
+      (λ sound short is. insert_adds_its_rows (widened d) w c (well_formed_from (widened d) well) is)
+      (λ is. insert_adds_its_rows d w c (well_formed_from d well) is)
 
   pub updates_set : UpdateSetsItsRows
   updates_set d q c t well found e = widening_made (λ d. update_at_width d q) d c e

@@ -1,5 +1,5 @@
 -- Changes of a database with references of the width that it has, and those that widen them: these are the same changes of the widened database.
-use Rattle.std.proofs.Common.{◌≡◌, ℕ, ◌⊎◌, Bool, true, false, cond, List, length, Option, Some, None, Result, Ok, refl, sym, ap, ◌∙◌, arith, inl, inr}
+use Rattle.std.proofs.Common.{◌≡◌, ℕ, ◌⊎◌, Bool, true, false, cond, List, length, Option, Some, None, Result, Ok, refl, sym, ap, subst, ◌∙◌, arith, inl, inr}
 use Rattle.std.specs.Prelude.{◌&&◌, nat_le, nat_lt, not}
 use Rattle.std.specs.Prelude.{IsSomeAnd}
 use Rattle.std.proofs.lemmas.Bool.{and_parts, not-true}
@@ -15,13 +15,15 @@ use Rattle.msi_database_schema.specs.System.{validation_columns}
 use Rattle.msi_database_changes.specs.Database.{Database, is_sound}
 use Rattle.msi_database_changes.specs.Changes.{Change}
 use Rattle.msi_database_changes.specs.Widening.{needs_three_bytes, widened, widening, widens}
-use Rattle.msi_database_changes.specs.Insert.{insert_at_width}
+use Rattle.msi_database_changes.specs.Insert.{early_insert_refusals, insert_at_width, insert_rows, insert_whole, whole_insert}
 use Rattle.msi_database_changes.specs.Update.{update_at_width}
 use Rattle.msi_database_changes.specs.Delete.{delete_rows}
 use Rattle.msi_database_changes.specs.Create.{create_at_width}
 use Rattle.msi_database_changes.specs.Drop.{drop_table}
 use Rattle.msi_database_changes.specs.Laws as laws
 use Rattle.msi_database_changes.specs.Laws.{IsChange, IsTableChange, RowsFit}
+use Rattle.msi_base.specs.Refusals.{first_refusal, unless_refused}
+use Rattle.msi_database_changes.proofs.steps.RefusedLemmas.{bind_ok, not_refused}
 use Rattle.msi_database_changes.proofs.steps.StoredLemmas.{sound_parts}
 
 -- changes with references of the width that there is
@@ -47,9 +49,19 @@ widening_made change d c e wide same = made_by (widens change d) (change (widene
     let p = and_parts (is_sound d) (not d.pool.long) (and_parts (is_sound d && not d.pool.long) (needs_three_bytes (change (widened d))) t).0 in
     wide p.0 (not-true d.pool.long p.1) is) same
 
+-- an accepted insert: nothing refuses it early, and its whole rows are inserted
+pub whole_inserted : (d : Database) (q : InsertQuery) (c : Change) → insert_rows d q ≡ Ok c
+    → (first_refusal (early_insert_refusals d q) ≡ None) × (insert_whole d (whole_insert d q) ≡ Ok c)
+whole_inserted d q c e = bind_ok (unless_refused (early_insert_refusals d q) (whole_insert d q)) (insert_whole d) c e
+    (λ w is rest.
+    let passed = not_refused (early_insert_refusals d q) (whole_insert d q) w is in
+    (passed.0, subst (λ (w : InsertQuery). insert_whole d w ≡ Ok c) (sym passed.1) rest))
+
 -- what holds of changes at either width, of one that may widen
 pub change_at : {P : Type 0} (d : Database) (c : Change) → IsChange d c → (is_sound d ≡ true → d.pool.long ≡ false → IsChangeAtWidth (widened d) c → P) → (IsChangeAtWidth d c → P) → P
-change_at d c (laws.inserted q e) wide same = widening_made (λ d. insert_at_width d q) d c e (λ sound short is. wide sound short (inserted q is)) (λ is. same (inserted q is))
+change_at d c (laws.inserted q e) wide same =
+    let w = whole_insert d q in
+    widening_made (λ d. insert_at_width d w) d c (whole_inserted d q c e).1 (λ sound short is. wide sound short (inserted w is)) (λ is. same (inserted w is))
 change_at d c (laws.updated q e) wide same = widening_made (λ d. update_at_width d q) d c e (λ sound short is. wide sound short (updated q is)) (λ is. same (updated q is))
 change_at d c (laws.deleted q e) wide same = same (deleted q e)
 
@@ -70,7 +82,9 @@ widening_many change d c e wide same = made_by (widens change d) (change (widene
 pub any_change_many : {P : Type 0} (d : Database) (c : Change) → IsChange d c ⊎ IsTableChange d c
     → (is_sound d ≡ true → d.pool.long ≡ false → nat_lt (most_places false) (length c.database.pool.places) ≡ true → IsChangeAtWidth (widened d) c ⊎ IsTableChangeAtWidth (widened d) c → P)
     → (IsChangeAtWidth d c ⊎ IsTableChangeAtWidth d c → P) → P
-any_change_many d c (inl (laws.inserted q e)) wide same = widening_many (λ d. insert_at_width d q) d c e (λ sound short many is. wide sound short many (inl (inserted q is))) (λ is. same (inl (inserted q is)))
+any_change_many d c (inl (laws.inserted q e)) wide same =
+    let w = whole_insert d q in
+    widening_many (λ d. insert_at_width d w) d c (whole_inserted d q c e).1 (λ sound short many is. wide sound short many (inl (inserted w is))) (λ is. same (inl (inserted w is)))
 any_change_many d c (inl (laws.updated q e)) wide same = widening_many (λ d. update_at_width d q) d c e (λ sound short many is. wide sound short many (inl (updated q is))) (λ is. same (inl (updated q is)))
 any_change_many d c (inl (laws.deleted q e)) wide same = same (inl (deleted q e))
 any_change_many d c (inr (laws.created name columns e)) wide same =

@@ -21,7 +21,7 @@ pub returns : goal.returns
 returns g c =
     three_writes g.W.Write.write_str_gives c.args.f.now c.write_str.new.self c.write_names.new.f c.write_str-2.new.self
     c.write_str.result c.write_names.result c.write_str-2.result
-    (Some c.select_words.result.now) (Some (columns_text c.columns.result.now)) (Some (codes " FROM ")) _
+    (Some c.select_words.result.now) (Some (columns_text c.columns.result.now)) (Some (codes " FROM ")) (text c.args.clauses.now)
     (rw (c.select_words.ensures, c.columns.ensures)
     (ap (λ (t : List ℕ). Some t) (sym (append_assoc (select_word c.args.clauses.now) (columns_text c.args.clauses.now.columns) (codes " FROM ")))))
     (rw c.in_ok-write_str.was refl) (rw c.in_ok-write_names.was refl)

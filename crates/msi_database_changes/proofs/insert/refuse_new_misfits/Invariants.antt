@@ -2,7 +2,7 @@ use Rattle.std.proofs.Common.{◌≡◌, map, not, drop}
 use Rattle.msi_base.specs.declared.errors.ErrorKind.TheVariants.{InvalidInput}
 use Rattle.msi_base.specs.Refusals.{first_refusal}
 use Rattle.msi_database_changes.specs.Insert.{row_fits}
-use Rattle.msi_database_changes.proofs.insert.refuse_new_rows.Given as goal
+use Rattle.msi_database_changes.proofs.insert.refuse_new_misfits.Given as goal
 
 abbrev pub invariant-loop-row : goal.invariant-loop-row
 invariant-loop-row l = record {
