@@ -34,6 +34,8 @@ impl Drop for PreparedStatement<'_> {
 #[derive(Drop)]
 enum Work<'a> {
     Rows(Statement),
+    /// Rows of `_Validation`, which say more of columns.
+    Columns(Statement),
     Tables(Definition<'a>),
 }
 
@@ -78,10 +80,19 @@ fn prepared<'a>(alloc: Global, written: Written<'a>) -> Result<PreparedStatement
 
 fn work_of<'a>(alloc: Global, written: Written<'a>) -> Result<Work<'a>, Failure> {
     if is_definition(alloc, written.text) {
-        Ok(Work::Tables(definition_of(alloc, written.text)?))
-    } else {
-        Ok(Work::Rows(read_statement(alloc, written)?))
+        return Ok(Work::Tables(definition_of(alloc, written.text)?));
     }
+    let statement = read_statement(alloc, written)?;
+    if matches!(statement, Statement::Select(_)) || !describes(alloc, written)? {
+        return Ok(Work::Rows(statement));
+    }
+    Ok(Work::Columns(statement))
+}
+
+/// Returns whether a statement changes what `_Validation` says of columns. The library itself takes their descriptions
+/// alone.
+fn describes(alloc: Global, written: Written<'_>) -> Result<bool, AllocError> {
+    changes_table(alloc, written, VALIDATION, "Description")
 }
 
 /// Carries out statements in turn, and adds what each did. Fails at the first whose change is refused. Those in front
@@ -93,7 +104,7 @@ pub(crate) fn carry_out_statements(
     outcome: &mut Outcome,
 ) -> Result<(), Failure> {
     for statement in statements {
-        if describes(alloc, statement.written)? {
+        if matches!(statement.work, Work::Columns(_)) {
             outcome.note_anew();
         }
         outcome.add_carried(statement.carry_out(alloc, package)?)?;
@@ -101,17 +112,12 @@ pub(crate) fn carry_out_statements(
     Ok(())
 }
 
-/// Returns whether a statement changes what `_Validation` says of columns. The library itself only takes their
-/// descriptions.
-fn describes(alloc: Global, written: Written<'_>) -> Result<bool, AllocError> {
-    changes_table(alloc, written, VALIDATION, "Description")
-}
-
 impl PreparedStatement<'_> {
     fn carry_out(self, alloc: Global, package: &mut Package<Opened>) -> Result<Carried, Failure> {
         let PreparedStatement { written, work } = self;
         let carried = match work {
             Work::Rows(statement) => apply_rows(alloc, package, statement, written),
+            Work::Columns(statement) => apply_columns(alloc, package, statement, written),
             Work::Tables(definition) => apply_tables(alloc, package, definition),
         };
         match carried {
@@ -142,25 +148,27 @@ fn apply_rows(
 ) -> Result<Carried, Failure> {
     let statement = fitted_statement(alloc, package, statement)?;
     let carried = counted(package, &statement);
-    match apply_change(alloc, package, statement, written) {
+    match apply_statement(package, statement) {
         Ok(()) => Ok(carried?),
         Err(failure) => Err(explained(alloc, package, written, failure)),
     }
 }
 
-fn apply_change(
+/// Carries out a change of what `_Validation` says of columns, if the package has it.
+fn apply_columns(
     alloc: Global,
     package: &mut Package<Opened>,
     statement: Statement,
     written: Written<'_>,
-) -> Result<(), Failure> {
-    if !matches!(statement, Statement::Select(_))
-        && package.has_table(VALIDATION)
-        && describes(alloc, written)?
-    {
-        change_validation(alloc, package, statement)
-    } else {
-        apply_statement(package, statement)
+) -> Result<Carried, Failure> {
+    if !package.has_table(VALIDATION) {
+        return apply_rows(alloc, package, statement, written);
+    }
+    let statement = fitted_statement(alloc, package, statement)?;
+    let carried = counted(package, &statement);
+    match change_validation(alloc, package, statement) {
+        Ok(()) => Ok(carried?),
+        Err(failure) => Err(explained(alloc, package, written, failure)),
     }
 }
 

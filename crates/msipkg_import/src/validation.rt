@@ -66,7 +66,7 @@ impl Before {
         match stored.first_beside(&self.listed) {
             Some(table) => {
                 let failure = Failure::rule("_Tables doesn't list it, so its rows would be lost");
-                Err(failure.at(rt.alloc(), "_Validation can't be added, table", table))
+                Err(failure.at(rt.alloc(), "_Validation can't be stored, table", table))
             }
             None => Ok(()),
         }
@@ -222,7 +222,7 @@ fn copy_streams(
     for name in package.streams() {
         let name = name?;
         if let Err(failure) = copy_stream(package, name.as_str(), made) {
-            return Err(failure.at(alloc, "_Validation can't be added, stream", name.as_str()));
+            return Err(failure.at(alloc, "_Validation can't be stored, stream", name.as_str()));
         }
     }
     Ok(())
@@ -238,5 +238,5 @@ fn copy_stream(
 }
 
 fn at_table(alloc: Global, failure: Failure, table: &Table) -> Failure {
-    failure.at(alloc, "_Validation can't be added, table", table.name())
+    failure.at(alloc, "_Validation can't be stored, table", table.name())
 }
