@@ -54,8 +54,8 @@ pub fn prepare_statements<'a>(
     let mut statements = Vec::with_capacity(alloc, texts.len())?;
     let mut left = literals;
     for text in texts {
-        let count = mark_count(alloc, text)?.min(left.len());
-        let (literals, others) = left.split_at(count);
+        let count = mark_count(alloc, text)?;
+        let (literals, others) = left.split_at_checked(count).unwrap_or((left, &[]));
         left = others;
         statements.push(prepared(alloc, Written { text, literals })?)?;
     }
