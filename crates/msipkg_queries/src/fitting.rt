@@ -36,14 +36,26 @@ pub fn moved_statement(
     statement: Statement,
 ) -> Result<Statement, Error> {
     match statement {
-        Statement::Insert(insert) => {
-            let rows = values_of(alloc, insert_parts(insert).rows)?;
-            Ok(Statement::Insert(Insert::into(alloc, table)?.rows(rows)?))
-        }
+        Statement::Insert(insert) => Ok(Statement::Insert(moved_insert(alloc, table, insert)?)),
         Statement::Update(update) => Ok(Statement::Update(moved_update(alloc, table, update)?)),
         Statement::Delete(delete) => Ok(Statement::Delete(moved_delete(alloc, table, delete)?)),
         Statement::Select(_) => Ok(statement),
     }
+}
+
+fn moved_insert(alloc: Global, table: &str, insert: Insert) -> Result<Insert, Error> {
+    let parts = insert_parts(insert);
+    let names = names_of(alloc, parts.columns.as_slice())?;
+    let moved = Insert::into(alloc, table)?.columns(names.as_slice())?;
+    moved.rows(values_of(alloc, parts.rows)?)
+}
+
+fn names_of<'a>(alloc: Global, columns: &'a [Text]) -> Result<Vec<&'a str>, AllocError> {
+    let mut names = Vec::new(alloc);
+    for column in columns {
+        names.push(column.as_str())?;
+    }
+    Ok(names)
 }
 
 fn values_of(alloc: Global, rows: Items<NewRow>) -> Result<Vec<Vec<Value>>, AllocError> {
@@ -80,12 +92,13 @@ fn fitted_insert(
     insert: Insert,
 ) -> Result<Insert, Error> {
     let parts = insert_parts(insert);
+    let names = names_of(alloc, parts.columns.as_slice())?;
     let columns = match package.get_table(parts.table.as_str()) {
-        Some(table) => valued_columns(alloc, table, &[])?,
+        Some(table) => valued_columns(alloc, table, names.as_slice())?,
         None => Vec::new(alloc),
     };
-    let rows = fitted_rows(alloc, columns.as_slice(), parts.rows)?;
-    Insert::into(alloc, parts.table.as_str())?.rows(rows)
+    let fitted = Insert::into(alloc, parts.table.as_str())?.columns(names.as_slice())?;
+    fitted.rows(fitted_rows(alloc, columns.as_slice(), parts.rows)?)
 }
 
 fn fitted_rows(
