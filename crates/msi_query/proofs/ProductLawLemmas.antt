@@ -39,10 +39,10 @@ module _ {X : Type 0} (p : List X → Bool) where
   exchanged : (a b c g f : List (List X)) → IsPermutation (b ++ g) f → IsPermutation ((a ++ b) ++ (c ++ g)) ((a ++ c) ++ f)
   exchanged a b c g f h =
       let front : IsPermutation (b ++ (c ++ g)) (c ++ f) =
-          IsPermutation-trans (b ++ (c ++ g)) (c ++ (b ++ g)) (c ++ f)
-          (subst (λ (xs : List (List X)). IsPermutation xs (c ++ (b ++ g))) (append_assoc b c g)
-          (subst (λ (xs : List (List X)). IsPermutation ((b ++ c) ++ g) xs) (append_assoc c b g) (IsPermutation-append_left g (b ++ c) (c ++ b) (IsPermutation-append_comm b c))))
-          (IsPermutation-append_right c (b ++ g) f h) in
+      IsPermutation-trans (b ++ (c ++ g)) (c ++ (b ++ g)) (c ++ f)
+      (subst (λ (xs : List (List X)). IsPermutation xs (c ++ (b ++ g))) (append_assoc b c g)
+      (subst (λ (xs : List (List X)). IsPermutation ((b ++ c) ++ g) xs) (append_assoc c b g) (IsPermutation-append_left g (b ++ c) (c ++ b) (IsPermutation-append_comm b c))))
+      (IsPermutation-append_right c (b ++ g) f h) in
       subst (λ (xs : List (List X)). IsPermutation xs ((a ++ c) ++ f)) (sym (append_assoc a b (c ++ g)))
       (subst (λ (xs : List (List X)). IsPermutation (a ++ (b ++ (c ++ g))) xs) (sym (append_assoc a c f)) (IsPermutation-append_right a (b ++ (c ++ g)) (c ++ f) front))
 

@@ -12,7 +12,6 @@ pub mod SelectedLemmas
 pub mod StandOnceLemmas
 pub mod MeantLemmas
 pub mod SidesLemmas
-pub mod NestedLemmas
 pub mod FoundLemmas
 pub mod StrictOrderLemmas
 pub mod CombinationLemmas

@@ -10,7 +10,6 @@ mod joins;
 pub mod laws;
 mod links;
 mod narrowing;
-mod nested;
 mod numbers;
 mod ordering;
 mod picking;
