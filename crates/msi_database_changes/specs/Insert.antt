@@ -44,7 +44,8 @@ whole_rows columns names rows = if length names == 0 then rows else map (whole_r
 
 -- that a named column isn't there, or that one is named twice
 abbrev pub name_refusals : List ColumnDef → List (List ℕ) → Refusals
-name_refusals columns names = (not (has_columns columns names), InvalidInput) ∷ (has_pair bytes_eq names, InvalidInput) ∷ []
+name_refusals columns names =
+    (not (has_columns columns names), InvalidInput) ∷ (has_pair bytes_eq names, InvalidInput) ∷ []
 
 -- that a row has more or fewer values than there are names
 abbrev pub count_refusals : List (List ℕ) → List (List Value) → Refusals

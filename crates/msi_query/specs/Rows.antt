@@ -1,5 +1,6 @@
 -- Rows of cells, and what they stand for.
-use Rattle.std.specs.Prelude.{ℕ, List, [], ◌∷◌, map, Option, option_map, option_and_then, unwrap_or, slice_get, Result, Ok}
+use Rattle.std.specs.Prelude.{ℕ, List, [], ◌∷◌, map, Option, option_map, option_and_then, unwrap_or, slice_get}
+use Rattle.std.specs.Prelude.{Result, Ok}
 use Rattle.std.specs.List.{filter_map}
 use Rattle.msi_base.specs.declared.errors.ErrorKind.{ErrorKind}
 use Rattle.msi_base.specs.declared.errors.ErrorKind.TheVariants.{InvalidData, NotFound}

@@ -88,8 +88,8 @@ impl Clauses {
         self.condition.as_ref()
     }
 
-    /// Returns the columns by which the rows are ordered, the first of them foremost; if there is none, the rows stay in
-    /// their order.
+    /// Returns the columns by which the rows are ordered, the first of them foremost; if there is none, the rows stay
+    /// in their order.
     pub fn order(&self) -> &[Text]
         ensures { result.now ≡ self.now.order }
     {

@@ -3,7 +3,8 @@
 ghost use Rattle.std.specs.Prelude.{◌≡◌, ◌++◌, IfOk, IfErr, List, ℕ, Some, codes, map, option_copied};
 ghost use Rattle.std.specs.Fmt.{DisplaysOnOk, ◌++?◌};
 ghost use Rattle.msi_base.specs.declared.errors.ErrorKind.TheVariants.{OutOfMemory};
-ghost use Rattle.msi_query.specs.Queries.{table, join, product, no_clauses, distinct_query, narrowed_query, ordered_query};
+ghost use Rattle.msi_query.specs.Queries.{table, join, product, no_clauses, distinct_query, narrowed_query};
+ghost use Rattle.msi_query.specs.Queries.{ordered_query};
 ghost use Rattle.msi_query.specs.Queries.{projected_query};
 ghost use Rattle.msi_query.specs.QueryTexts.{bare_name, columns_text, join_word, order_text, query_text, select_word};
 ghost use Rattle.msi_query.specs.QueryTexts.{side_text, sides_text, where_text};
@@ -95,9 +96,9 @@ impl Select {
         })
     }
 
-    /// Starts a query for the product of tables: each row of each with each row of the others, and the columns of all of
-    /// them. The rows of the last table vary slowest. Each table is given with the name that its columns go by, `C` of a
-    /// table that goes by `T` as `T.C`, so that a table can stand there twice. Equations of columns in the condition
+    /// Starts a query for the product of tables: each row of each with each row of the others, and the columns of all
+    /// of them. The rows of the last table vary slowest. Each table is given with the name that its columns go by, `C`
+    /// of a table that goes by `T` as `T.C`, so that a table can be there twice. Equations of columns in the condition
     /// choose how rows are found, so no product is built that they exclude.
     ///
     /// # Errors
