@@ -96,11 +96,9 @@ pub(crate) fn product_rows(
     ensures kind { OnlyMemory result }
 {
     let test = RowFilter::new(alloc, columns, condition)?;
-    match relations {
-        [] => no_relation(alloc, pool, &test),
-        [first, others @ ..] => {
-            let others = product_rows(alloc, pool, columns, others, None)?;
-            rows_before(alloc, pool, &test, first.rows(), others.as_slice())
-        }
-    }
+    let Some((first, others)) = relations.split_first() else {
+        return no_relation(alloc, pool, &test);
+    };
+    let slow = product_rows(alloc, pool, columns, others, None)?;
+    rows_before(alloc, pool, &test, first.rows(), slow.as_slice())
 }
