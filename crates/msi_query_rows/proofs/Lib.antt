@@ -12,5 +12,6 @@ pub mod CombinationLemmas
 pub mod ProductLemmas
 pub mod StepLemmas
 pub mod WalkLemmas
+pub mod WideLemmas
 pub mod LinkLemmas
 pub mod ProductRows
