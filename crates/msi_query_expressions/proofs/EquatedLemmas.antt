@@ -1,8 +1,10 @@
 -- Rows that pass a condition with an equality of columns of two sides.
 use Rattle.std.proofs.Common.{◌≡◌, ℕ, zero, suc, ◌-◌, ◌<◌, ◌≤◌, Bool, true, false, List, [], ◌∷◌, ◌++◌, length, Option, Some, None, refl, sym, ap, ◌∙◌, arith, ltb-true, ltb-false}
 use Rattle.std.specs.Prelude.{option_and_then, unwrap_or, slice_get, nat_lt, if◌then◌else◌, ◌&&◌, IfSome}
+use Rattle.std.specs.List.{AllByRecursion}
 use Rattle.std.specs.Option.{option_or}
 use Rattle.std.specs.Ordering.{is_eq}
+use Rattle.msi_base.proofs.ListLemmas.{all_joined}
 use Rattle.msi_table_values.specs.declared.value.Value.{Value}
 use Rattle.msi_table_values.specs.declared.value.Value.TheVariants.{Null}
 use Rattle.msi_table_values.specs.Values.{is_true, value_cmp}
@@ -13,7 +15,7 @@ use Rattle.msi_query_expressions.specs.Expressions.{Expression, literal, column,
 use Rattle.msi_query_expressions.specs.OperatorValues.{truth}
 use Rattle.msi_query_expressions.specs.Evaluation.{value_of}
 use Rattle.msi_query_expressions.specs.Conditions.{meets, value_at_place, value_in}
-use Rattle.msi_query_expressions.specs.Equated.{PassesWithEqual, column_place, equated, one_of_each}
+use Rattle.msi_query_expressions.specs.Equated.{AreEqualAt, PassesWithEqual, both_places, column_place, equated, equations, one_of_each}
 
 abbrev same : Value → Value → Bool
 same v w = is_eq (value_cmp v w)
@@ -116,3 +118,34 @@ equated_passes columns width (binary two.BitOr l r) = tt
 equated_passes columns width (binary two.BitXor l r) = tt
 equated_passes columns width (binary two.Shl l r) = tt
 equated_passes columns width (binary two.Shr l r) = tt
+
+-- the equations of a condition hold in each row that meets it
+equation_holds : (columns : List ColumnDef) (row : List Value) (l r : Expression) (o u : Option ℕ) → column_place columns l ≡ o → column_place columns r ≡ u
+    → is_true (truth (same (value_of (value_in columns row) l) (value_of (value_in columns row) r))) ≡ true → AllByRecursion (AreEqualAt row) (both_places o u)
+equation_holds columns row l r None u hl hr t = tt
+equation_holds columns row l r (Some p) None hl hr t = tt
+equation_holds columns row l r (Some p) (Some q) hl hr t = (moved _ _ _ _ (place_value columns l p hl row) (place_value columns r q hr row) (true_of _ t), tt)
+
+pub equations_hold : (columns : List ColumnDef) (row : List Value) (e : Expression) → meets columns (Some e) row ≡ true → AllByRecursion (AreEqualAt row) (equations columns e)
+equations_hold columns row (literal v) t = tt
+equations_hold columns row (column n) t = tt
+equations_hold columns row (unary op e) t = tt
+equations_hold columns row (either l r) t = tt
+equations_hold columns row (both l r) t =
+    let parts = true_both _ _ t in
+    all_joined (AreEqualAt row) (equations columns l) (equations columns r) (equations_hold columns row l parts.0) (equations_hold columns row r parts.1)
+equations_hold columns row (binary two.Eq l r) t = equation_holds columns row l r (column_place columns l) (column_place columns r) refl refl t
+equations_hold columns row (binary two.Ne l r) t = tt
+equations_hold columns row (binary two.Lt l r) t = tt
+equations_hold columns row (binary two.Le l r) t = tt
+equations_hold columns row (binary two.Gt l r) t = tt
+equations_hold columns row (binary two.Ge l r) t = tt
+equations_hold columns row (binary two.Add l r) t = tt
+equations_hold columns row (binary two.Sub l r) t = tt
+equations_hold columns row (binary two.Mul l r) t = tt
+equations_hold columns row (binary two.Div l r) t = tt
+equations_hold columns row (binary two.BitAnd l r) t = tt
+equations_hold columns row (binary two.BitOr l r) t = tt
+equations_hold columns row (binary two.BitXor l r) t = tt
+equations_hold columns row (binary two.Shl l r) t = tt
+equations_hold columns row (binary two.Shr l r) t = tt

@@ -1,5 +1,5 @@
 -- Equalities of columns of two sides, in conditions on pairs of rows.
-use Rattle.std.specs.Prelude.{◌≡◌, ℕ, ◌-◌, Bool, List, ◌++◌, length, Option, Some, None, option_and_then, nat_lt}
+use Rattle.std.specs.Prelude.{◌≡◌, ℕ, ◌-◌, Bool, List, [], ◌∷◌, ◌++◌, length, Option, Some, None, option_and_then, nat_lt}
 use Rattle.std.specs.Prelude.{if◌then◌else◌, IsTrue}
 use Rattle.std.specs.Option.{option_or}
 use Rattle.std.specs.Ordering.{is_eq}
@@ -29,6 +29,21 @@ equated columns width (binary two.Eq l r) =
     (column_place columns l)
 equated columns width (both l r) = option_or (equated columns width l) (equated columns width r)
 equated columns width _ = None
+
+-- two places, where both are there
+abbrev pub both_places : Option ℕ → Option ℕ → List (ℕ × ℕ)
+both_places (Some p) (Some q) = (p, q) ∷ []
+both_places _ _ = []
+
+-- the places of the columns of each equality of two columns, alone or under `and`
+abbrev pub equations : List ColumnDef → Expression → List (ℕ × ℕ)
+equations columns (binary two.Eq l r) = both_places (column_place columns l) (column_place columns r)
+equations columns (both l r) = equations columns l ++ equations columns r
+equations columns _ = []
+
+-- the values of a row at two places are equal
+abbrev pub AreEqualAt : List Value → ℕ × ℕ → Type 0
+AreEqualAt row places = IsTrue (is_eq (value_cmp (value_at_place row places.0) (value_at_place row places.1)))
 
 -- a row of this width and another that pass a test as a pair have equal values at these places
 abbrev pub PassesWithEqual : (List Value → Bool) → ℕ → ℕ × ℕ → Type 0

@@ -6,7 +6,7 @@ ghost use Rattle.msi_table_values.specs.declared.value.Value.TheVariants.{Null, 
 ghost use Rattle.msi_query_expressions.specs.Expressions.{literal, column, both, either, names_in};
 ghost use Rattle.msi_table_values.specs.Values.{is_text};
 ghost use Rattle.msi_query_expressions.specs.Conditions.{has_sum};
-ghost use Rattle.msi_query_expressions.specs.Equated.{equated as equated_in};
+ghost use Rattle.msi_query_expressions.specs.Equated.{equated as equated_in, equations as equations_in};
 ghost use Rattle.msi_query_expressions.specs.OperatorValues.{truth};
 ghost use Rattle.msi_query_expressions.specs.Evaluation.{knows_names as knows_each, value_of, value_at};
 ghost use Rattle.msi_query_expressions.specs.Evaluation.{HasColumnsOf};
@@ -28,7 +28,7 @@ mod texts;
 use crate::meaning::Scope;
 pub use crate::operators::{BinaryOp, UnaryOp};
 use copying::copied;
-use equated::equated_places;
+use equated::{add_equations, equated_places};
 use evaluation::operand_of;
 use folding::{fold_binary, fold_unary};
 use msi_base::errors::Error;
@@ -461,6 +461,19 @@ impl Expr {
         ensures { result ≡ equated_in columns.now width self.now }
     {
         equated_places(&self.tree, columns, width)
+    }
+
+    pub(crate) fn equations(
+        &self,
+        alloc: Global,
+        columns: &[Column],
+    ) -> Result<Vec<(usize, usize)>, Error>
+        ensures ok { IfOk result (λ equations. equations.items ≡ equations_in columns.now self.now) }
+        ensures kind { IfErr result (λ kind. kind ≡ OutOfMemory) }
+    {
+        let mut equations = Vec::new(alloc);
+        add_equations(&self.tree, columns, &mut equations)?;
+        Ok(equations)
     }
 
     pub(crate) fn knows_names(&self, columns: &[Column]) -> bool

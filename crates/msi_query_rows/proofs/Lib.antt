@@ -12,4 +12,12 @@ pub mod SelectedLemmas
 pub mod StandOnceLemmas
 pub mod MeantLemmas
 pub mod SidesLemmas
-pub mod NestedLemmas
+pub mod FoundLemmas
+pub mod ProductOrderLemmas
+pub mod CombinationLemmas
+pub mod ProductLemmas
+pub mod StepLemmas
+pub mod WalkLemmas
+pub mod WideLemmas
+pub mod LinkLemmas
+pub mod ProductRows

@@ -2,15 +2,18 @@
 #![tactic(auto)]
 
 mod columns;
+mod combining;
 mod distinct;
 mod index;
 mod joining;
 mod joins;
 pub mod laws;
+mod links;
 mod narrowing;
-mod nested;
+mod numbers;
 mod ordering;
 mod picking;
+mod product;
 mod reasons;
 mod relation;
 mod rows;

@@ -10,7 +10,7 @@ ghost use Rattle.msi_query.specs.Selection.{first_unread, kept_of, product_of, s
 
 use crate::columns::product_columns;
 use crate::narrowing::{refuse_unknown, selected};
-use crate::nested::product_rows;
+use crate::product::product_rows;
 use crate::reasons;
 use crate::relation::Relation;
 use crate::selection::{Tables, columns_of, whole};

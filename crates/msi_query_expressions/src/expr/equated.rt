@@ -1,10 +1,13 @@
-//! Equalities of columns of two sides.
+//! Equalities of columns.
 
-ghost use Rattle.std.specs.Prelude.{◌≡◌};
-ghost use Rattle.msi_query_expressions.specs.Equated.{column_place as place_of, equated, one_of_each as one_each};
+ghost use Rattle.std.specs.Prelude.{◌≡◌, ◌++◌, OnOk};
+ghost use Rattle.msi_base.specs.Results.{OnlyMemory};
+ghost use Rattle.msi_query_expressions.specs.Equated.{column_place as place_of, equated, equations as equations_of};
+ghost use Rattle.msi_query_expressions.specs.Equated.{one_of_each as one_each};
 ghost use Rattle.msi_query_expressions.specs.Trees.{expression_of};
 
 use super::{BinaryOp, Tree};
+use msi_base::errors::Error;
 use msi_base::text::Text;
 use msi_table_values::column::Column;
 use msi_table_values::parts::column_index;
@@ -54,5 +57,34 @@ pub(crate) fn equated_places(
             None => equated_places(right, columns, width),
         },
         _ => None,
+    }
+}
+
+/// Adds the places of the columns of each equality of two columns, alone or under `and`.
+pub(crate) fn add_equations(
+    tree: &Tree<Text>,
+    columns: &[Column],
+    equations: &mut Vec<(usize, usize)>,
+) -> Result<(), Error>
+    ensures ok { OnOk result (equations.new.items
+        ≡ equations.old.items ++ equations_of columns.now (expression_of tree.now)) }
+    ensures kind { OnlyMemory result }
+{
+    match tree {
+        Tree::Binary(BinaryOp::Eq, left, right) => {
+            let Some(place) = column_place(left, columns) else {
+                return Ok(());
+            };
+            let Some(other) = column_place(right, columns) else {
+                return Ok(());
+            };
+            equations.push((place, other))?;
+            Ok(())
+        }
+        Tree::And(left, right) => {
+            add_equations(left, columns, equations)?;
+            add_equations(right, columns, equations)
+        }
+        _ => Ok(()),
     }
 }

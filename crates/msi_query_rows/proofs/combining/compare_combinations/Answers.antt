@@ -1,0 +1,10 @@
+use Rattle.std.proofs.Common.{◌≡◌, refl}
+use Rattle.std.specs.Ordering.{nat_cmp}
+use Rattle.std.proofs.lemmas.Iterator.Adapters.{YieldsList-from_rev_slice}
+use Rattle.std.proofs.lemmas.Iterator.Search.{cmp_from_yields_List}
+use Rattle.msi_query_rows.proofs.combining.compare_combinations.Goals as goal
+
+pub returns : goal.returns
+returns c =
+    cmp_from_yields_List (λ x y. y ≡ x) _ nat_cmp _ c.cmp.ensures.ran (YieldsList-from_rev_slice c.args.one.now cc)
+    (λ it e. YieldsList-from_rev_slice c.args.other.now cc) (λ x y. refl)
