@@ -157,9 +157,12 @@ module _ (on : Expression) (l r : Relation) where
   kept_same : HaveSameRows (kept_of clauses whole) (kept_of_join Inner on no_clauses l r)
   kept_same = subst (λ (cs : List ColumnDef). HaveSameRows (kept_of clauses whole) (join_over cs)) columns_same over_same
 
+abbrev one_given : Relation → Result (List Relation) ErrorKind
+one_given r = Ok (r ∷ [])
+
 abbrev of_sides : List ℕ → List ℕ → Expression → Result Relation ErrorKind → Result Relation ErrorKind → Result Relation ErrorKind
 of_sides left right on a b =
-    (a >>= λ l. (b >>= λ r. let none : List Relation = [] in Ok {E = ErrorKind} (r ∷ none)) >>= λ rs. Ok (l ∷ rs))
+    (a >>= λ l. (b >>= λ r. one_given r) >>= λ rs. Ok (l ∷ rs))
     >>= λ rs. unless_refused (side_refusals (own_side left ∷ own_side right ∷ [])) (product_of rs) >>= λ r. kept_of (record no_clauses { condition = Some on }) r
 
 at_sides : (left right : List ℕ) (on : Expression) (a b : Result Relation ErrorKind) → bytes_eq left right ≡ false

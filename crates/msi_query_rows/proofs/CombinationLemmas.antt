@@ -1,23 +1,23 @@
 -- Combinations of numbers: their order, and those of which only some numbers are chosen.
-use Rattle.std.proofs.Common.{◌≡◌, ℕ, zero, suc, ◌+◌, ◌<◌, ◌≤◌, ◌⊎◌, inl, inr, Bool, true, false, cond, List, [], ◌∷◌, ◌++◌, length, get_or, refl, sym, ap, subst, ◌∙◌, arith, Ordering, eqb-true, ltb-true, ltb-false}
+use Rattle.std.proofs.Common.{◌≡◌, ℕ, zero, suc, ◌+◌, ◌<◌, inl, inr, Bool, true, false, cond, List, [], ◌∷◌, ◌++◌, length, get_or, refl, sym, ap, subst, ◌∙◌, arith, Ordering, eqb-true, ltb-true}
 use Rattle.std.proofs.Math.ListN.{set, length-set}
 use Rattle.std.specs.Prelude.{map, filter, reverse, nat_lt, replicate, ◌==◌, ◌&&◌}
 use Rattle.std.specs.declared.cmp.Ordering.TheVariants.{Less, Equal, Greater}
 use Rattle.std.specs.List.{AllByRecursion, flat_map, list_all, range_with_len}
-use Rattle.std.specs.Ordering.{is_lt, is_eq, nat_cmp, ordering_then, ordering_reverse}
-use Rattle.std.specs.Cmp.{IsStrictWeakOrder, IsTotalOrder, nat_cmp_is, tied_itself}
+use Rattle.std.specs.Ordering.{is_lt, nat_cmp, ordering_then, ordering_reverse}
+use Rattle.std.specs.Cmp.{IsStrictWeakOrder, nat_cmp_is, tied_itself}
 use Rattle.std.specs.Cmp.Lexicographic.{slice_cmp, nat_list_cmp_total}
-use Rattle.std.proofs.lemmas.List.{length-reverse, reverse-append, reverse-reverse}
+use Rattle.std.proofs.lemmas.List.{length-reverse, reverse-reverse}
 use Rattle.std.proofs.lemmas.Grind.{reverse_onto}
 use Rattle.std.proofs.lemmas.List.MinMax.{ranks_by}
 use Rattle.std.proofs.lemmas.Bool.{and_parts, lt-ltb}
 use Rattle.std.proofs.lemmas.Map.Lookups.{exact_bytes}
 use Rattle.msi_base.specs.Lists.{stable_sort}
 use Rattle.msi_query_rows.specs.Combinations.{IsCombination, combination_cmp, combinations, if_whole, with_each}
-use Rattle.msi_base.proofs.BoolLemmas.{by_test, yes_is_no}
+use Rattle.msi_base.proofs.BoolLemmas.{by_test}
 use Rattle.msi_base.proofs.ListLemmas.{In, all_at, all_from, all_kept, all_weaker, filter_all}
 use Rattle.msi_table_cells.proofs.StableSortLemmas.{all_sorted}
-use Rattle.msi_query_rows.proofs.StrictOrderLemmas.{IsOnce, Rises, in_filter, in_flat_map, in_map, in_numbers, in_sorted, of_filter, of_flat_map, of_map, of_numbers, of_sorted, once_filter, once_flat_map, once_map, once_numbers, rises_filter, rises_flat_map, rises_map, rises_sorted, same_members}
+use Rattle.msi_query_rows.proofs.ProductOrderLemmas.{IsOnce, Rises, in_filter, in_flat_map, in_map, in_numbers, in_sorted, of_filter, of_flat_map, of_map, of_numbers, of_sorted, once_filter, once_flat_map, once_map, rises_filter, rises_flat_map, rises_map, rises_sorted, same_members}
 
 pub in_combinations : (counts numbers : List ℕ) → IsCombination counts numbers → In numbers (combinations counts)
 in_combinations [] [] h = inl refl

@@ -13,10 +13,11 @@ pub mod StandOnceLemmas
 pub mod MeantLemmas
 pub mod SidesLemmas
 pub mod FoundLemmas
-pub mod StrictOrderLemmas
+pub mod ProductOrderLemmas
 pub mod CombinationLemmas
 pub mod ProductLemmas
 pub mod StepLemmas
 pub mod WalkLemmas
+pub mod WideLemmas
 pub mod LinkLemmas
 pub mod ProductRows

@@ -1,6 +1,6 @@
 -- Links between the relations of a product: what a condition implies, and the steps of a product along them.
-use Rattle.std.proofs.Common.{◌≡◌, ℕ, zero, suc, ◌+◌, ◌<◌, ◌≤◌, Bool, true, false, not, List, [], ◌∷◌, ◌++◌, length, get_or, take, drop, ◌-◌, refl, sym, ap, subst, ◌∙◌, arith}
-use Rattle.std.specs.Prelude.{map, filter, find, Option, Some, None, option_map, option_and_then, unwrap_or, slice_get, slice_index_or, replicate, ◌&&◌, ◌==◌}
+use Rattle.std.proofs.Common.{◌≡◌, ℕ, ◌+◌, ◌<◌, ◌≤◌, Bool, true, false, not, List, [], ◌∷◌, ◌++◌, length, get_or, take, drop, ◌-◌, refl, sym, ap, subst, ◌∙◌}
+use Rattle.std.specs.Prelude.{map, filter, find, Option, Some, None, option_map, unwrap_or, slice_get, slice_index_or, replicate, ◌==◌}
 use Rattle.std.specs.List.{AllByRecursion, flat_map, list_all, position, range_with_len}
 use Rattle.std.specs.Ordering.{is_eq}
 use Rattle.std.proofs.Math.ListN.{set}
@@ -30,8 +30,8 @@ use Rattle.msi_query.specs.Rows.{RelationCells, rows_values}
 use Rattle.msi_query_rows.specs.declared.links.Link.{Link}
 use Rattle.msi_query_rows.specs.Combinations.{IsCombination, combination_cmp, combinations, combined, if_whole, is_kept, located, numbered_row, rows_of_each, value_combined, widths_of, with_each}
 use Rattle.msi_query_rows.specs.Index.{value_there}
-use Rattle.msi_query_rows.specs.Links.{AreImplied, AreLinked, both_links, connects, link_of, links_between, links_of, numbers_for, relation_of}
-use Rattle.msi_query_rows.proofs.StrictOrderLemmas.{IsOnce}
+use Rattle.msi_query_rows.specs.Links.{AreImplied, AreLinked, both_links, connects, links_between, links_of, numbers_for, relation_of}
+use Rattle.msi_query_rows.proofs.ProductOrderLemmas.{IsOnce}
 use Rattle.msi_query_rows.proofs.CombinationLemmas.{IsFound, chosen, found_all, found_first, found_more}
 use Rattle.msi_query_rows.proofs.ProductLemmas.{filter_images, located_there, product_combined}
 use Rattle.msi_query_rows.proofs.StepLemmas.{all_inside, all_once, count_left, first_is_left, in_all, in_matching, left_within, matching_inside, matching_once, none_is_left, not_false, one_less_left}

@@ -1,5 +1,5 @@
 -- Products, row by row.
-use Rattle.std.proofs.Common.{◌≡◌, ℕ, List, [], ◌∷◌, Option, Some, None, refl}
+use Rattle.std.proofs.Common.{◌≡◌, ℕ, [], ◌∷◌, Some, None, refl}
 use Rattle.msi_query_rows.specs.Combinations.{combinations, located}
 use Rattle.msi_query.specs.Product.{product}
 

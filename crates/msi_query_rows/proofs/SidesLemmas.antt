@@ -60,14 +60,22 @@ side_refuses tables sides i side rs k below at e (inr f) = inr (refused_behind t
 
 -- THEIR VALUES
 
+abbrev under_name : List ℕ → Relation → Result Relation ErrorKind
+under_name name r = Ok (record r { name = name })
+
+abbrev cells_under_name : List ℕ → RelationCells → Result RelationCells ErrorKind
+cells_under_name name r = Ok (record r { name = name })
+
+abbrev given_values : List Place → RelationCells → Result Relation ErrorKind
+given_values places r = Ok (relation_values places r)
+
 named_so : (places : List Place) (name : List ℕ) (w : Result RelationCells ErrorKind)
-    → (w >>= λ r. let v : Relation = record (relation_values places r) { name = name } in Ok {E = ErrorKind} v)
-    ≡ ((w >>= λ r. let c : RelationCells = record r { name = name } in Ok {E = ErrorKind} c) >>= λ r. Ok (relation_values places r))
+    → (w >>= λ r. under_name name (relation_values places r)) ≡ ((w >>= λ r. cells_under_name name r) >>= λ r. given_values places r)
 named_so places name (Ok r) = refl
 named_so places name (Err k) = refl
 
-side_values : (places : List Place) (tables : List ℕ → Option TableCells) (side : Side) → side_of (tables_values places tables) side ≡ (side_cells tables side >>= λ r. Ok (relation_values places r))
-side_values places tables side = table_goes_on places tables side.table (λ v. Ok (record v { name = side.name })) ∙ named_so places side.name (whole_table tables side.table)
+side_values : (places : List Place) (tables : List ℕ → Option TableCells) (side : Side) → side_of (tables_values places tables) side ≡ (side_cells tables side >>= λ r. given_values places r)
+side_values places tables side = table_goes_on places tables side.table (under_name side.name) ∙ named_so places side.name (whole_table tables side.table)
 
 valued_both : (places : List Place) (r : Result RelationCells ErrorKind) (s : Result (List RelationCells) ErrorKind)
     → ((r >>= λ x. Ok (relation_values places x)) >>= λ x. (s >>= λ xs. Ok (map (relation_values places) xs)) >>= λ xs. Ok (x ∷ xs))
@@ -128,11 +136,12 @@ names_refused places tables sides c rs u k e a w =
 
 -- COLUMNS
 
-pub columns_more : (places : List Place) (relations : List RelationCells) (i : ℕ) (relation : RelationCells) (old new : List ColumnDef) → i < length relations → relation ≡ get_or relations i relation
-    → old ≡ product_columns (map (relation_values places) (take i relations)) → new ≡ old ++ map (λ c. prefixed relation.name c) relation.columns
+pub columns_more : (places : List Place) (relations : List RelationCells) (i : ℕ) (relation : RelationCells) (name : List ℕ) (columns : List ColumnDef) (old new : List ColumnDef) → i < length relations → relation ≡ get_or relations i relation → name ≡ relation.name → columns ≡ relation.columns
+    → old ≡ product_columns (map (relation_values places) (take i relations)) → new ≡ old ++ map (λ c. prefixed name c) columns
     → new ≡ product_columns (map (relation_values places) (take (i + 1) relations))
-columns_more places relations i relation old new below at e n =
-    n ∙ ap (λ (cs : List ColumnDef). cs ++ map (λ c. prefixed relation.name c) relation.columns) e
+columns_more places relations i relation name columns old new below at m k e n =
+    n ∙ ap (λ (x : List ℕ). old ++ map (λ c. prefixed x c) columns) m ∙ ap (λ (x : List ColumnDef). old ++ map (λ c. prefixed relation.name c) x) k
+    ∙ ap (λ (cs : List ColumnDef). cs ++ map (λ c. prefixed relation.name c) relation.columns) e
     ∙ ap (λ (cs : List ColumnDef). product_columns (map (relation_values places) (take i relations)) ++ cs) (sym (append-nil (map (λ c. prefixed relation.name c) relation.columns)))
     ∙ sym (ap product_columns (ap (map (relation_values places)) (take_more relations i relation below ∙ ap (λ (r : RelationCells). take i relations ++ r ∷ []) (sym at))
     ∙ map-append (relation_values places) (take i relations) (relation ∷ []))
@@ -151,30 +160,29 @@ selected_met c r =
     (sym (all_kept r.columns (filter (meets r.columns c.condition) r.rows)))
 
 -- the parts of a relation that is made of the rows of a product
-pub record IsMade (places : List Place) (relations : List RelationCells) (columns : List ColumnDef) (condition : Option Expression) (made : RelationCells) : Type 0 where
+pub record IsMade (places : List Place) (relations : List RelationCells) (condition : Option Expression) (made : RelationCells) : Type 0 where
   pub name : made.name ≡ []
-  pub columns_are : made.columns ≡ columns
-  pub rows_are : rows_values places made.rows ≡ filter (meets columns condition) (rows_of_product (map (λ (r : RelationCells). rows_values places r.rows) relations))
+  pub columns_are : made.columns ≡ product_columns (map (relation_values places) relations)
+  pub rows_are : rows_values places made.rows ≡ filter (meets (product_columns (map (relation_values places) relations)) condition) (rows_of_product (map (λ (r : RelationCells). rows_values places r.rows) relations))
 
 abbrev relation_with : List ColumnDef → List (List Value) → Relation
 relation_with columns rows = record { name = []; columns = columns; rows = rows }
 
-made_of : (places : List Place) (relations : List RelationCells) (columns : List ColumnDef) (condition : Option Expression) (made : RelationCells) → IsMade places relations columns condition made
-    → columns ≡ product_columns (map (relation_values places) relations)
+made_of : (places : List Place) (relations : List RelationCells) (condition : Option Expression) (made : RelationCells) → IsMade places relations condition made
     → relation_values places made
     ≡ relation_with (product_columns (map (relation_values places) relations)) (filter (meets (product_columns (map (relation_values places) relations)) condition) (product_of (map (relation_values places) relations)).rows)
-made_of places relations columns condition made is e =
+made_of places relations condition made is =
+    let columns = product_columns (map (relation_values places) relations) in
     ap (λ (name : List ℕ). let s : Relation = record { name = name; columns = made.columns; rows = rows_values places made.rows } in s) is.name
     ∙ ap (λ (cs : List ColumnDef). relation_with cs (rows_values places made.rows)) is.columns_are
     ∙ ap (relation_with columns) is.rows_are
     ∙ ap (λ (xs : List (List (List Value))). relation_with columns (filter (meets columns condition) (rows_of_product xs))) (rows_each places relations)
-    ∙ ap (λ (cs : List ColumnDef). relation_with cs (filter (meets cs condition) (rows_of_product (map (λ (r : Relation). r.rows) (map (relation_values places) relations))))) e
 
 -- what the clauses keep of a product whose rows meet the condition already
 pub product_kept : (places : List Place) (c m others : Clauses) (condition : Option Expression) (relations : List RelationCells) (columns known : List ColumnDef) (made : RelationCells)
     (answer : Result (Unit {0}) ErrorKind) (kept : Result RelationCells ErrorKind)
     → columns ≡ product_columns (map (relation_values places) relations) → m ≡ meant_clauses [] columns c → condition ≡ m.condition → others ≡ record m { condition = None }
-    → known ≡ columns → answer ≡ unless_refused (clause_refusals m known) tt → answer ≡ Ok tt → IsMade places relations columns condition made
+    → known ≡ product_columns (map (relation_values places) relations) → answer ≡ unless_refused (clause_refusals m known) tt → answer ≡ Ok tt → IsMade places relations condition made
     → IfOk kept (λ k. relation_values places k ≡ selected others (relation_values places made))
     → IfOk kept (λ k. kept_of c (product_of (map (relation_values places) relations)) ≡ Ok (relation_values places k))
 product_kept places c m others condition relations columns known made answer (Err k) e f g o n a w is s = s
@@ -183,20 +191,20 @@ product_kept places c m others condition relations columns known made answer (Ok
     let meaning : m ≡ meant_clauses [] whole.columns c = f ∙ ap (λ cs. meant_clauses [] cs c) e in
     ap (λ (x : Clauses). unless_refused (clause_refusals x whole.columns) (selected x whole)) (sym meaning)
     ∙ refusals-Ok (clause_refusals m whole.columns) tt tt (selected m whole) (relation_values places k)
-    (sym w ∙ a ∙ ap (λ cs. unless_refused (clause_refusals m cs) tt) (n ∙ e))
+    (sym w ∙ a ∙ ap (λ cs. unless_refused (clause_refusals m cs) tt) n)
     (s ∙ ap (λ (x : Clauses). selected x (relation_values places made)) o
-    ∙ ap (selected (record m { condition = None })) (made_of places relations columns condition made is e)
+    ∙ ap (selected (record m { condition = None })) (made_of places relations condition made is)
     ∙ ap (λ (x : Option Expression). selected (record m { condition = None }) (relation_with whole.columns (filter (meets whole.columns x) whole.rows))) g
     ∙ selected_met m whole)
 
 pub product_clauses_refused : (places : List Place) (c m : Clauses) (relations : List RelationCells) (columns known : List ColumnDef) (answer : Result (Unit {0}) ErrorKind) (k : ErrorKind)
-    → columns ≡ product_columns (map (relation_values places) relations) → m ≡ meant_clauses [] columns c → known ≡ columns
+    → columns ≡ product_columns (map (relation_values places) relations) → m ≡ meant_clauses [] columns c → known ≡ product_columns (map (relation_values places) relations)
     → answer ≡ unless_refused (clause_refusals m known) tt → answer ≡ Err k → IsRefusal (kept_of c (product_of (map (relation_values places) relations))) k
 product_clauses_refused places c m relations columns known answer k e f n a w =
     let whole = product_of (map (relation_values places) relations) in
     let meaning : m ≡ meant_clauses [] whole.columns c = f ∙ ap (λ cs. meant_clauses [] cs c) e in
     inr (ap (λ (x : Clauses). unless_refused (clause_refusals x whole.columns) (selected x whole)) (sym meaning)
-    ∙ refusals-Err (clause_refusals m whole.columns) tt (selected m whole) k (sym w ∙ a ∙ ap (λ cs. unless_refused (clause_refusals m cs) tt) (n ∙ e)))
+    ∙ refusals-Err (clause_refusals m whole.columns) tt (selected m whole) k (sym w ∙ a ∙ ap (λ cs. unless_refused (clause_refusals m cs) tt) n))
 
 -- WIDTHS
 

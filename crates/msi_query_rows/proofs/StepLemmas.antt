@@ -1,14 +1,14 @@
 -- One more relation of a product: which one, and the numbers of its rows.
-use Rattle.std.proofs.Common.{◌≡◌, ℕ, zero, suc, ◌+◌, ◌<◌, ◌≤◌, Bool, true, false, not, cond, List, [], ◌∷◌, length, get_or, refl, sym, ap, subst, ◌∙◌, arith, ltb-true, ltb-false}
-use Rattle.std.specs.Prelude.{map, filter, Option, Some, None, nat_lt, slice_index_or}
-use Rattle.std.specs.List.{AllByRecursion, list_all, position, position_or_len, range_with_len}
+use Rattle.std.proofs.Common.{◌≡◌, ℕ, zero, suc, ◌<◌, ◌≤◌, Bool, true, false, not, cond, List, [], ◌∷◌, length, get_or, refl, sym, ap, ◌∙◌, arith, ltb-false}
+use Rattle.std.specs.Prelude.{map, filter, Some, None, nat_lt, slice_index_or}
+use Rattle.std.specs.List.{AllByRecursion, position, position_or_len, range_with_len}
 use Rattle.std.proofs.Math.ListN.{set, get_or-map}
 use Rattle.std.proofs.lemmas.List.{length-map}
 use Rattle.std.proofs.lemmas.List.Quantifiers.{position-Some}
 use Rattle.msi_query_rows.specs.Combinations.{IsCombination, numbered_row}
-use Rattle.msi_base.proofs.BoolLemmas.{by_test, yes_is_no}
+use Rattle.msi_base.proofs.BoolLemmas.{by_test}
 use Rattle.msi_base.proofs.ListLemmas.{In}
-use Rattle.msi_query_rows.proofs.StrictOrderLemmas.{IsOnce, in_filter, in_numbers, of_filter, of_numbers, once_filter, once_numbers}
+use Rattle.msi_query_rows.proofs.ProductOrderLemmas.{IsOnce, in_filter, in_numbers, of_filter, of_numbers, once_filter, once_numbers}
 use Rattle.msi_query_rows.proofs.CombinationLemmas.{chosen, chosen_at}
 
 -- how many are left

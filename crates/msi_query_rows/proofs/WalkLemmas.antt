@@ -1,12 +1,11 @@
 -- Loops over the relations of a product, and over numbers.
-use Rattle.std.proofs.Common.{◌≡◌, ℕ, zero, suc, ◌+◌, ◌-◌, ◌<◌, ◌≤◌, Bool, true, false, List, [], ◌∷◌, ◌++◌, length, get_or, take, drop, refl, sym, ap, subst, ◌∙◌, arith, ltb-true, ltb-false, append_assoc}
+use Rattle.std.proofs.Common.{◌≡◌, ℕ, zero, suc, ◌+◌, ◌-◌, ◌<◌, ◌≤◌, Bool, true, false, List, [], ◌∷◌, ◌++◌, length, get_or, take, drop, refl, sym, ap, ◌∙◌, arith, ltb-true, append_assoc}
 use Rattle.std.specs.Prelude.{map, filter, Option, Some, None, option_map, nat_lt, slice_index_or, slice_set, if◌then◌else◌}
-use Rattle.std.specs.List.{AllByRecursion, flat_map, range_with_len}
-use Rattle.std.proofs.Math.ListN.{set}
+use Rattle.std.specs.List.{range_with_len}
 use Rattle.std.proofs.lemmas.List.{append-nil, map-append, take_more}
 use Rattle.std.proofs.lemmas.Bool.{lt-ltb}
 use Rattle.msi_query_rows.specs.Combinations.{combined, located, numbered_row, with_each}
-use Rattle.msi_base.proofs.BoolLemmas.{by_test, yes_is_no}
+use Rattle.msi_base.proofs.BoolLemmas.{by_test}
 use Rattle.msi_base.proofs.ListLemmas.{filter_yes, filter_no}
 use Rattle.msi_query_rows.proofs.ProductLemmas.{combined_next}
 

@@ -50,7 +50,12 @@ pub(crate) fn mean_columns(scope: Scope<'_>, names: &[Text]) -> bool
     ensures { result ≡ has_each scope.entry.columns.now
         (map (meant scope.entry.table.now scope.entry.columns.now) names.now) }
 {
-    names.iter().all(|name| means_column(scope, name.as_str()))
+    match names {
+        [] => true,
+        [name, others @ ..] => {
+            means_column(scope, name.as_str()) && mean_columns(scope, others)
+        }
+    }
 }
 
 pub(crate) fn condition_means_columns(scope: Scope<'_>, condition: Option<&Expr>) -> bool

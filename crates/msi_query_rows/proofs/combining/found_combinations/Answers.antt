@@ -1,4 +1,4 @@
-use Rattle.std.proofs.Common.{◌≡◌, Bool, List, Some, None, not, ap, sym, refl, ◌∙◌, true, false, length, ◌<◌, arith, rules}
+use Rattle.std.proofs.Common.{◌≡◌, Bool, List, not, ap, sym, refl, ◌∙◌, true, false, length, ◌<◌, arith, rules}
 use Rattle.std.specs.Prelude.{find, replicate, slice_set}
 use Rattle.std.specs.List.{list_all, position}
 use Rattle.std.proofs.Math.ListN.{length-set}

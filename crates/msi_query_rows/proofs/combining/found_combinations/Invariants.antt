@@ -1,4 +1,4 @@
-use Rattle.std.proofs.Common.{◌≡◌, ℕ, List, length, map}
+use Rattle.std.proofs.Common.{◌≡◌, length, map}
 use Rattle.std.specs.List.{AllByRecursion}
 use Rattle.msi_query_rows.specs.Combinations.{is_kept, rows_of_each}
 use Rattle.msi_query_rows.specs.Links.{AreLinked}

@@ -6,13 +6,13 @@ use Rattle.msi_query_rows.proofs.selection.+refuse_early.Goals as goal
 
 pub returns-in_err-columns-in-Table : goal.returns-in_err-columns-in-Table
 returns-in_err-columns-in-Table g t c =
-    table_lacks (columns_read (g.T.Tables.table c.args.tables.now)) (query_of c.args.tree.now) c.as_str.result.now c.in-Table.clauses _ c.from_residual.result
-    (rw (c.in-Table.is, c.as_str.ensures) refl) c.in_err-columns-in-Table.ensures.kind c.from_residual.ensures.1
+    table_lacks (columns_read (g.T.Tables.table c.args.tables.now)) (query_of c.args.tree.now) c.as_str-table.result.now c.in-Table.clauses _ c.from_residual.result
+    (rw (c.in-Table.is, c.as_str-table.ensures) refl) c.in_err-columns-in-Table.ensures.kind c.from_residual.ensures.1
 
 pub returns-in_ok-columns-in-Table : goal.returns-in_ok-columns-in-Table
 returns-in_ok-columns-in-Table g t c =
-    clauses_decide (columns_read (g.T.Tables.table c.args.tables.now)) (query_of c.args.tree.now) c.as_str.result.now c.in-Table.clauses c.in_ok-columns-in-Table.columns.now
-    c.refuse_meaningless.result (rw (c.in-Table.is, c.as_str.ensures) refl) c.in_ok-columns-in-Table.ensures.ok c.refuse_meaningless.ensures
+    clauses_decide (columns_read (g.T.Tables.table c.args.tables.now)) (query_of c.args.tree.now) c.as_str-table.result.now c.in-Table.clauses c.in_ok-columns-in-Table.columns.now
+    c.refuse_meaningless.result (rw (c.in-Table.is, c.as_str-table.ensures) refl) c.in_ok-columns-in-Table.ensures.ok c.refuse_meaningless.ensures
 
 pub returns-in_err-refuse_early-in-Join : goal.returns-in_err-refuse_early-in-Join
 returns-in_err-refuse_early-in-Join g t c = let j = c.in-Join in
@@ -41,4 +41,4 @@ returns-in_err-refuse_unread-in-Product g t c =
 pub returns-in_ok-refuse_unread-in-Product : goal.returns-in_ok-refuse_unread-in-Product
 returns-in_ok-refuse_unread-in-Product g t c =
     names_decide (columns_read (g.T.Tables.table c.args.tables.now)) (query_of c.args.tree.now) c.as_slice.result.now c.in-Product.clauses c.refuse_unread.result c.refuse_repeated.result
-    (rw (c.in-Product.is, c.as_slice.ensures) refl) c.refuse_unread.ensures c.in_ok-refuse_unread-in-Product.was (rw (c.as_slice.ensures, ← c.as_slice-2.ensures) c.refuse_repeated.ensures)
+    (rw (c.in-Product.is, c.as_slice.ensures) refl) c.refuse_unread.ensures c.in_ok-refuse_unread-in-Product.was (rw (c.as_slice.ensures, ← c.as_slice-in-Product.ensures) c.refuse_repeated.ensures)
