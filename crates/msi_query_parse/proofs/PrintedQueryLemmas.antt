@@ -19,7 +19,7 @@ use Rattle.msi_query_tokens.specs.Names.{name_text}
 use Rattle.msi_query_tokens.specs.declared.token.Kind.TheVariants as k
 use Rattle.msi_query_tokens.specs.Symbols.{Symbol, mark, named}
 use Rattle.msi_query_tokens.proofs.LeadsLemmas.{Front, Leads, Tail, front_leads, link_tail, tail_tail, link_leads, leads_link, leads_tail, as_leads, no_tail, Prints, Tails, text_prints, text_tails, prints_tails, tails_tails, front_prints, link_prints, linked_prints, enclosed_prints, symbols_of}
-use Rattle.msi_query_parse.specs.Tables.{FromTable, side_of as side_named_by, make_product}
+use Rattle.msi_query_parse.specs.Tables.{side_of as side_named_by, make_product}
 use Rattle.msi_query_parse.specs.Reading.{once_each}
 use Rattle.msi_query_parse.specs.Grammar.{ColumnName, plain, bytes_of, name_symbols, value_symbols, is_value, separated, phrase_symbols, expression_of}
 use Rattle.msi_query_parse.specs.Grammar.{Source, whole, tables_of, both_of, table_symbols, where_symbols, distinct_symbols, column_symbols, order_symbols, front_symbols, back_symbols, in_brackets, source_symbols, is_query, is_join, is_product, is_where, is_source, source_height, narrowed_by, query_meant, join_mark}
