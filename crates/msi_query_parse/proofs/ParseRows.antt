@@ -1,10 +1,11 @@
 -- Worked rows of texts, by computation: their symbols, what they spell, and where they are refused.
-use Rattle.std.proofs.Common.{◌≡◌, true, false, [], ◌∷◌, None, Err, refl, codes, map, pos}
+use Rattle.std.proofs.Common.{◌≡◌, true, false, [], ◌∷◌, Some, None, Err, refl, codes, map, pos}
 use Rattle.msi_table_values.specs.declared.value.Value.TheVariants.{Int, Null}
 use Rattle.msi_query_expressions.specs.declared.operators.UnaryOp.TheVariants as one
 use Rattle.msi_query_expressions.specs.declared.operators.BinaryOp.TheVariants as two
 use Rattle.msi_query_expressions.specs.Expressions.{literal, column, binary}
-use Rattle.msi_query.specs.Queries.{table}
+use Rattle.msi_query_expressions.specs.declared.joins.JoinKind.TheVariants.{Inner}
+use Rattle.msi_query.specs.Queries.{table, product, no_clauses}
 use Rattle.msi_query_tokens.specs.declared.token.Kind.TheVariants as k
 use Rattle.msi_query_tokens.specs.declared.refusal.Expected.TheVariants as expected
 use Rattle.msi_query_tokens.specs.declared.refusal.ParseError.TheVariants.{Refused}
@@ -14,7 +15,7 @@ use Rattle.msi_query_tokens.specs.Input.{expect, sees, after, rise, refusal, kin
 use Rattle.msi_query_tokens.specs.Symbols.{mark, named, number, AreSymbols}
 use Rattle.msi_query_parse.specs.Reading.{whole, condition, expression, level, operand, operations, operation, climb, bracketed, term, end}
 use Rattle.msi_query_parse.specs.Printed.{phrase_of}
-use Rattle.msi_query_parse.specs.Grammar.{Phrase, constant, reference, grouped, front, link, null_test, plain, phrase_symbols, is_phrase, expression_of, Source, whole as whole_table, query_of, source_symbols, query_meant}
+use Rattle.msi_query_parse.specs.Grammar.{Phrase, constant, reference, grouped, front, link, null_test, plain, phrase_symbols, is_phrase, expression_of, Source, whole as whole_table, tables_of, both_of, query_of, is_source, source_symbols, query_meant}
 
 pub words : AreSymbols (codes "a-(B.c Or 12)") (named (codes "a") ∷ mark k.Sub ∷ mark k.Open ∷ named (codes "B.c") ∷ mark k.Or ∷ number 12 ∷ mark k.Close ∷ [])
 unfolding token skip_blanks same_kind kind_of_word
@@ -90,6 +91,25 @@ asked_spells = record { rest = []; spans = (refl, refl, (refl, refl, (refl, refl
 
 asked_for : query_meant asked ≡ table (codes "T") (record { columns = []; condition = None; order = codes "a" ∷ codes "T.b" ∷ []; is_distinct = true })
 asked_for = refl
+
+-- a product, whose first table has a name of its own
+abbrev listed : Source
+listed = query_of (record { is_distinct = false; columns = []; condition = None; order = [] })
+    (tables_of (record { table = codes "A"; own = Some (codes "b") } ∷ record { table = codes "C"; own = None } ∷ []))
+
+listed_spells : AreSymbols (codes "SELECT * FROM A b,C") (source_symbols listed)
+unfolding token skip_blanks same_kind kind_of_word
+listed_spells = record { rest = []; spans = (refl, refl, (refl, refl, (refl, refl, (refl, refl, (refl, refl, (refl, refl, (refl, refl, refl))))))); end = refl }
+
+listed_for : query_meant listed ≡ product (record { table = codes "A"; name = codes "b" } ∷ record { table = codes "C"; name = codes "C" } ∷ []) no_clauses
+listed_for = refl
+
+-- one table makes a product only under a name of its own, and no product is a side of a join
+they_list : map is_source (tables_of [] ∷ tables_of (record { table = codes "A"; own = None } ∷ []) ∷ tables_of (record { table = codes "A"; own = Some (codes "A") } ∷ []) ∷ listed
+    ∷ both_of Inner (tables_of (record { table = codes "A"; own = Some (codes "b") } ∷ [])) (whole_table (codes "C")) foo
+    ∷ both_of Inner (whole_table (codes "C")) (tables_of (record { table = codes "A"; own = Some (codes "b") } ∷ [])) foo ∷ both_of Inner listed (whole_table (codes "C")) foo ∷ [])
+    ≡ false ∷ false ∷ true ∷ true ∷ false ∷ false ∷ true ∷ []
+they_list = refl
 
 -- a refusal has its place, and what was expected there
 pub refused : map (whole condition) (codes "1 +" ∷ codes "(1" ∷ codes "1 2" ∷ []) ≡ Err (Refused (record { place = 3; expected = expected.Operand }))

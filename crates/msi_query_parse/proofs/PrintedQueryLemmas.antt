@@ -19,7 +19,7 @@ use Rattle.msi_query_tokens.specs.Names.{name_text}
 use Rattle.msi_query_tokens.specs.declared.token.Kind.TheVariants as k
 use Rattle.msi_query_tokens.specs.Symbols.{Symbol, mark, named}
 use Rattle.msi_query_tokens.proofs.LeadsLemmas.{Front, Leads, Tail, front_leads, link_tail, tail_tail, link_leads, leads_link, leads_tail, as_leads, no_tail, Prints, Tails, text_prints, text_tails, prints_tails, tails_tails, front_prints, link_prints, linked_prints, enclosed_prints, symbols_of}
-use Rattle.msi_query_parse.specs.Tables.{FromTable, side_of as side_named_by, make_product}
+use Rattle.msi_query_parse.specs.Tables.{side_of as side_named_by, make_product}
 use Rattle.msi_query_parse.specs.Reading.{once_each}
 use Rattle.msi_query_parse.specs.Grammar.{ColumnName, plain, bytes_of, name_symbols, value_symbols, is_value, separated, phrase_symbols, expression_of}
 use Rattle.msi_query_parse.specs.Grammar.{Source, whole, tables_of, both_of, table_symbols, where_symbols, distinct_symbols, column_symbols, order_symbols, front_symbols, back_symbols, in_brackets, source_symbols, is_query, is_join, is_product, is_where, is_source, source_height, narrowed_by, query_meant, join_mark}
@@ -296,11 +296,11 @@ product_meant sides (Some e) true columns order = refl
 product_meant sides (Some e) false columns order = refl
 
 -- a table of a product, whose columns go by its name or by another
-named_prints : (table name : List ℕ) (b : Bool) → is_readable_name table ≡ true → is_readable_name name ≡ true
-    → Leads (if b then name_text table else name_text table ++ 32 ∷ name_text name) (table_symbols (record { table = table; own = if b then None else Some name }))
-named_prints table name true h g = name_leads table h
-named_prints table name false h g = leads_tail (name_text table) (32 ∷ name_text name) (named table ∷ []) (named name ∷ []) (name_leads table h)
-    (link_leads (32 ∷ []) (name_text name) [] (named name ∷ []) blank_link (name_leads name g))
+named_prints : (first own : List ℕ) (b : Bool) → is_readable_name first ≡ true → is_readable_name own ≡ true
+    → Leads (if b then name_text first else name_text first ++ 32 ∷ name_text own) (table_symbols (record { table = first; own = if b then None else Some own }))
+named_prints first own true h g = name_leads first h
+named_prints first own false h g = leads_tail (name_text first) (32 ∷ name_text own) (named first ∷ []) (named own ∷ []) (name_leads first h)
+    (link_leads (32 ∷ []) (name_text own) [] (named own ∷ []) blank_link (name_leads own g))
 
 side_prints : (side : SideOf) → is_readable_side side ≡ true → Prints (Some (side_named side)) (table_symbols (printed_table side))
 side_prints side h =
