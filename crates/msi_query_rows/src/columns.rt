@@ -40,7 +40,8 @@ pub(crate) fn knows_condition(columns: &[Column], condition: Option<&Expr>) -> b
 }
 
 fn means_column(scope: Scope<'_>, name: &str) -> bool
-    ensures { result ≡ has_named (meant scope.entry.table.now scope.entry.columns.now name.now) scope.entry.columns.now }
+    ensures { let columns = scope.entry.columns.now in
+        result ≡ has_named (meant scope.entry.table.now columns name.now) columns }
 {
     has_column(scope.columns, meant_name(scope, name))
 }
@@ -52,9 +53,7 @@ pub(crate) fn mean_columns(scope: Scope<'_>, names: &[Text]) -> bool
 {
     match names {
         [] => true,
-        [name, others @ ..] => {
-            means_column(scope, name.as_str()) && mean_columns(scope, others)
-        }
+        [name, others @ ..] => { means_column(scope, name.as_str()) && mean_columns(scope, others) }
     }
 }
 

@@ -163,7 +163,8 @@ fn extended(
 ) -> Result<Vec<Items<usize>>, Error>
     ensures ok { let rows = rows_of_each product.now.relations.now in
         let test = is_kept product.now.pool.now.places product.now.filter.now rows in
-        IfOk result (λ more. more.items ≡ flat_map (λ numbers. with_each (if_whole is_whole test) (relation_of link relation)
+        IfOk result (λ more. more.items
+        ≡ flat_map (λ numbers. with_each (if_whole is_whole test) (relation_of link relation)
         (numbers_for product.now.pool.now.places rows (relation_of link relation) link numbers) numbers) found.now) }
     ensures kind { OnlyMemory result }
 {

@@ -158,7 +158,8 @@ fn product_of_sides<T: Tables>(
     clauses: &Clauses,
 ) -> Result<Relation, Error>
     ensures ok { let values = tables_values pool.now.places (T.table tables.now) in
-        IfOk result (λ kept. relation_of values (product sides.now clauses.now) ≡ Ok (relation_values pool.now.places kept)) }
+        IfOk result (λ kept. relation_of values (product sides.now clauses.now)
+        ≡ Ok (relation_values pool.now.places kept)) }
     ensures wide { IfOk result (λ kept. AreAsWide kept.columns kept.rows) }
     ensures kind { let values = tables_values pool.now.places (T.table tables.now) in
         IfErr result (IsRefusal (relation_of values (product sides.now clauses.now))) }
@@ -246,8 +247,8 @@ fn tree_rows<'a, T: Tables>(
 /// first. Joins go down by recursion, so how deep they may nest is bounded by the stack alone.
 ///
 /// A name that no column has means the only column that has it with the table's name in front, or behind that of a
-/// joined table: `Item.Id` of a query for `Item` means `Id`, and `Id` in a join means `Item.Id` if no other table of the
-/// join has such a column.
+/// joined table: `Item.Id` of a query for `Item` means `Id`, and `Id` in a join means `Item.Id` if no other table of
+/// the join has such a column.
 ///
 /// # Errors
 /// Fails with the first of these that applies, for a join those of the left query, then those of the right, for a
