@@ -2,7 +2,9 @@
 //! and a number for a column of texts.
 
 use crate::inserting::valued_columns;
-use msi_query::parts::{NewRow, delete_parts, insert_parts, update_parts};
+use msi_query::parts::{
+    DeleteParts, InsertParts, NewRow, UpdateParts, delete_parts, insert_parts, update_parts,
+};
 use msipkg_packages::msi::{
     Column, ColumnType, Delete, Error, Insert, Items, Package, Statement, Table, Text, Update,
     Value,
@@ -44,10 +46,14 @@ pub fn moved_statement(
 }
 
 fn moved_insert(alloc: Global, table: &str, insert: Insert) -> Result<Insert, Error> {
-    let parts = insert_parts(insert);
-    let names = names_of(alloc, parts.columns.as_slice())?;
+    let InsertParts {
+        table: _,
+        columns,
+        rows,
+    } = insert_parts(insert);
+    let names = names_of(alloc, columns.as_slice())?;
     let moved = Insert::into(alloc, table)?.columns(names.as_slice())?;
-    moved.rows(values_of(alloc, parts.rows)?)
+    moved.rows(values_of(alloc, rows)?)
 }
 
 fn names_of<'a>(alloc: Global, columns: &'a [Text]) -> Result<Vec<&'a str>, AllocError> {
@@ -67,20 +73,28 @@ fn values_of(alloc: Global, rows: Items<NewRow>) -> Result<Vec<Vec<Value>>, Allo
 }
 
 fn moved_update(alloc: Global, table: &str, update: Update) -> Result<Update, Error> {
-    let parts = update_parts(update);
+    let UpdateParts {
+        table: _,
+        sets,
+        condition,
+    } = update_parts(update);
     let mut moved = Update::table(alloc, table)?;
-    for set in parts.sets.into_vec() {
+    for set in sets.into_vec() {
         moved = moved.set(set.column(), set.value().clone(alloc)?)?;
     }
-    match parts.condition {
+    match condition {
         Some(condition) => moved.with(condition),
         None => Ok(moved),
     }
 }
 
 fn moved_delete(alloc: Global, table: &str, delete: Delete) -> Result<Delete, Error> {
+    let DeleteParts {
+        table: _,
+        condition,
+    } = delete_parts(delete);
     let moved = Delete::from(alloc, table)?;
-    match delete_parts(delete).condition {
+    match condition {
         Some(condition) => moved.with(condition),
         None => Ok(moved),
     }
@@ -91,14 +105,18 @@ fn fitted_insert(
     package: &Package<Opened>,
     insert: Insert,
 ) -> Result<Insert, Error> {
-    let parts = insert_parts(insert);
-    let names = names_of(alloc, parts.columns.as_slice())?;
-    let columns = match package.get_table(parts.table.as_str()) {
+    let InsertParts {
+        table,
+        columns,
+        rows,
+    } = insert_parts(insert);
+    let names = names_of(alloc, columns.as_slice())?;
+    let valued = match package.get_table(table.as_str()) {
         Some(table) => valued_columns(alloc, table, names.as_slice())?,
         None => Vec::new(alloc),
     };
-    let fitted = Insert::into(alloc, parts.table.as_str())?.columns(names.as_slice())?;
-    fitted.rows(fitted_rows(alloc, columns.as_slice(), parts.rows)?)
+    let fitted = Insert::into(alloc, table.as_str())?.columns(names.as_slice())?;
+    fitted.rows(fitted_rows(alloc, valued.as_slice(), rows)?)
 }
 
 fn fitted_rows(
@@ -137,10 +155,14 @@ fn fitted_update(
     package: &Package<Opened>,
     update: Update,
 ) -> Result<Update, Error> {
-    let parts = update_parts(update);
-    let table = package.get_table(parts.table.as_str());
-    let mut fitted = Update::table(alloc, parts.table.as_str())?;
-    for set in parts.sets.into_vec() {
+    let UpdateParts {
+        table: name,
+        sets,
+        condition,
+    } = update_parts(update);
+    let table = package.get_table(name.as_str());
+    let mut fitted = Update::table(alloc, name.as_str())?;
+    for set in sets.into_vec() {
         let value = set.value().clone(alloc)?;
         let value = match column_named(table, set.column()) {
             Some(column) => fitted_value(alloc, column, value)?,
@@ -148,7 +170,7 @@ fn fitted_update(
         };
         fitted = fitted.set(set.column(), value)?;
     }
-    match parts.condition {
+    match condition {
         Some(condition) => fitted.with(condition),
         None => Ok(fitted),
     }

@@ -19,8 +19,8 @@ pub(crate) fn pieces_of<'a>(
     alloc: Global,
     written: Written<'a>,
 ) -> Result<Vec<Piece<'a>>, AllocError> {
-    let mut pieces = cut_pieces(alloc, written.text)?;
-    put_literals(pieces.as_mut_slice(), written.literals);
+    let cut = cut_pieces(alloc, written.text)?;
+    let mut pieces = with_literals(alloc, cut.as_slice(), written.literals)?;
     if let Some(last) = pieces.as_slice().last()
         && last.text == ";"
     {
@@ -72,16 +72,32 @@ fn is_mark(piece: Piece<'_>) -> bool {
     piece.text == "?"
 }
 
-fn put_literals<'a>(pieces: &mut [Piece<'a>], literals: &'a [String]) {
+/// Returns the pieces with literals in place of the marks, in order.
+fn with_literals<'a>(
+    alloc: Global,
+    pieces: &[Piece<'a>],
+    literals: &'a [String],
+) -> Result<Vec<Piece<'a>>, AllocError> {
+    let mut filled = Vec::with_capacity(alloc, pieces.len())?;
     let mut left = literals;
     for piece in pieces {
         if is_mark(*piece)
             && let [literal, others @ ..] = left
         {
-            piece.text = literal.as_str();
-            piece.kind = literal_kind(literal.as_str());
+            filled.push(literal_piece(literal.as_str(), piece.place))?;
             left = others;
+        } else {
+            filled.push(*piece)?;
         }
+    }
+    Ok(filled)
+}
+
+fn literal_piece<'a>(literal: &'a str, place: usize) -> Piece<'a> {
+    Piece {
+        kind: literal_kind(literal),
+        place,
+        text: literal,
     }
 }
 

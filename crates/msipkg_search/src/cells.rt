@@ -93,8 +93,7 @@ impl CellList {
         } = self;
         match text {
             CellText::Json(object) => print_object(object, style, output),
-            CellText::Rows(_) if is_empty => {}
-            CellText::Rows(grid) => grid.print(style, output),
+            CellText::Rows(grid) => print_rows(&grid, is_empty, style, output),
         }
         match (is_read, is_empty) {
             (false, _) => Found::Incomplete,
@@ -133,6 +132,12 @@ fn object_of(alloc: Global, file: &str, list: &str) -> JsonObject {
 fn print_object(mut object: JsonObject, style: Style, output: &mut Output) {
     object.close_list();
     object.print_line(style, output);
+}
+
+fn print_rows(grid: &Grid, is_empty: bool, style: Style, output: &mut Output) {
+    if !is_empty {
+        grid.print(style, output);
+    }
 }
 
 fn put_object(cell: Cell<'_>, object: &mut JsonObject) {

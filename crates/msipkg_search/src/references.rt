@@ -174,19 +174,23 @@ fn add_row(
     cells: &mut CellList,
 ) -> Result<(), AllocError> {
     for reference in references {
-        if let Some(column) = table.columns().get(reference.place)
-            && refers(alloc, rows, *reference, target)?
-        {
+        if refers(alloc, rows, *reference, target)? {
             let key = row_key(alloc, rows)?;
-            cells.put(Cell {
-                table: table.name(),
-                key: key.as_str(),
-                column: column.name(),
-                value: None,
-            });
+            put_cell(table, key.as_str(), reference.place, cells);
         }
     }
     Ok(())
+}
+
+fn put_cell<'a>(table: &'a Table, key: &'a str, place: usize, cells: &mut CellList) {
+    if let Some(column) = table.columns().get(place) {
+        cells.put(Cell {
+            table: table.name(),
+            key,
+            column: column.name(),
+            value: None,
+        });
+    }
 }
 
 fn refers(
