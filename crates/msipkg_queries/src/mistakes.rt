@@ -160,10 +160,19 @@ fn continued(pieces: &[Piece<'_>], place: usize) -> Option<&'static str> {
     if piece.kind == Kind::Not {
         return said_of(pieces.get(place.saturating_add(1))?.text);
     }
-    if piece.kind == Kind::Number {
-        return said_of(pieces.get(place.checked_sub(1)?)?.text);
+    said_of(piece.text)
+        .or(said_before(pieces, place))
+        .or(comment(pieces, place))
+}
+
+/// Returns what is said of the word in front, which was read as a table's own name.
+fn said_before(pieces: &[Piece<'_>], place: usize) -> Option<&'static str> {
+    let before = pieces.get(place.checked_sub(1)?)?;
+    if before.kind == Kind::Name {
+        said_of(before.text)
+    } else {
+        None
     }
-    said_of(piece.text).or(comment(pieces, place))
 }
 
 fn said_of(word: &str) -> Option<&'static str> {
