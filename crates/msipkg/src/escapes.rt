@@ -14,8 +14,6 @@ pub(crate) fn escapes_of(verb: Verb, given: &ArgMatches<'_>, is_terminal: bool) 
         Verb::Info
         | Verb::Tables
         | Verb::Schema
-        | Verb::Find
-        | Verb::Refs
         | Verb::Streams
         | Verb::Summary
         | Verb::Check

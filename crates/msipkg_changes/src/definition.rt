@@ -1,6 +1,6 @@
 //! `CREATE TABLE` and `DROP TABLE` as text, in the installer's form.
 
-use crate::tokens::Tokens;
+use crate::tokens::{Token, Tokens};
 use msipkg_format::Shown;
 use msipkg_packages::check_reserved;
 use msipkg_packages::msi::{Column, Error};
@@ -14,14 +14,8 @@ const MOST_COLUMNS: usize = 32;
 /// The error of a table with more columns.
 const TOO_MANY: &str = "a table has at most 32 columns";
 
-/// The error of a column's name that was there before.
-const SAME_NAME: &str = "two columns have the same name";
-
 /// The error of a word that is no type.
 const NO_TYPE: &str = "expected CHAR, LONGCHAR, SHORT, LONG or OBJECT";
-
-/// The error of a word that is no length.
-const NO_LENGTH: &str = "expected a length";
 
 /// The types without a length, by their names.
 const TYPES: [(&str, Kind); 6] = [
@@ -64,15 +58,15 @@ enum Kind {
 }
 
 /// Returns whether the first word of a text is `CREATE` or `DROP`.
-pub(crate) fn is_definition(alloc: Global, text: &str) -> bool {
-    let mut tokens = Tokens::new(alloc, text);
+pub(crate) fn is_definition(text: &str) -> bool {
+    let mut tokens = Tokens::new(text);
     tokens.takes_word("CREATE") || tokens.takes_word("DROP")
 }
 
 /// Reads a definition, such as ``CREATE TABLE `T` (`A` CHAR(72) NOT NULL, `B` LONG PRIMARY KEY `A`)`` or ``DROP TABLE
 /// `T` ``.
 pub(crate) fn definition_of<'a>(alloc: Global, text: &'a str) -> Result<Definition<'a>, Failure> {
-    let mut tokens = Tokens::new(alloc, text);
+    let mut tokens = Tokens::new(text);
     if tokens.takes_word("CREATE") {
         return creation(alloc, &mut tokens);
     }
@@ -108,20 +102,12 @@ fn described_columns<'a>(
     tokens.expect('(', "expected an opening bracket")?;
     let mut columns = Vec::new(alloc);
     for _ in 0..MOST_COLUMNS {
-        let column = described_column(tokens)?;
-        if is_described(columns.as_slice(), column.name) {
-            return Err(Failure::rule(SAME_NAME));
-        }
-        columns.push(column)?;
+        columns.push(described_column(tokens)?)?;
         if !tokens.takes(',') {
             return Ok(columns);
         }
     }
     Err(Failure::rule(TOO_MANY))
-}
-
-fn is_described(columns: &[Described<'_>], name: &str) -> bool {
-    columns.iter().any(|column| column.name == name)
 }
 
 fn described_column<'a>(tokens: &mut Tokens<'a>) -> Result<Described<'a>, Failure> {
@@ -141,8 +127,9 @@ fn described_column<'a>(tokens: &mut Tokens<'a>) -> Result<Described<'a>, Failur
 }
 
 fn column_type(tokens: &mut Tokens<'_>) -> Result<Kind, Failure> {
-    let start = *tokens;
-    let word = tokens.word(NO_TYPE)?;
+    let Some(Token::Word(word)) = tokens.take() else {
+        return Err(Failure::rule(NO_TYPE));
+    };
     if word.eq_ignore_ascii_case("CHAR") || word.eq_ignore_ascii_case("CHARACTER") {
         return Ok(Kind::Text(length(tokens)?));
     }
@@ -151,7 +138,7 @@ fn column_type(tokens: &mut Tokens<'_>) -> Result<Kind, Failure> {
             return Ok(*kind);
         }
     }
-    Err(start.refuse(NO_TYPE))
+    Err(Failure::rule(NO_TYPE))
 }
 
 /// Reads a length in brackets, or returns 0 if there is none.
@@ -159,9 +146,11 @@ fn length(tokens: &mut Tokens<'_>) -> Result<usize, Failure> {
     if !tokens.takes('(') {
         return Ok(0);
     }
-    let start = *tokens;
-    let Ok(length) = tokens.word(NO_LENGTH)?.parse::<usize>() else {
-        return Err(start.refuse(NO_LENGTH));
+    let Some(Token::Word(word)) = tokens.take() else {
+        return Err(Failure::rule("expected a length"));
+    };
+    let Ok(length) = word.parse::<usize>() else {
+        return Err(Failure::rule("expected a length"));
     };
     tokens.expect(')', "expected a closing bracket")?;
     Ok(length)

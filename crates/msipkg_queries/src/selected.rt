@@ -1,17 +1,29 @@
 //! What else there is of the rows that a query selects: all their columns, and the tables that they are of.
 
-use msi_query::parts::{SelectTree, select_tree};
+use msi_query::parts::{SelectTree, Side, select_tree};
 use msipkg_packages::msi::{Error, Package, Select, Table};
 use msipkg_packages::output::Opened;
 use std::alloc::{AllocError, Global};
 
 /// Returns a query for the rows that another one selects, in their order, with all columns. Queries in brackets stay as
-/// they are, since other columns of theirs could have the names of these.
+/// they are, since other columns of theirs could have the names of these. Of a query whose equal rows count once there
+/// is none, since a row may stand for several.
 ///
 /// # Errors
 /// Fails if memory is refused.
-pub fn wide_select(alloc: Global, query: &Select) -> Result<Select, Error> {
-    query.clone(alloc)?.columns(&[])
+pub fn wide_select(alloc: Global, query: &Select) -> Result<Option<Select>, Error> {
+    if is_distinct(select_tree(query)) {
+        return Ok(None);
+    }
+    Ok(Some(query.clone(alloc)?.columns(&[])?))
+}
+
+fn is_distinct(tree: &SelectTree) -> bool {
+    match tree {
+        SelectTree::Table { clauses, .. } => clauses.is_distinct(),
+        SelectTree::Join { clauses, .. } => clauses.is_distinct(),
+        SelectTree::Product { clauses, .. } => clauses.is_distinct(),
+    }
 }
 
 /// Returns the tables of a query, as far as a package has them.
@@ -34,23 +46,33 @@ fn add_tables<'a>(
     tables: &mut Vec<&'a Table>,
 ) -> Result<(), AllocError> {
     match tree {
-        SelectTree::Table { name, .. } => {
-            if let Some(table) = package.get_table(name.as_str()) {
-                tables.push(table)?;
-            }
-            Ok(())
-        }
+        SelectTree::Table { name, .. } => add_table(package, name.as_str(), tables),
         SelectTree::Join { left, right, .. } => {
             add_tables(package, left, tables)?;
             add_tables(package, right, tables)
         }
-        SelectTree::Product { sides, .. } => {
-            for side in sides.as_slice() {
-                if let Some(table) = package.get_table(side.table().as_str()) {
-                    tables.push(table)?;
-                }
-            }
-            Ok(())
-        }
+        SelectTree::Product { sides, .. } => add_sides(package, sides.as_slice(), tables),
     }
+}
+
+fn add_sides<'a>(
+    package: &'a Package<Opened>,
+    sides: &[Side],
+    tables: &mut Vec<&'a Table>,
+) -> Result<(), AllocError> {
+    for side in sides {
+        add_table(package, side.table().as_str(), tables)?;
+    }
+    Ok(())
+}
+
+fn add_table<'a>(
+    package: &'a Package<Opened>,
+    name: &str,
+    tables: &mut Vec<&'a Table>,
+) -> Result<(), AllocError> {
+    if let Some(table) = package.get_table(name) {
+        tables.push(table)?;
+    }
+    Ok(())
 }

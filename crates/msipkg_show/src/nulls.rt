@@ -8,7 +8,7 @@ use std::alloc::{AllocError, Global};
 
 /// Returns the null cells of the rows that a query selects, which have these columns. The rows are gone over, with all
 /// columns, only if one that is selected may have such cells. Those of a table whose key a query in brackets leaves out
-/// aren't known.
+/// aren't known, nor those of rows that count once.
 pub(crate) fn null_cells(
     alloc: Global,
     package: &Package<Opened>,
@@ -18,7 +18,10 @@ pub(crate) fn null_cells(
     if !columns.iter().any(|column| has_null_streams(column)) {
         return Ok(NullCells::new(alloc));
     }
-    let rows = package.select_rows(wide_select(alloc, query)?)?;
+    let Some(wide) = wide_select(alloc, query)? else {
+        return Ok(NullCells::new(alloc));
+    };
+    let rows = package.select_rows(wide)?;
     let tables = selected_tables(alloc, package, query)?;
     let streams = stream_columns(alloc, columns, rows.columns(), tables.as_slice())?;
     Ok(null_cells_in(alloc, package, streams.as_slice(), rows)?)

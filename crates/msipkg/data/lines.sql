@@ -1,3 +1,0 @@
-UPDATE Item
-SET Name = 'x'
-WHERE Id LIKE 1;
