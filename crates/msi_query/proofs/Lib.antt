@@ -4,5 +4,4 @@ pub mod QueryTextLemmas
 pub mod QueryTextRows
 pub mod SelectionLemmas
 pub mod ProductLawLemmas
-pub mod ProductRows
 pub mod SelectionRows

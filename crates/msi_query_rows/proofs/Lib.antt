@@ -20,4 +20,3 @@ pub mod StepLemmas
 pub mod WalkLemmas
 pub mod WideLemmas
 pub mod LinkLemmas
-pub mod ProductRows
