@@ -18,5 +18,4 @@ pub mod CombinationLemmas
 pub mod ProductLemmas
 pub mod StepLemmas
 pub mod WalkLemmas
-pub mod WideLemmas
 pub mod LinkLemmas

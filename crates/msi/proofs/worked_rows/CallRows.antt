@@ -5,7 +5,7 @@ use Rattle.msi_base.specs.declared.errors.ErrorKind.TheVariants.{AlreadyExists, 
 use Rattle.msi_pool.specs.Pool.{Place, pool_stream}
 use Rattle.msi_pool.specs.FirstFit.{taken}
 use Rattle.msi_table_values.specs.declared.value.Value.{Value}
-use Rattle.msi_table_values.specs.declared.value.Value.TheVariants.{Int, Null, Str}
+use Rattle.msi_table_values.specs.declared.value.Value.TheVariants.{Int, Str}
 use Rattle.msi_table_values.specs.declared.column.ColumnType.TheVariants.{Int16, Int32}
 use Rattle.msi_table_values.specs.declared.column.ColumnType.TheVariants as coltype
 use Rattle.msi_table_values.specs.Columns.{ColumnDef}
@@ -105,26 +105,6 @@ keys_collide : answer_to filled (calls.update_rows (record { table = codes "Numb
 unfolding Rattle.std.specs.Str.chars
 keys_collide = refl
 
--- an insert that names its columns: the others get null
-abbrev naming : List (List ℕ) → List (List Value) → Call
-naming columns rows = calls.insert_rows (record { table = codes "Numbers"; columns = columns; rows = rows })
-
-turned : numbers_stream (state_after filled (naming (codes "Word" ∷ codes "Number" ∷ []) ((Str (codes "Six") ∷ int 6 ∷ []) ∷ []))) ≡ numbers_stream (state_after filled (insertion ((int 6 ∷ Str (codes "Six") ∷ []) ∷ [])))
-unfolding Rattle.std.specs.Str.chars
-turned = refl
-
-left_out : numbers_stream (state_after filled (naming (codes "Number" ∷ []) ((int 6 ∷ []) ∷ []))) ≡ numbers_stream (state_after filled (insertion ((int 6 ∷ Null ∷ []) ∷ [])))
-unfolding Rattle.std.specs.Str.chars
-left_out = refl
-
--- a column that isn't there, one twice, a value too many, and a key that is left out
-misnamed : map (answer_to filled) (
-    naming (codes "Number" ∷ codes "word" ∷ []) ((int 6 ∷ Str (codes "Six") ∷ []) ∷ []) ∷ naming (codes "Number" ∷ codes "Number" ∷ []) ((int 6 ∷ int 6 ∷ []) ∷ [])
-    ∷ naming (codes "Number" ∷ []) ((int 6 ∷ Str (codes "Six") ∷ []) ∷ []) ∷ naming (codes "Word" ∷ []) ((Str (codes "Six") ∷ []) ∷ []) ∷ [])
-    ≡ replicate 4 (Err InvalidInput)
-unfolding Rattle.std.specs.Str.chars
-misnamed = refl
-
 barred : answer_to filled (calls.insert_rows (record { table = codes "_Tables"; columns = []; rows = [] })) ≡ Err InvalidInput
 unfolding Rattle.std.specs.Str.chars
 barred = refl
@@ -149,17 +129,6 @@ selected_rows : rows_in_answer (answer_to filled (calls.select_rows (table (code
     ≡ Some ((int 1 ∷ Str (codes "One") ∷ []) ∷ (int 2 ∷ Str (codes "Two") ∷ []) ∷ (int 4 ∷ Str (codes "Four") ∷ []) ∷ [])
 unfolding Rattle.std.specs.Str.chars
 selected_rows = refl
-
--- in the order of their words, and each word once
-ordered_rows : rows_in_answer (answer_to filled (calls.select_rows (table (codes "Numbers") (record no_clauses { order = codes "Word" ∷ [] }))))
-    ≡ Some ((int 4 ∷ Str (codes "Four") ∷ []) ∷ (int 1 ∷ Str (codes "One") ∷ []) ∷ (int 2 ∷ Str (codes "Two") ∷ []) ∷ [])
-unfolding Rattle.std.specs.Str.chars
-ordered_rows = refl
-
-distinct_words : rows_in_answer (answer_to fives (calls.select_rows (table (codes "Numbers") (record no_clauses { columns = codes "Word" ∷ []; is_distinct = true }))))
-    ≡ Some ((Str (codes "Five") ∷ []) ∷ [])
-unfolding Rattle.std.specs.Str.chars
-distinct_words = refl
 
 still_sound : is_sound fives.kept.database ≡ true
 unfolding Rattle.std.specs.Str.chars
