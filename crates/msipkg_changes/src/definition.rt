@@ -14,6 +14,9 @@ const MOST_COLUMNS: usize = 32;
 /// The error of a table with more columns.
 const TOO_MANY: &str = "a table has at most 32 columns";
 
+/// The error of a column's name that was there before.
+const SAME_NAME: &str = "two columns have the same name";
+
 /// The error of a word that is no type.
 const NO_TYPE: &str = "expected CHAR, LONGCHAR, SHORT, LONG or OBJECT";
 
@@ -102,12 +105,20 @@ fn described_columns<'a>(
     tokens.expect('(', "expected an opening bracket")?;
     let mut columns = Vec::new(alloc);
     for _ in 0..MOST_COLUMNS {
-        columns.push(described_column(tokens)?)?;
+        let column = described_column(tokens)?;
+        if is_described(columns.as_slice(), column.name) {
+            return Err(Failure::rule(SAME_NAME));
+        }
+        columns.push(column)?;
         if !tokens.takes(',') {
             return Ok(columns);
         }
     }
     Err(Failure::rule(TOO_MANY))
+}
+
+fn is_described(columns: &[Described<'_>], name: &str) -> bool {
+    columns.iter().any(|column| column.name == name)
 }
 
 fn described_column<'a>(tokens: &mut Tokens<'a>) -> Result<Described<'a>, Failure> {
