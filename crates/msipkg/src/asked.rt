@@ -10,6 +10,8 @@ use msipkg_packages::{PackageFile, Purpose};
 pub(crate) struct Asked<'a, 'b> {
     pub(crate) verb: Verb,
     pub(crate) given: &'b ArgMatches<'a>,
+    /// The literals of the values for marks.
+    pub(crate) literals: &'b [String],
     pub(crate) style: Style,
 }
 

@@ -7,6 +7,8 @@ use msipkg_cli::{QUERY_USAGE, Verb};
 use msipkg_export::{FileFormat, Target};
 use msipkg_format::{Failure, RowFormat};
 use msipkg_packages::Folder;
+use msipkg_queries::Written;
+use msipkg_search::{Referred, Search, Wanted, Way};
 use msipkg_show::{Form, Format, Look, Query, read_query};
 use std::alloc::Global;
 
@@ -42,7 +44,10 @@ pub(crate) enum Task<'a, 'b> {
         is_json: bool,
     },
     Show(Look<'a, 'b>),
-    Query(Query<'a>),
+    Query(Query<'b>),
+    Find(Search<'a>),
+    /// What refers to a row is printed.
+    Refs(Referred<'a>),
     Check {
         options: CheckOptions,
         /// How the package is mended first, if it is.
@@ -70,6 +75,8 @@ impl<'a, 'b> Command<'a, 'b> {
             Verb::Tables => look(asked, Task::Show(Look::Tables { is_json })),
             Verb::Schema => look(asked, Task::Show(schema_of(asked))),
             Verb::Query => query_of(alloc, asked)?,
+            Verb::Find => look(asked, Task::Find(search_of(asked))),
+            Verb::Refs => look(asked, Task::Refs(referred_of(asked))),
             Verb::Streams => look(asked, Task::Show(Look::Streams { is_json })),
             Verb::Extract => look(asked, Task::Show(extract_of(asked))),
             Verb::Summary => summary_of(asked),
@@ -88,8 +95,7 @@ impl<'a, 'b> Command<'a, 'b> {
         })
     }
 
-    /// Returns the exit status of a command that failed: `diff` and `check` have 1 for what they find, and 2 where they
-    /// failed.
+    /// Returns the exit status of a command that failed: 2 for those that tell by 1 what they found.
     pub(crate) fn failure_status(&self) -> u8 {
         match self {
             Command::Diff { .. } | Command::Incomplete(_) => 2,
@@ -102,7 +108,7 @@ impl<'a, 'b> Command<'a, 'b> {
 impl<'a, 'b> Task<'a, 'b> {
     pub(crate) fn failure_status(&self) -> u8 {
         match self {
-            Task::Check { .. } => 2,
+            Task::Check { .. } | Task::Find(_) | Task::Refs(_) => 2,
             Task::Info { .. }
             | Task::Show(_)
             | Task::Query(_)
@@ -150,9 +156,11 @@ fn query_of<'a, 'b>(alloc: Global, asked: &Asked<'a, 'b>) -> Result<Command<'a, 
     if files.is_empty() {
         return Ok(Command::Incomplete(QUERY_USAGE));
     }
+    let literals = asked.literals;
+    let written = Written { text, literals };
     let query = Query {
-        text,
-        select: read_query(alloc, text)?,
+        written,
+        select: read_query(alloc, written)?,
         format: format_of(asked),
         style: asked.style,
         has_files: files.len() > 1,
@@ -171,6 +179,32 @@ fn format_of(asked: &Asked<'_, '_>) -> Format {
         Some(format) => format,
         None if asked.style.is_terminal => Format::Table,
         None => Format::Rows(RowFormat::Tabs),
+    }
+}
+
+fn search_of<'a>(asked: &Asked<'a, '_>) -> Search<'a> {
+    Search {
+        wanted: Wanted {
+            text: asked.text("TEXT"),
+            way: if asked.has("regex") {
+                Way::Regex
+            } else if asked.has("exact") {
+                Way::Whole
+            } else {
+                Way::Part
+            },
+            ignores_case: asked.has("ignore-case"),
+        },
+        has_all: asked.has("all"),
+        is_json: asked.has("json"),
+    }
+}
+
+fn referred_of<'a>(asked: &Asked<'a, '_>) -> Referred<'a> {
+    Referred {
+        table: asked.text("TABLE"),
+        key: asked.text("KEY"),
+        is_json: asked.has("json"),
     }
 }
 
@@ -228,7 +262,7 @@ fn exec_of<'a, 'b>(alloc: Global, asked: &Asked<'a, 'b>) -> Result<Command<'a, '
     if let Some(path) = asked.option("from") {
         return Ok(Command::Script(path));
     }
-    let statements = prepare_statements(alloc, asked.texts("TEXT"))?;
+    let statements = prepare_statements(alloc, asked.texts("TEXT"), asked.literals)?;
     Ok(Command::Change(Change::Execute(statements)))
 }
 

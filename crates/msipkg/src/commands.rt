@@ -11,6 +11,8 @@ use msipkg_cli::{matches_of, verb_named};
 use msipkg_diff::compare_files;
 use msipkg_format::{Failure, Output, Shown, Style, System};
 use msipkg_packages::Purpose;
+use msipkg_queries::literals_of;
+use std::alloc::{AllocError, Global};
 
 /// The exit status where the reader of the output has gone away: that of a program which the signal for it ended.
 const CLOSED: u8 = 141;
@@ -63,7 +65,41 @@ fn run_matched(
     output: &mut Output,
     errors: &mut Output,
 ) -> u8 {
-    let Some(asked) = asked_of(matches, is_terminal) else {
+    match given_literals(rt.alloc(), matches) {
+        Ok(literals) => {
+            run_given(
+                rt,
+                matches,
+                literals.as_slice(),
+                is_terminal,
+                output,
+                errors,
+            )
+        }
+        Err(error) => {
+            report("--value", &Failure::from(error), errors);
+            1
+        }
+    }
+}
+
+/// Returns the literals of the values that are given for marks.
+fn given_literals(alloc: Global, matches: &ArgMatches<'_>) -> Result<Vec<String>, AllocError> {
+    match matches.subcommand() {
+        Some((_, given)) => literals_of(alloc, given.get_strs("value").unwrap_or(&[])),
+        None => Ok(Vec::new(alloc)),
+    }
+}
+
+fn run_given(
+    rt: &System,
+    matches: &ArgMatches<'_>,
+    literals: &[String],
+    is_terminal: bool,
+    output: &mut Output,
+    errors: &mut Output,
+) -> u8 {
+    let Some(asked) = asked_of(matches, literals, is_terminal) else {
         return 2;
     };
     match Command::of(rt.alloc(), &asked) {
@@ -93,14 +129,23 @@ fn run_asked(
     }
 }
 
-fn asked_of<'a, 'b>(matches: &'b ArgMatches<'a>, is_terminal: bool) -> Option<Asked<'a, 'b>> {
+fn asked_of<'a, 'b>(
+    matches: &'b ArgMatches<'a>,
+    literals: &'b [String],
+    is_terminal: bool,
+) -> Option<Asked<'a, 'b>> {
     let (name, given) = matches.subcommand()?;
     let verb = verb_named(name)?;
     let style = Style {
         is_terminal,
         escapes: escapes_of(verb, given, is_terminal),
     };
-    Some(Asked { verb, given, style })
+    Some(Asked {
+        verb,
+        given,
+        literals,
+        style,
+    })
 }
 
 pub(crate) fn report(file: &str, failure: &Failure, errors: &mut Output) {
@@ -231,6 +276,6 @@ fn execute_script(
     for statement in &statements {
         texts.push(statement.as_str())?;
     }
-    let prepared = prepare_statements(rt.alloc(), texts.as_slice())?;
+    let prepared = prepare_statements(rt.alloc(), texts.as_slice(), asked.literals)?;
     change(rt, asked, Change::Execute(prepared), output, errors)
 }

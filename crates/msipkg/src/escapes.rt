@@ -14,6 +14,8 @@ pub(crate) fn escapes_of(verb: Verb, given: &ArgMatches<'_>, is_terminal: bool) 
         Verb::Info
         | Verb::Tables
         | Verb::Schema
+        | Verb::Find
+        | Verb::Refs
         | Verb::Streams
         | Verb::Summary
         | Verb::Check

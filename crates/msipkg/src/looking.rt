@@ -8,6 +8,7 @@ use msipkg_checks::{Checked, check_file};
 use msipkg_export::{export, export_line};
 use msipkg_format::{Failure, Output, System, failure_json};
 use msipkg_packages::Purpose;
+use msipkg_search::{Found, find_references, find_values};
 use msipkg_show::{LastNames, Look, print_query, show, show_info};
 use std::alloc::Global;
 
@@ -31,6 +32,8 @@ pub(crate) fn look_at_each(
         Task::Info { .. }
         | Task::Show(_)
         | Task::Query(_)
+        | Task::Find(_)
+        | Task::Refs(_)
         | Task::Check { .. }
         | Task::Export { .. } => Ok(status),
     }
@@ -101,6 +104,14 @@ fn look(
         Task::Info { is_json } => show_info(rt, asked.style, &file, *is_json, output, errors)?,
         Task::Show(look) => show(rt, asked.style, &file, *look, output, errors)?,
         Task::Query(query) => print_query(rt, &file, query, names, output, errors)?,
+        Task::Find(search) => {
+            let found = find_values(rt, asked.style, &file, *search, output, errors)?;
+            return Ok(found_status(found));
+        }
+        Task::Refs(referred) => {
+            let found = find_references(rt, asked.style, &file, *referred, output, errors)?;
+            return Ok(found_status(found));
+        }
         Task::Check { options, mending } => {
             if let Some(manner) = mending {
                 // Checking the package afterwards notes where its texts are still recoded.
@@ -125,6 +136,14 @@ fn checked_status(checked: Checked) -> u8 {
     }
 }
 
+fn found_status(found: Found) -> u8 {
+    match found {
+        Found::Something => 0,
+        Found::Nothing => 1,
+        Found::Incomplete => 2,
+    }
+}
+
 fn report_one(
     alloc: Global,
     asked: &Asked<'_, '_>,
@@ -146,6 +165,8 @@ fn report_one(
             | Look::Summary { .. },
         )
         | Task::Query(_)
+        | Task::Find(_)
+        | Task::Refs(_)
         | Task::Export { .. } => false,
     };
     if is_json {

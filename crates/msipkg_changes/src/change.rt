@@ -24,7 +24,7 @@ pub enum Change<'a, 'b> {
         is_signature: bool,
     },
     /// Statements are carried out.
-    Execute(Vec<PreparedStatement<'a>>),
+    Execute(Vec<PreparedStatement<'b>>),
     /// It gets what files have.
     Import(Import<'a, 'b>),
     /// Properties of its summary are set, each given as `NAME=VALUE`, and then others are cleared.
@@ -101,6 +101,9 @@ fn changed_package(
     apply(rt, file.path, &mut package, change, manner, outcome, notes)?;
     if let Some(added) = before.added(rt, file.path, &package)? {
         outcome.add_validation(added);
+    }
+    if outcome.is_anew() {
+        before.check_listed(rt, file.path)?;
     }
     recode(&mut package, file.purpose, manner, outcome)?;
     Ok((package, state))

@@ -1,6 +1,6 @@
 //! `CREATE TABLE` and `DROP TABLE` as text, in the installer's form.
 
-use crate::tokens::{Token, Tokens};
+use crate::tokens::Tokens;
 use msipkg_format::Shown;
 use msipkg_packages::check_reserved;
 use msipkg_packages::msi::{Column, Error};
@@ -19,6 +19,9 @@ const SAME_NAME: &str = "two columns have the same name";
 
 /// The error of a word that is no type.
 const NO_TYPE: &str = "expected CHAR, LONGCHAR, SHORT, LONG or OBJECT";
+
+/// The error of a word that is no length.
+const NO_LENGTH: &str = "expected a length";
 
 /// The types without a length, by their names.
 const TYPES: [(&str, Kind); 6] = [
@@ -61,15 +64,15 @@ enum Kind {
 }
 
 /// Returns whether the first word of a text is `CREATE` or `DROP`.
-pub(crate) fn is_definition(text: &str) -> bool {
-    let mut tokens = Tokens::new(text);
+pub(crate) fn is_definition(alloc: Global, text: &str) -> bool {
+    let mut tokens = Tokens::new(alloc, text);
     tokens.takes_word("CREATE") || tokens.takes_word("DROP")
 }
 
 /// Reads a definition, such as ``CREATE TABLE `T` (`A` CHAR(72) NOT NULL, `B` LONG PRIMARY KEY `A`)`` or ``DROP TABLE
 /// `T` ``.
 pub(crate) fn definition_of<'a>(alloc: Global, text: &'a str) -> Result<Definition<'a>, Failure> {
-    let mut tokens = Tokens::new(text);
+    let mut tokens = Tokens::new(alloc, text);
     if tokens.takes_word("CREATE") {
         return creation(alloc, &mut tokens);
     }
@@ -138,9 +141,8 @@ fn described_column<'a>(tokens: &mut Tokens<'a>) -> Result<Described<'a>, Failur
 }
 
 fn column_type(tokens: &mut Tokens<'_>) -> Result<Kind, Failure> {
-    let Some(Token::Word(word)) = tokens.take() else {
-        return Err(Failure::rule(NO_TYPE));
-    };
+    let start = *tokens;
+    let word = tokens.word(NO_TYPE)?;
     if word.eq_ignore_ascii_case("CHAR") || word.eq_ignore_ascii_case("CHARACTER") {
         return Ok(Kind::Text(length(tokens)?));
     }
@@ -149,7 +151,7 @@ fn column_type(tokens: &mut Tokens<'_>) -> Result<Kind, Failure> {
             return Ok(*kind);
         }
     }
-    Err(Failure::rule(NO_TYPE))
+    Err(start.refuse(NO_TYPE))
 }
 
 /// Reads a length in brackets, or returns 0 if there is none.
@@ -157,11 +159,9 @@ fn length(tokens: &mut Tokens<'_>) -> Result<usize, Failure> {
     if !tokens.takes('(') {
         return Ok(0);
     }
-    let Some(Token::Word(word)) = tokens.take() else {
-        return Err(Failure::rule("expected a length"));
-    };
-    let Ok(length) = word.parse::<usize>() else {
-        return Err(Failure::rule("expected a length"));
+    let start = *tokens;
+    let Ok(length) = tokens.word(NO_LENGTH)?.parse::<usize>() else {
+        return Err(start.refuse(NO_LENGTH));
     };
     tokens.expect(')', "expected a closing bracket")?;
     Ok(length)

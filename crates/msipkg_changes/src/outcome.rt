@@ -50,6 +50,8 @@ impl Carried {
 pub(crate) struct Outcome {
     /// What adding `_Validation` did, if it was added.
     added: Option<Added>,
+    /// Whether the package was made anew, for other rows of `_Validation`.
+    is_anew: bool,
     /// How many reference counts were mended first.
     mended: u32,
     /// What each statement did.
@@ -61,6 +63,7 @@ impl Drop for Outcome {
     fn drop(self) {
         let Outcome {
             added: _,
+            is_anew: _,
             mended: _,
             carried: _,
         } = self;
@@ -71,6 +74,7 @@ impl Outcome {
     pub(crate) fn new(alloc: Global) -> Outcome {
         Outcome {
             added: None,
+            is_anew: false,
             mended: 0,
             carried: Vec::new(alloc),
         }
@@ -86,6 +90,15 @@ impl Outcome {
         if let Some(added) = self.added {
             added.note(file, notes);
         }
+    }
+
+    /// Notes that the package was made anew.
+    pub(crate) fn note_anew(&mut self) {
+        self.is_anew = true;
+    }
+
+    pub(crate) fn is_anew(&self) -> bool {
+        self.is_anew
     }
 
     pub(crate) fn add_mended(&mut self, count: u32) {

@@ -1,6 +1,8 @@
 //! The pieces of a definition's text: words, names in backquotes, and signs.
 
 use msipkg_packages::output::Failure;
+use msipkg_queries::{refused_at, session_sentence};
+use std::alloc::Global;
 
 /// A piece of a text.
 #[derive(Clone, Copy)]
@@ -26,12 +28,34 @@ impl<'a> Token<'a> {
 /// The pieces that are left of a text.
 #[derive(Clone, Copy)]
 pub(crate) struct Tokens<'a> {
+    alloc: Global,
+    text: &'a str,
     left: &'a str,
 }
 
 impl<'a> Tokens<'a> {
-    pub(crate) fn new(text: &'a str) -> Tokens<'a> {
-        Tokens { left: text }
+    pub(crate) fn new(alloc: Global, text: &'a str) -> Tokens<'a> {
+        Tokens {
+            alloc,
+            text,
+            left: text,
+        }
+    }
+
+    /// Returns the failure of the next piece: what is said of words of sessions, or else this rule.
+    pub(crate) fn refuse(&self, rule: &str) -> Failure {
+        let left = self.left.trim_start();
+        let place = self
+            .text
+            .trim_end()
+            .len()
+            .min(self.text.len().saturating_sub(left.len()));
+        let mut ahead = *self;
+        let sentence = match ahead.take() {
+            Some(Token::Word(word)) => session_sentence(word).unwrap_or(rule),
+            Some(Token::Name(_) | Token::Sign(_)) | None => rule,
+        };
+        refused_at(self.alloc, self.text, place, sentence)
     }
 
     pub(crate) fn take(&mut self) -> Option<Token<'a>> {
@@ -80,34 +104,46 @@ impl<'a> Tokens<'a> {
     }
 
     /// Takes this keyword. Fails with this rule if something else is next.
-    pub(crate) fn expect_word(&mut self, word: &str, rule: &'static str) -> Result<(), Failure> {
+    pub(crate) fn expect_word(&mut self, word: &str, rule: &str) -> Result<(), Failure> {
         if self.takes_word(word) {
             Ok(())
         } else {
-            Err(Failure::rule(rule))
+            Err(self.refuse(rule))
         }
     }
 
-    pub(crate) fn expect(&mut self, sign: char, rule: &'static str) -> Result<(), Failure> {
+    pub(crate) fn expect(&mut self, sign: char, rule: &str) -> Result<(), Failure> {
         if self.takes(sign) {
             Ok(())
         } else {
-            Err(Failure::rule(rule))
+            Err(self.refuse(rule))
         }
     }
 
     /// Takes a name, with its backquotes or without.
     pub(crate) fn name(&mut self) -> Result<&'a str, Failure> {
+        let start = *self;
         match self.take() {
-            Some(Token::Name(name)) => Ok(name),
-            Some(Token::Word(name)) => Ok(name),
-            _ => Err(Failure::rule("expected a name")),
+            Some(Token::Name(name) | Token::Word(name)) => Ok(name),
+            Some(Token::Sign(_)) | None => Err(start.refuse("expected a name")),
         }
     }
 
-    pub(crate) fn expect_end(&mut self) -> Result<(), Failure> {
+    /// Takes a word. Fails with this rule if something else is next.
+    pub(crate) fn word(&mut self, rule: &str) -> Result<&'a str, Failure> {
+        let start = *self;
         match self.take() {
-            Some(_) => Err(Failure::rule("expected the end of the text")),
+            Some(Token::Word(word)) => Ok(word),
+            Some(Token::Name(_) | Token::Sign(_)) | None => Err(start.refuse(rule)),
+        }
+    }
+
+    /// Takes the end of the text, in front of which a semicolon may stand.
+    pub(crate) fn expect_end(&mut self) -> Result<(), Failure> {
+        let _is_ended = self.takes(';');
+        let start = *self;
+        match self.take() {
+            Some(_) => Err(start.refuse("expected the end of the text")),
             None => Ok(()),
         }
     }

@@ -10,6 +10,8 @@ pub enum Verb {
     Tables,
     Schema,
     Query,
+    Find,
+    Refs,
     Streams,
     Extract,
     Summary,
@@ -59,6 +61,8 @@ enum Form {
     Value(&'static str),
     /// `--ID` with a value of this name, as often as it is needed.
     Values(&'static str),
+    /// The same, where a value may begin with a minus sign.
+    SignedValues(&'static str),
     /// `--ID`, or a letter, with a value of this name.
     Lettered(char, &'static str),
     /// `--ID`, or a letter, with a value of this name, which has to be there.
@@ -130,6 +134,12 @@ const FOR_SPREADSHEETS: Argument = Argument {
     help: "Puts an apostrophe in front of texts in CSV that a spreadsheet would run as formulas",
 };
 
+const VALUE: Argument = Argument {
+    id: "value",
+    form: Form::SignedValues("TEXT"),
+    help: "Takes the place of the next ?: NULL, a whole number, or else a text; may be repeated",
+};
+
 /// How `query` is called: its files and its text are one argument, so that options may be anywhere between them.
 pub const QUERY_USAGE: &str = "msipkg query [OPTIONS] <FILE>... <TEXT>";
 
@@ -194,7 +204,69 @@ static TABLE_COMMANDS: [Row; 4] = [
                 form: Form::Instead(&["escape"]),
                 help: "Prints tabs and line feeds in values as they are, but for a terminal",
             },
+            VALUE,
             FOR_SPREADSHEETS,
+            PAGE,
+            ESCAPE,
+        ],
+    },
+];
+
+/// The commands that search the values of tables.
+static SEARCH_COMMANDS: [Row; 2] = [
+    Row {
+        verb: Verb::Find,
+        name: "find",
+        about: "Prints the values that have a text; the status is 1 where there is none",
+        arguments: &[
+            FILE,
+            Argument {
+                id: "TEXT",
+                form: Form::Word,
+                help: "The text; numbers are searched as they print",
+            },
+            Argument {
+                id: "exact",
+                form: Form::Instead(&["regex"]),
+                help: "Finds values that equal the text",
+            },
+            Argument {
+                id: "regex",
+                form: Form::Flag,
+                help: "Takes the text as a regular expression",
+            },
+            Argument {
+                id: "ignore-case",
+                form: Form::Flag,
+                help: "Takes large and small letters for the same",
+            },
+            Argument {
+                id: "all",
+                form: Form::Flag,
+                help: "Searches _Columns, _Tables and _Validation, too",
+            },
+            JSON,
+            PAGE,
+            ESCAPE,
+        ],
+    },
+    Row {
+        verb: Verb::Refs,
+        name: "refs",
+        about: "Prints what refers to a row; the status is 1 where nothing does",
+        arguments: &[
+            FILE,
+            Argument {
+                id: "TABLE",
+                form: Form::Word,
+                help: "The table of the row",
+            },
+            Argument {
+                id: "KEY",
+                form: Form::Word,
+                help: "Its key, as find prints it, or the first value of that",
+            },
+            JSON,
             PAGE,
             ESCAPE,
         ],
@@ -356,6 +428,7 @@ static CHANGE_COMMANDS: [Row; 4] = [
                 form: Form::Flag,
                 help: "Prints how many rows each statement changed as JSON",
             },
+            VALUE,
             PAGE,
             RECODE,
             STRICT,
@@ -464,10 +537,11 @@ static EXCHANGE_COMMANDS: [Row; 4] = [
 ];
 
 /// Returns the commands. Proofs go through all rows in each function that names a table, with a cost by their square.
-/// So there are four tables, and a function for each.
-fn commands() -> [&'static [Row]; 4] {
+/// So there are five tables, and a function for each.
+fn commands() -> [&'static [Row]; 5] {
     [
         table_commands(),
+        search_commands(),
         part_commands(),
         change_commands(),
         exchange_commands(),
@@ -476,6 +550,10 @@ fn commands() -> [&'static [Row]; 4] {
 
 fn table_commands() -> &'static [Row] {
     TABLE_COMMANDS.as_slice()
+}
+
+fn search_commands() -> &'static [Row] {
+    SEARCH_COMMANDS.as_slice()
 }
 
 fn part_commands() -> &'static [Row] {
@@ -550,6 +628,11 @@ fn arg_of<'a>(alloc: Global, argument: &Argument) -> Result<Arg<'a>, AllocError>
             .conflicts_with_all(others)?,
         Form::Value(name) => arg.long(id).value_name(name),
         Form::Values(name) => arg.long(id).value_name(name).action(ArgAction::Append),
+        Form::SignedValues(name) => arg
+            .long(id)
+            .value_name(name)
+            .action(ArgAction::Append)
+            .allow_hyphen_values(true),
         Form::Lettered(letter, name) => arg.long(id).short(letter).value_name(name),
         Form::Needed(letter, name) => arg.long(id).short(letter).value_name(name).required(true),
         Form::Choice(name, values) => arg.long(id).value_name(name).value_parser(values),

@@ -2,7 +2,7 @@
 
 use crate::given::{GivenColumn, GivenTable};
 use crate::rules::rule_about;
-use msipkg_packages::msi::{Category, Column, ColumnBuilder, ColumnType, Error, Value};
+use msipkg_packages::msi::{Category, Column, ColumnBuilder, ColumnType, Error, Table, Value};
 use std::alloc::Global;
 
 /// How many columns are built at most: one more than a table may have, so that one with too many is refused, however
@@ -19,6 +19,38 @@ pub(crate) fn built_columns(
         columns.push(built_column(alloc, rules, table.name.as_str(), column)?)?;
     }
     Ok(columns)
+}
+
+/// Returns the columns of a table, those that rows of `_Validation` are about as these describe them.
+pub(crate) fn described_columns(
+    alloc: Global,
+    rules: &[Vec<Value>],
+    table: &Table,
+) -> Result<Vec<Column>, Error> {
+    let mut columns = Vec::with_capacity(alloc, table.columns().len())?;
+    for column in table.columns() {
+        columns.push(described_column(alloc, rules, table.name(), column)?)?;
+    }
+    Ok(columns)
+}
+
+fn described_column(
+    alloc: Global,
+    rules: &[Vec<Value>],
+    table: &str,
+    column: &Column,
+) -> Result<Column, Error> {
+    if rule_about(rules, table, column.name()).is_empty() {
+        return column.clone(alloc);
+    }
+    let given = GivenColumn {
+        name: String::from_str(alloc, column.name())?,
+        coltype: column.coltype(),
+        is_key: column.is_primary_key(),
+        is_nullable: column.is_nullable(),
+        is_localizable: column.is_localizable(),
+    };
+    built_column(alloc, rules, table, &given)
 }
 
 fn built_column(

@@ -6,6 +6,7 @@ mod archive_streams;
 mod archives;
 mod columns;
 mod csv_tables;
+pub mod describing;
 mod descriptions;
 pub mod given;
 pub mod importing;
@@ -22,8 +23,9 @@ mod summary;
 mod tables;
 pub mod validation;
 
+pub use describing::change_validation;
 pub use given::{Given, GivenColumn, GivenProperty, GivenStream, GivenTable};
 pub use importing::{Merging, import_given};
 pub use losses::{Losses, note_losses};
 pub use reading::read_files;
-pub use validation::{Added, Before, add_validation};
+pub use validation::{Added, Before, VALIDATION, add_validation};

@@ -1,8 +1,10 @@
-//! Packages without `_Validation`, in which the library creates no table: before a table is created, such a package is
-//! made anew as one that has it.
+//! Packages that are made anew for `_Validation`: those without it, in which the library creates no table, and those in
+//! which it is to say something else of columns, which the library takes only with new tables.
 
+use crate::columns::described_columns;
+use crate::descriptions::describe;
 use msipkg_format::Shown;
-use msipkg_packages::msi::{Column, Error, Insert, Package, Row, Table, Value};
+use msipkg_packages::msi::{Error, Insert, Package, Row, Table, Value};
 use msipkg_packages::output::{Failure, Opened, Output, System};
 use msipkg_packages::{TableNames, fill_stream, is_list, new_package, rows_of};
 use std::alloc::{AllocError, Global};
@@ -14,8 +16,10 @@ pub const VALIDATION: &str = "_Validation";
 /// What a package had before it was changed.
 pub struct Before {
     is_signed: bool,
-    /// The tables that it listed, if `_Validation` wasn't among them.
-    listed: Option<TableNames>,
+    /// The tables that it listed.
+    listed: TableNames,
+    /// Whether `_Validation` was among them.
+    is_described: bool,
 }
 
 /// Written out, so that a function that owns one calls one drop, and its proof doesn't go through those of the parts.
@@ -24,20 +28,17 @@ impl Drop for Before {
         let Before {
             is_signed: _,
             listed: _,
+            is_described: _,
         } = self;
     }
 }
 
 impl Before {
     pub fn of(alloc: Global, package: &Package<Opened>) -> Result<Before, AllocError> {
-        let listed = if package.has_table(VALIDATION) {
-            None
-        } else {
-            Some(TableNames::listed(alloc, package)?)
-        };
         Ok(Before {
             is_signed: package.has_digital_signature(),
-            listed,
+            listed: TableNames::listed(alloc, package)?,
+            is_described: package.has_table(VALIDATION),
         })
     }
 
@@ -49,20 +50,26 @@ impl Before {
         file: &str,
         package: &Package<Opened>,
     ) -> Result<Option<Added>, Failure> {
-        let Some(listed) = &self.listed else {
-            return Ok(None);
-        };
-        if !package.has_table(VALIDATION) {
+        if self.is_described || !package.has_table(VALIDATION) {
             return Ok(None);
         }
-        let stored = TableNames::stored(rt, file)?;
-        if let Some(table) = stored.first_beside(listed) {
-            let failure = Failure::rule("_Tables doesn't list it, so its rows would be lost");
-            return Err(failure.at(rt.alloc(), "_Validation can't be added, table", table));
-        }
+        self.check_listed(rt, file)?;
         Ok(Some(Added {
             lost_signature: self.is_signed,
         }))
+    }
+
+    /// Fails at a table of which a file has rows and that its package didn't list, since a package made anew doesn't
+    /// have them.
+    pub fn check_listed(&self, rt: &System, file: &str) -> Result<(), Failure> {
+        let stored = TableNames::stored(rt, file)?;
+        match stored.first_beside(&self.listed) {
+            Some(table) => {
+                let failure = Failure::rule("_Tables doesn't list it, so its rows would be lost");
+                Err(failure.at(rt.alloc(), "_Validation can't be stored, table", table))
+            }
+            None => Ok(()),
+        }
     }
 }
 
@@ -93,9 +100,19 @@ pub fn add_validation(alloc: Global, package: &mut Package<Opened>) -> Result<()
     if package.has_table(VALIDATION) {
         return Ok(());
     }
+    make_anew(alloc, package, &[])
+}
+
+/// Makes a package anew, with columns as these rows of `_Validation` describe them.
+pub(crate) fn make_anew(
+    alloc: Global,
+    package: &mut Package<Opened>,
+    rules: &[Vec<Value>],
+) -> Result<(), Failure> {
     check_sound(package)?;
     let mut made = new_package(alloc, package.package_type())?;
-    copy_package(alloc, package, &mut made)?;
+    copy_package(alloc, package, rules, &mut made)?;
+    describe(alloc, &mut made, rules)?;
     *package = made;
     Ok(())
 }
@@ -109,10 +126,11 @@ fn check_sound(package: &mut Package<Opened>) -> Result<(), Error> {
 fn copy_package(
     alloc: Global,
     package: &mut Package<Opened>,
+    rules: &[Vec<Value>],
     made: &mut Package<Opened>,
 ) -> Result<(), Failure> {
     made.set_database_codepage(package.database_codepage())?;
-    create_tables(alloc, package, made)?;
+    create_tables(alloc, package, rules, made)?;
     copy_tables(alloc, package, made)?;
     copy_streams(alloc, package, made)?;
     mem::swap(package.summary_info_mut()?, made.summary_info_mut()?);
@@ -122,29 +140,32 @@ fn copy_package(
 fn create_tables(
     alloc: Global,
     package: &Package<Opened>,
+    rules: &[Vec<Value>],
     made: &mut Package<Opened>,
 ) -> Result<(), Failure> {
     for table in package.tables() {
-        if is_list(table) {
+        if is_system(table) {
             continue;
         }
-        if let Err(error) = create_table(alloc, table, made) {
+        if let Err(error) = create_table(alloc, rules, table, made) {
             return Err(at_table(alloc, Failure::from(error), table));
         }
     }
     Ok(())
 }
 
-fn create_table(alloc: Global, table: &Table, made: &mut Package<Opened>) -> Result<(), Error> {
-    made.create_table(table.name(), copied_columns(alloc, table.columns())?)
+/// Returns whether a package that is made anew has a table by itself.
+fn is_system(table: &Table) -> bool {
+    is_list(table) || table.name() == VALIDATION
 }
 
-fn copied_columns(alloc: Global, columns: &[Column]) -> Result<Vec<Column>, Error> {
-    let mut copies = Vec::with_capacity(alloc, columns.len())?;
-    for column in columns {
-        copies.push(column.clone(alloc)?)?;
-    }
-    Ok(copies)
+fn create_table(
+    alloc: Global,
+    rules: &[Vec<Value>],
+    table: &Table,
+    made: &mut Package<Opened>,
+) -> Result<(), Error> {
+    made.create_table(table.name(), described_columns(alloc, rules, table)?)
 }
 
 fn copy_tables(
@@ -153,7 +174,7 @@ fn copy_tables(
     made: &mut Package<Opened>,
 ) -> Result<(), Failure> {
     for table in package.tables() {
-        if is_list(table) {
+        if is_system(table) {
             continue;
         }
         if let Err(failure) = copy_table(alloc, package, table.name(), made) {
@@ -201,7 +222,7 @@ fn copy_streams(
     for name in package.streams() {
         let name = name?;
         if let Err(failure) = copy_stream(package, name.as_str(), made) {
-            return Err(failure.at(alloc, "_Validation can't be added, stream", name.as_str()));
+            return Err(failure.at(alloc, "_Validation can't be stored, stream", name.as_str()));
         }
     }
     Ok(())
@@ -217,5 +238,5 @@ fn copy_stream(
 }
 
 fn at_table(alloc: Global, failure: Failure, table: &Table) -> Failure {
-    failure.at(alloc, "_Validation can't be added, table", table.name())
+    failure.at(alloc, "_Validation can't be stored, table", table.name())
 }

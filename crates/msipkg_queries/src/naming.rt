@@ -34,7 +34,11 @@ fn missing_table(
     }
     let near = near_text(alloc, name, names.as_slice())?;
     let name = Shown::escaped(name);
-    format!(in alloc; "table {name} isn't there{near}")
+    if !near.is_empty() {
+        return format!(in alloc; "table {name} isn't there{near}");
+    }
+    let count = names.len();
+    format!(in alloc; "table {name} isn't there; msipkg tables FILE lists the {count} tables")
 }
 
 pub(crate) fn tables_in<'a>(
@@ -53,14 +57,14 @@ pub(crate) fn tables_in<'a>(
     Ok(tables)
 }
 
-/// Returns what is wrong with the first missing column of a text. Which columns exist in a query within brackets, or of
-/// a list of tables, isn't known.
+/// Returns what is wrong with the first missing column of a text. Which columns exist in a query within brackets isn't
+/// known.
 pub(crate) fn column_fault(
     alloc: Global,
     tables: &[&Table],
     pieces: &[Piece<'_>],
 ) -> Result<Option<String>, AllocError> {
-    if has_inner_query(pieces) || has_list(pieces) || has_kind(pieces, Kind::Insert) {
+    if has_inner_query(pieces) || has_kind(pieces, Kind::Insert) {
         return Ok(None);
     }
     let known = known_columns(alloc, tables)?;
@@ -83,29 +87,12 @@ fn has_inner_query(pieces: &[Piece<'_>]) -> bool {
         > 1
 }
 
-/// Returns whether a text has several tables with commas between them, or one with a name of its own.
-fn has_list(pieces: &[Piece<'_>]) -> bool {
-    (0..pieces.len()).any(|i| table_at(pieces, i).is_some() && goes_on(pieces, i.saturating_add(1)))
-}
-
-fn goes_on(pieces: &[Piece<'_>], place: usize) -> bool {
-    match pieces.get(place) {
-        Some(piece) => piece.kind == Kind::Comma || piece.name().is_some(),
-        None => false,
-    }
-}
-
-/// Returns the names of the columns of tables, with those of the tables in front and without: first as most write them.
-fn known_columns(alloc: Global, tables: &[&Table]) -> Result<Vec<String>, AllocError> {
+/// Returns the names of the columns of tables, with those of the tables in front where there are several.
+pub(crate) fn known_columns(alloc: Global, tables: &[&Table]) -> Result<Vec<String>, AllocError> {
     let mut names = Vec::new(alloc);
     for table in tables {
-        let (first, second) = if tables.len() > 1 {
-            (table.name(), "")
-        } else {
-            ("", table.name())
-        };
-        add_columns(alloc, table, first, &mut names)?;
-        add_columns(alloc, table, second, &mut names)?;
+        let front = if tables.len() > 1 { table.name() } else { "" };
+        add_columns(alloc, table, front, &mut names)?;
     }
     Ok(names)
 }
@@ -155,7 +142,7 @@ fn second_name<'a>(pieces: &[Piece<'a>], place: usize) -> Option<&'a str> {
     }
 }
 
-fn missing_column(
+pub(crate) fn missing_column(
     alloc: Global,
     tables: &[&Table],
     known: &[String],

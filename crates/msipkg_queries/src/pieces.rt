@@ -4,13 +4,16 @@ use msi_query_tokens::token::Kind;
 use msi_query_tokens::tokens::Tokens;
 use std::alloc::{AllocError, Global};
 
+/// What a byte that begins no piece is spelled as, where it is only a part of a character.
+const UNKNOWN: &str = "#";
+
 /// A piece of a text.
 #[derive(Clone, Copy)]
 pub(crate) struct Piece<'a> {
     pub(crate) kind: Kind,
     /// The byte at which it begins.
     pub(crate) place: usize,
-    /// How it is spelled.
+    /// How it is spelled. A name in backquotes may lack them.
     pub(crate) text: &'a str,
 }
 
@@ -19,7 +22,7 @@ impl<'a> Piece<'a> {
     pub(crate) fn name(self) -> Option<&'a str> {
         match self.kind {
             Kind::Name => Some(self.text),
-            Kind::QuotedName => self.text.strip_prefix('`')?.strip_suffix('`'),
+            Kind::QuotedName => Some(without_quotes(self.text)),
             _ => None,
         }
     }
@@ -27,9 +30,20 @@ impl<'a> Piece<'a> {
     pub(crate) fn is_empty_text(self) -> bool {
         matches!(self.text, "''" | "\"\"")
     }
+
+    /// Returns whether it is this word, in any case.
+    pub(crate) fn is_word(self, word: &str) -> bool {
+        self.text.eq_ignore_ascii_case(word)
+    }
 }
 
-pub(crate) fn pieces_of<'a>(alloc: Global, text: &'a str) -> Result<Vec<Piece<'a>>, AllocError> {
+fn without_quotes(name: &str) -> &str {
+    let name = name.strip_prefix('`').unwrap_or(name);
+    name.strip_suffix('`').unwrap_or(name)
+}
+
+/// Cuts a text into pieces.
+pub(crate) fn cut_pieces<'a>(alloc: Global, text: &'a str) -> Result<Vec<Piece<'a>>, AllocError> {
     let mut tokens = Tokens::new(text.as_bytes());
     let mut pieces = Vec::new(alloc);
     for _ in 0..text.len() {
@@ -48,7 +62,7 @@ fn piece_of<'a>(text: &'a str, tokens: &Tokens<'_>) -> Piece<'a> {
     Piece {
         kind: tokens.peek(),
         place,
-        text: text.get(place..end).unwrap_or(""),
+        text: text.get(place..end).unwrap_or(UNKNOWN),
     }
 }
 
@@ -63,11 +77,31 @@ pub(crate) fn has_kind(pieces: &[Piece<'_>], kind: Kind) -> bool {
     pieces.iter().any(|piece| piece.kind == kind)
 }
 
-/// Returns the name of a table at a place behind `FROM`, `JOIN`, `INTO` or `UPDATE`.
+/// Returns the name of a table at a place behind `FROM`, `JOIN`, `INTO` or `UPDATE`, or in the list behind `FROM`.
 pub(crate) fn table_at<'a>(pieces: &[Piece<'a>], place: usize) -> Option<&'a str> {
-    let before = pieces.get(place.checked_sub(1)?)?;
+    let before = pieces.get(list_start(pieces, place).checked_sub(1)?)?;
     match before.kind {
         Kind::From | Kind::Join | Kind::Into | Kind::Update => pieces.get(place)?.name(),
         _ => None,
+    }
+}
+
+/// Returns where the list of names begins that has a name at a place.
+fn list_start(pieces: &[Piece<'_>], place: usize) -> usize {
+    let mut start = place;
+    for _ in 0..place {
+        let (comma, name) = (start.saturating_sub(1), start.saturating_sub(2));
+        if start < 2 || !is_at(pieces, comma, Kind::Comma) || !is_name_at(pieces, name) {
+            break;
+        }
+        start = name;
+    }
+    start
+}
+
+fn is_name_at(pieces: &[Piece<'_>], place: usize) -> bool {
+    match pieces.get(place) {
+        Some(piece) => piece.kind.is_name(),
+        None => false,
     }
 }

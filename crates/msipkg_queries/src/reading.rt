@@ -1,7 +1,10 @@
 //! Reading queries and statements.
 
-use crate::pieces::{Piece, is_at, pieces_of};
+use crate::caret::refused_at;
+use crate::mistakes::sentence_at;
+use crate::pieces::{Piece, is_at};
 use crate::rules::{check_pieces, check_quotes};
+use crate::written::{Written, pieces_of};
 use msi_query_tokens::token::Kind;
 use msipkg_packages::msi::{Parse, ParseError, Refused, Select, Statement};
 use msipkg_packages::output::Failure;
@@ -12,11 +15,11 @@ use std::alloc::{AllocError, Global};
 /// # Errors
 /// Fails if the text spells none, if it has a text in double quotes with a backslash, a `NOT` in front of a comparison
 /// without brackets or a join of a table with itself, and with `OutOfMemory`.
-pub fn read_select(alloc: Global, text: &str) -> Result<Select, Failure> {
-    let pieces = pieces_of(alloc, text)?;
-    check_quotes(alloc, pieces.as_slice())?;
-    let query = parsed(alloc, text, pieces.as_slice())?;
-    check_pieces(alloc, text, pieces.as_slice())?;
+pub fn read_select(alloc: Global, written: Written<'_>) -> Result<Select, Failure> {
+    let pieces = pieces_of(alloc, written)?;
+    check_quotes(alloc, written.text, pieces.as_slice())?;
+    let query = parsed(alloc, written.text, pieces.as_slice())?;
+    check_pieces(alloc, written.text, pieces.as_slice())?;
     Ok(query)
 }
 
@@ -24,36 +27,54 @@ pub fn read_select(alloc: Global, text: &str) -> Result<Select, Failure> {
 ///
 /// # Errors
 /// Fails as `read_select` does, and if an `INSERT` has no rows or an `UPDATE` sets nothing.
-pub fn read_statement(alloc: Global, text: &str) -> Result<Statement, Failure> {
-    let pieces = pieces_of(alloc, text)?;
-    check_quotes(alloc, pieces.as_slice())?;
-    let statement = parsed(alloc, text, pieces.as_slice())?;
-    check_pieces(alloc, text, pieces.as_slice())?;
+pub fn read_statement(alloc: Global, written: Written<'_>) -> Result<Statement, Failure> {
+    let pieces = pieces_of(alloc, written)?;
+    check_quotes(alloc, written.text, pieces.as_slice())?;
+    let statement = parsed(alloc, written.text, pieces.as_slice())?;
+    check_pieces(alloc, written.text, pieces.as_slice())?;
     Ok(statement)
 }
 
-/// Parses a text, in which each empty text that means null is spelled as `NULL` first.
+/// Parses the text that pieces spell. A failure is shown in the text as it was written.
 fn parsed<Q: Parse>(alloc: Global, text: &str, pieces: &[Piece<'_>]) -> Result<Q, Failure> {
-    let Some(spelled) = text_with_nulls(alloc, pieces)? else {
-        return Ok(Q::parse(alloc, text)?);
-    };
+    let spelled = spelled_text(alloc, pieces)?;
     match Q::parse(alloc, spelled.as_str()) {
         Ok(query) => Ok(query),
-        Err(error) => Err(Failure::from(placed(error, text, pieces))),
+        Err(error) => Err(shown_error(alloc, text, pieces, error)),
     }
 }
 
-/// Returns a text with `NULL` in place of each empty text that means null, if there is one.
-fn text_with_nulls(alloc: Global, pieces: &[Piece<'_>]) -> Result<Option<String>, AllocError> {
-    if !(0..pieces.len()).any(|i| is_null(pieces, i)) {
-        return Ok(None);
+fn shown_error(alloc: Global, text: &str, pieces: &[Piece<'_>], error: ParseError) -> Failure {
+    match error {
+        ParseError::OutOfMemory => Failure::from(AllocError),
+        ParseError::Refused(Refused { place, expected }) => {
+            let piece = piece_at(pieces, place);
+            let place = written_place(text, pieces, piece);
+            refused_at(alloc, text, place, sentence_at(pieces, piece, expected))
+        }
     }
+}
+
+/// Returns the text that pieces spell, with a blank behind each. An empty text that means null is spelled as `NULL`.
+fn spelled_text(alloc: Global, pieces: &[Piece<'_>]) -> Result<String, AllocError> {
     let mut text = String::new(alloc);
     for i in 0..pieces.len() {
+        let quote = missing_quote(pieces[i]);
+        text.push_str(quote)?;
         text.push_str(spelling(pieces, i))?;
+        text.push_str(quote)?;
         text.push(' ')?;
     }
-    Ok(Some(text))
+    Ok(text)
+}
+
+/// Returns the quote that a piece lacks on both sides.
+fn missing_quote(piece: Piece<'_>) -> &'static str {
+    if piece.kind == Kind::QuotedName && !piece.text.starts_with('`') {
+        "`"
+    } else {
+        ""
+    }
 }
 
 fn spelling<'a>(pieces: &[Piece<'a>], place: usize) -> &'a str {
@@ -76,27 +97,27 @@ fn is_null(pieces: &[Piece<'_>], place: usize) -> bool {
     is_empty_text && !is_joined_before && !is_at(pieces, place.saturating_add(1), Kind::Add)
 }
 
-/// Returns an error of the text with `NULL`s as one of the text as it was written.
-fn placed(error: ParseError, text: &str, pieces: &[Piece<'_>]) -> ParseError {
-    match error {
-        ParseError::OutOfMemory => ParseError::OutOfMemory,
-        ParseError::Refused(Refused { place, expected }) => ParseError::Refused(Refused {
-            place: written_place(text, pieces, place),
-            expected,
-        }),
+/// Returns which piece has a byte of the text that they spell, or the number of pieces at its end.
+fn piece_at(pieces: &[Piece<'_>], byte: usize) -> usize {
+    let mut end = 0usize;
+    for i in 0..pieces.len() {
+        let quotes = missing_quote(pieces[i]).len().saturating_mul(2);
+        let length = spelling(pieces, i).len().saturating_add(quotes);
+        end = end.saturating_add(length).saturating_add(1);
+        if byte < end {
+            return i;
+        }
     }
+    pieces.len()
 }
 
-/// Returns where the piece that begins at a place of the text with `NULL`s was written, or the end of the text where
-/// none begins.
+/// Returns where a piece was written, or the end of the text where there is none.
 fn written_place(text: &str, pieces: &[Piece<'_>], place: usize) -> usize {
-    let mut start = 0usize;
-    for i in 0..pieces.len() {
-        if start == place {
-            return pieces[i].place;
+    match pieces.get(place) {
+        Some(piece) => piece.place,
+        None => {
+            let text = text.trim_end();
+            text.strip_suffix(';').unwrap_or(text).trim_end().len()
         }
-        let length = spelling(pieces, i).len();
-        start = start.saturating_add(length).saturating_add(1);
     }
-    text.len()
 }

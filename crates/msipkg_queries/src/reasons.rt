@@ -1,9 +1,11 @@
 //! Why a package refuses a query or a statement: the table, the column and the value.
 
+use crate::inserting::insert_fault;
 use crate::naming::{column_fault, table_fault, tables_in};
-use crate::pieces::{Piece, pieces_of};
+use crate::pieces::Piece;
 use crate::showing::said;
-use crate::values::{insert_fault, update_fault};
+use crate::values::update_fault;
+use crate::written::{Written, pieces_of};
 use msi_query_tokens::token::Kind;
 use msipkg_packages::msi::{Package, Table};
 use msipkg_packages::output::{Failure, Opened};
@@ -14,13 +16,13 @@ use std::alloc::{AllocError, Global};
 pub fn explained(
     alloc: Global,
     package: &Package<Opened>,
-    text: &str,
+    written: Written<'_>,
     failure: Failure,
 ) -> Failure {
     if failure.is_invalid_data() {
         return failure;
     }
-    match fault_in(alloc, package, text) {
+    match fault_in(alloc, package, written) {
         Ok(Some(fault)) => said(Ok(fault)),
         Ok(None) => failure,
         Err(error) => Failure::from(error),
@@ -30,9 +32,9 @@ pub fn explained(
 fn fault_in(
     alloc: Global,
     package: &Package<Opened>,
-    text: &str,
+    written: Written<'_>,
 ) -> Result<Option<String>, AllocError> {
-    let pieces = pieces_of(alloc, text)?;
+    let pieces = pieces_of(alloc, written)?;
     let fault = table_fault(alloc, package, pieces.as_slice())?;
     if fault.is_some() {
         return Ok(fault);
@@ -45,16 +47,6 @@ fn fault_in(
     value_fault_in(alloc, tables.as_slice(), pieces.as_slice())
 }
 
-/// Returns whether an insert has a list of columns, in front of `VALUES`.
-fn names_columns(pieces: &[Piece<'_>]) -> bool {
-    let values = pieces.iter().position(|piece| piece.kind == Kind::Values);
-    let bracket = pieces.iter().position(|piece| piece.kind == Kind::Open);
-    match (bracket, values) {
-        (Some(bracket), Some(values)) => bracket < values,
-        (Some(_), None) | (None, _) => false,
-    }
-}
-
 fn value_fault_in(
     alloc: Global,
     tables: &[&Table],
@@ -64,7 +56,6 @@ fn value_fault_in(
         return Ok(None);
     };
     match first.kind {
-        Kind::Insert if names_columns(pieces) => Ok(None),
         Kind::Insert => insert_fault(alloc, table, pieces),
         Kind::Update => update_fault(alloc, table, pieces),
         _ => Ok(None),

@@ -1,5 +1,6 @@
 //! What is refused of texts that the library reads, since people mean something else by them.
 
+use crate::caret::refused_at;
 use crate::comparing::{is_operator, operand_end};
 use crate::pieces::{Piece, has_kind, table_at};
 use crate::showing::said;
@@ -8,14 +9,14 @@ use msipkg_format::Shown;
 use msipkg_packages::output::Failure;
 use std::alloc::Global;
 
+/// The error of a text in double quotes with a backslash.
+const BACKSLASH: &str = "a backslash begins an escape in \"..\"; '..' takes it as it stands";
+
 /// Refuses a text in double quotes that has a backslash, as a path does.
-pub(crate) fn check_quotes(alloc: Global, pieces: &[Piece<'_>]) -> Result<(), Failure> {
+pub(crate) fn check_quotes(alloc: Global, text: &str, pieces: &[Piece<'_>]) -> Result<(), Failure> {
     for piece in pieces {
         if piece.text.starts_with('"') && piece.text.contains('\\') {
-            let place = piece.place;
-            return Err(said(format!(in alloc;
-                "at byte {place}: a backslash begins an escape in \"..\"; '..' takes it as it stands"
-            )));
+            return Err(refused_at(alloc, text, piece.place, BACKSLASH));
         }
     }
     Ok(())
@@ -62,10 +63,13 @@ fn check_not(alloc: Global, text: &str, pieces: &[Piece<'_>]) -> Result<(), Fail
 fn not_failure(alloc: Global, text: &str, not: Piece<'_>, operator: Piece<'_>) -> Failure {
     let start = not.place.saturating_add(not.text.len());
     let operand = text.get(start..operator.place).unwrap_or("").trim();
-    let (place, operand, operator) = (not.place, Shown::escaped(operand), operator.text);
-    said(format!(in alloc;
-        "at byte {place}: write NOT ({operand} {operator} ..) or (NOT {operand}) {operator} .."
-    ))
+    let (operand, operator) = (Shown::escaped(operand), operator.text);
+    match format!(in alloc;
+        "write NOT ({operand} {operator} ..) or (NOT {operand}) {operator} .."
+    ) {
+        Ok(sentence) => refused_at(alloc, text, not.place, sentence.as_str()),
+        Err(error) => Failure::from(error),
+    }
 }
 
 /// Refuses a join of a table with itself, whose columns couldn't be distinguished.

@@ -1,5 +1,6 @@
 //! The values that a text gives to columns, and the first that its column doesn't take.
 
+use crate::fitting::fitted_value;
 use crate::pieces::{Piece, is_at};
 use crate::showing::shown_value;
 use msi_query_tokens::texts;
@@ -8,66 +9,6 @@ use msi_query_tokens::tokens::Tokens;
 use msipkg_format::Shown;
 use msipkg_packages::msi::{Column, ParseError, Table, Value};
 use std::alloc::{AllocError, Global};
-
-pub(crate) fn insert_fault(
-    alloc: Global,
-    table: &Table,
-    pieces: &[Piece<'_>],
-) -> Result<Option<String>, AllocError> {
-    let mut spot = Spot { row: 0, value: 0 };
-    for i in 0..pieces.len() {
-        spot = spot.behind(pieces[i].kind);
-        let fault = inserted_fault(alloc, table, pieces, i, spot)?;
-        if fault.is_some() {
-            return Ok(fault);
-        }
-    }
-    Ok(None)
-}
-
-/// Where a piece of an insert stands.
-#[derive(Clone, Copy)]
-struct Spot {
-    /// Which row it is of, counted from 1 on.
-    row: usize,
-    /// Which value of the row it is, counted from 0 on.
-    value: usize,
-}
-
-impl Spot {
-    fn behind(self, kind: Kind) -> Spot {
-        match kind {
-            Kind::Open => Spot {
-                row: self.row.saturating_add(1),
-                value: 0,
-            },
-            Kind::Comma => Spot {
-                row: self.row,
-                value: self.value.saturating_add(1),
-            },
-            _ => self,
-        }
-    }
-}
-
-fn inserted_fault(
-    alloc: Global,
-    table: &Table,
-    pieces: &[Piece<'_>],
-    place: usize,
-    spot: Spot,
-) -> Result<Option<String>, AllocError> {
-    if !is_at(pieces, place, Kind::Close) {
-        return value_fault(alloc, table, pieces, place, table.columns().get(spot.value));
-    }
-    let is_empty = is_at(pieces, place.saturating_sub(1), Kind::Open);
-    let has = if is_empty {
-        0
-    } else {
-        spot.value.saturating_add(1)
-    };
-    count_fault(alloc, table, spot.row, has)
-}
 
 pub(crate) fn update_fault(
     alloc: Global,
@@ -86,22 +27,6 @@ pub(crate) fn update_fault(
     Ok(None)
 }
 
-fn count_fault(
-    alloc: Global,
-    table: &Table,
-    row: usize,
-    has: usize,
-) -> Result<Option<String>, AllocError> {
-    let wanted = table.columns().len();
-    if has == wanted {
-        return Ok(None);
-    }
-    let name = Shown::escaped(table.name());
-    Ok(Some(format!(in alloc;
-        "{name}: row {row} has {has} values, and there are {wanted} columns"
-    )?))
-}
-
 fn set_column<'a>(table: &'a Table, pieces: &[Piece<'_>], place: usize) -> Option<&'a Column> {
     let before = place.checked_sub(1)?;
     let equals = if is_at(pieces, before, Kind::Sub) {
@@ -116,7 +41,8 @@ fn set_column<'a>(table: &'a Table, pieces: &[Piece<'_>], place: usize) -> Optio
     table.columns().iter().find(|column| column.name() == name)
 }
 
-fn value_fault(
+/// Returns what is wrong with the value at a place, if its column doesn't take it.
+pub(crate) fn value_fault(
     alloc: Global,
     table: &Table,
     pieces: &[Piece<'_>],
@@ -126,7 +52,7 @@ fn value_fault(
     let Some(column) = column else {
         return Ok(None);
     };
-    match value_at(alloc, pieces, place)? {
+    match fitting_value(alloc, column, pieces, place)? {
         Some(value) if !column.is_valid_value(&value) => {
             let is_spelled = is_at(pieces, place, Kind::Null);
             Ok(Some(refused_value(alloc, table, column, &value, is_spelled)?))
@@ -155,6 +81,19 @@ fn refused_value(
 
 fn is_negative(pieces: &[Piece<'_>], place: usize) -> bool {
     place > 0 && is_at(pieces, place.saturating_sub(1), Kind::Sub)
+}
+
+/// Returns the value at a place as its column takes it.
+fn fitting_value(
+    alloc: Global,
+    column: &Column,
+    pieces: &[Piece<'_>],
+    place: usize,
+) -> Result<Option<Value>, AllocError> {
+    match value_at(alloc, pieces, place)? {
+        Some(value) => Ok(Some(fitted_value(alloc, column, value)?)),
+        None => Ok(None),
+    }
 }
 
 fn value_at(

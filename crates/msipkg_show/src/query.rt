@@ -8,7 +8,7 @@ use msipkg_packages::output::{
     Failure, Opened, Output, RowFormat, RowPrinting, System, write_rows,
 };
 use msipkg_packages::{PackageFile, open_to_look};
-use msipkg_queries::{explained, read_select};
+use msipkg_queries::{Written, check_marks, explained, mark_count, read_select};
 use std::alloc::{AllocError, Global};
 
 /// How the rows of a query are printed.
@@ -43,8 +43,7 @@ impl Format {
 
 /// A query, and how its rows are printed.
 pub struct Query<'a> {
-    /// How it is written.
-    pub text: &'a str,
+    pub written: Written<'a>,
     /// What it selects.
     pub select: Select,
     pub format: Format,
@@ -58,7 +57,7 @@ pub struct Query<'a> {
 impl Drop for Query<'_> {
     fn drop(self) {
         let Query {
-            text: _,
+            written: _,
             select: _,
             format: _,
             style: _,
@@ -106,14 +105,20 @@ impl LastNames {
     }
 }
 
-/// Reads the text of a query for rows.
+/// Reads a query for rows.
 ///
 /// # Errors
-/// Fails at the text, with the rule that it breaks, and with `OutOfMemory`.
-pub fn read_query(alloc: Global, text: &str) -> Result<Select, Failure> {
-    match read_select(alloc, text) {
+/// Fails if it has more or fewer literals than marks, at its text, with the rule that it breaks, and with
+/// `OutOfMemory`.
+pub fn read_query(alloc: Global, written: Written<'_>) -> Result<Select, Failure> {
+    check_marks(
+        alloc,
+        mark_count(alloc, written.text)?,
+        written.literals.len(),
+    )?;
+    match read_select(alloc, written) {
         Ok(select) => Ok(select),
-        Err(failure) => Err(failure.at(alloc, "query", text)),
+        Err(failure) => Err(failure.at(alloc, "query", written.text)),
     }
 }
 
@@ -133,7 +138,7 @@ pub fn print_query(
     let looked = open_to_look(rt, file, notes)?;
     match write_selected(rt.alloc(), file.path, &looked.package, query, names, output) {
         Ok(()) => Ok(looked.has_summary),
-        Err(failure) => Err(failure.at(rt.alloc(), "query", query.text)),
+        Err(failure) => Err(failure.at(rt.alloc(), "query", query.written.text)),
     }
 }
 
@@ -182,6 +187,6 @@ fn selected<'a>(
 ) -> Result<Rows<'a>, Failure> {
     match package.select_rows(query.select.clone(alloc)?) {
         Ok(rows) => Ok(rows),
-        Err(error) => Err(explained(alloc, package, query.text, Failure::from(error))),
+        Err(error) => Err(explained(alloc, package, query.written, Failure::from(error))),
     }
 }

@@ -1,0 +1,3 @@
+UPDATE Item
+SET Name = 'x'
+WHERE Id LIKE 1;
