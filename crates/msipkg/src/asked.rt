@@ -4,14 +4,15 @@ use clap::ArgMatches;
 use msipkg_cli::Verb;
 use msipkg_format::Style;
 use msipkg_packages::{PackageFile, Purpose};
+use msipkg_queries::MarkValue;
 
 /// A command with what was given to it.
 #[derive(Clone, Copy)]
 pub(crate) struct Asked<'a, 'b> {
     pub(crate) verb: Verb,
     pub(crate) given: &'b ArgMatches<'a>,
-    /// The literals of the values for marks.
-    pub(crate) literals: &'b [String],
+    /// The values for marks.
+    pub(crate) values: &'b [MarkValue<'b>],
     pub(crate) style: Style,
 }
 

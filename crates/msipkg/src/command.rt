@@ -156,11 +156,13 @@ fn query_of<'a, 'b>(alloc: Global, asked: &Asked<'a, 'b>) -> Result<Command<'a, 
     if files.is_empty() {
         return Ok(Command::Incomplete(QUERY_USAGE));
     }
-    let literals = asked.literals;
-    let written = Written { text, literals };
+    let written = Written {
+        text,
+        values: asked.values,
+    };
     let query = Query {
         written,
-        select: read_query(alloc, written)?,
+        selection: read_query(alloc, written)?,
         format: format_of(asked),
         style: asked.style,
         has_files: files.len() > 1,
@@ -262,7 +264,7 @@ fn exec_of<'a, 'b>(alloc: Global, asked: &Asked<'a, 'b>) -> Result<Command<'a, '
     if let Some(path) = asked.option("from") {
         return Ok(Command::Script(path));
     }
-    let statements = prepare_statements(alloc, asked.texts("TEXT"), asked.literals)?;
+    let statements = prepare_statements(alloc, asked.texts("TEXT"), asked.values)?;
     Ok(Command::Change(Change::Execute(statements)))
 }
 

@@ -11,7 +11,7 @@ use msipkg_cli::{matches_of, verb_named};
 use msipkg_diff::compare_files;
 use msipkg_format::{Failure, Output, Shown, Style, System};
 use msipkg_packages::Purpose;
-use msipkg_queries::literals_of;
+use msipkg_queries::{GivenWords, MarkValue, mark_values};
 use std::alloc::{AllocError, Global};
 
 /// The exit status where the reader of the output has gone away: that of a program which the signal for it ended.
@@ -65,17 +65,15 @@ fn run_matched(
     output: &mut Output,
     errors: &mut Output,
 ) -> u8 {
-    match given_literals(rt.alloc(), matches) {
-        Ok(literals) => {
-            run_given(
-                rt,
-                matches,
-                literals.as_slice(),
-                is_terminal,
-                output,
-                errors,
-            )
-        }
+    match given_values(rt.alloc(), matches) {
+        Ok(values) => run_given(
+            rt,
+            matches,
+            values.as_slice(),
+            is_terminal,
+            output,
+            errors,
+        ),
         Err(error) => {
             report("--value", &Failure::from(error), errors);
             1
@@ -83,23 +81,35 @@ fn run_matched(
     }
 }
 
-/// Returns the literals of the values that are given for marks.
-fn given_literals(alloc: Global, matches: &ArgMatches<'_>) -> Result<Vec<String>, AllocError> {
+/// Returns the values that are given for marks.
+fn given_values<'a>(
+    alloc: Global,
+    matches: &ArgMatches<'a>,
+) -> Result<Vec<MarkValue<'a>>, AllocError> {
     match matches.subcommand() {
-        Some((_, given)) => literals_of(alloc, given.get_strs("value").unwrap_or(&[])),
+        Some((_, given)) => {
+            mark_values(alloc, given_words(given, "value"), given_words(given, "value-file"))
+        }
         None => Ok(Vec::new(alloc)),
+    }
+}
+
+fn given_words<'a, 'b>(given: &'b ArgMatches<'a>, id: &str) -> GivenWords<'a, 'b> {
+    GivenWords {
+        words: given.get_strs(id).unwrap_or(&[]),
+        places: given.indices_of(id).unwrap_or(&[]),
     }
 }
 
 fn run_given(
     rt: &System,
     matches: &ArgMatches<'_>,
-    literals: &[String],
+    values: &[MarkValue<'_>],
     is_terminal: bool,
     output: &mut Output,
     errors: &mut Output,
 ) -> u8 {
-    let Some(asked) = asked_of(matches, literals, is_terminal) else {
+    let Some(asked) = asked_of(matches, values, is_terminal) else {
         return 2;
     };
     match Command::of(rt.alloc(), &asked) {
@@ -131,7 +141,7 @@ fn run_asked(
 
 fn asked_of<'a, 'b>(
     matches: &'b ArgMatches<'a>,
-    literals: &'b [String],
+    values: &'b [MarkValue<'b>],
     is_terminal: bool,
 ) -> Option<Asked<'a, 'b>> {
     let (name, given) = matches.subcommand()?;
@@ -143,7 +153,7 @@ fn asked_of<'a, 'b>(
     Some(Asked {
         verb,
         given,
-        literals,
+        values,
         style,
     })
 }
@@ -276,6 +286,6 @@ fn execute_script(
     for statement in &statements {
         texts.push(statement.as_str())?;
     }
-    let prepared = prepare_statements(rt.alloc(), texts.as_slice(), asked.literals)?;
+    let prepared = prepare_statements(rt.alloc(), texts.as_slice(), asked.values)?;
     change(rt, asked, Change::Execute(prepared), output, errors)
 }

@@ -2,9 +2,57 @@
 
 use crate::definition::Definition;
 use crate::outcome::Carried;
+use crate::stream_changes::{fill_streams, streams_met};
+use msipkg_import::{VALIDATION, change_validation};
 use msipkg_packages::msi::parts::{deleted_rows, row_count, updated_rows};
 use msipkg_packages::msi::{Error, Package, Statement};
-use msipkg_packages::output::{Failure, Opened};
+use msipkg_packages::output::{Failure, Opened, System};
+use msipkg_queries::{Fitted, Written, explained, fitted_statement, stream_files};
+
+/// Carries out a change of rows and of their streams, and returns what it did. The rows are counted first, but why that
+/// fails is reported last.
+pub(crate) fn apply_rows(
+    rt: &System,
+    package: &mut Package<Opened>,
+    statement: Statement,
+    written: Written<'_>,
+) -> Result<Carried, Failure> {
+    let alloc = rt.alloc();
+    let files = stream_files(alloc, written)?;
+    let Fitted { statement, streams } =
+        fitted_statement(alloc, package, statement, files.as_slice())?;
+    let carried = counted(package, &statement);
+    let streams = streams_met(alloc, package, &statement, streams);
+    match apply_statement(package, statement) {
+        Ok(()) => {
+            fill_streams(rt, package, streams?.as_slice())?;
+            Ok(carried?)
+        }
+        Err(failure) => Err(explained(alloc, package, written, failure)),
+    }
+}
+
+/// Carries out a change of what `_Validation` says of columns, if the package has it.
+pub(crate) fn apply_columns(
+    rt: &System,
+    package: &mut Package<Opened>,
+    statement: Statement,
+    written: Written<'_>,
+) -> Result<Carried, Failure> {
+    if !package.has_table(VALIDATION) {
+        return apply_rows(rt, package, statement, written);
+    }
+    let alloc = rt.alloc();
+    let Fitted {
+        statement,
+        streams: _,
+    } = fitted_statement(alloc, package, statement, &[])?;
+    let carried = counted(package, &statement);
+    match change_validation(alloc, package, statement) {
+        Ok(()) => Ok(carried?),
+        Err(failure) => Err(explained(alloc, package, written, failure)),
+    }
+}
 
 /// Carries out a statement on rows. Fails for a `SELECT`. After a failure nothing has changed.
 pub(crate) fn apply_statement(

@@ -124,7 +124,7 @@ fn apply(
             names,
             is_signature,
         } => remove_parts(rt.alloc(), package, names, is_signature),
-        Change::Execute(statements) => { execute(rt.alloc(), package, statements, manner, outcome) }
+        Change::Execute(statements) => execute(rt, package, statements, manner, outcome),
         Change::Import(asked) => {
             let losses = &mut Losses::new(file, notes);
             import_files(rt, package, asked, manner, outcome, losses)
@@ -136,14 +136,14 @@ fn apply(
 /// Carries out statements. Counts that are too low for that are mended first, or the failure has the note that counting
 /// anew mends them.
 fn execute(
-    alloc: Global,
+    rt: &System,
     package: &mut Package<Opened>,
     statements: Vec<PreparedStatement<'_>>,
     manner: Manner,
     outcome: &mut Outcome,
 ) -> Result<(), Failure> {
     mend_first(package, manner, outcome);
-    match carry_out_statements(alloc, package, statements, outcome) {
+    match carry_out_statements(rt, package, statements, outcome) {
         Ok(()) => Ok(()),
         Err(failure) => Err(noted(package, failure)),
     }

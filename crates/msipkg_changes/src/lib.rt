@@ -14,6 +14,8 @@ pub mod recounting;
 pub mod script;
 pub mod statements;
 mod storing;
+mod stream_changes;
+mod stream_rows;
 mod streams;
 mod tokens;
 

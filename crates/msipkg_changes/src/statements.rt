@@ -1,13 +1,15 @@
 //! `exec FILE TEXT..`: changes of a package's rows and tables as text.
 
-use crate::applied::{apply_definition, apply_statement, counted};
+use crate::applied::{apply_columns, apply_definition, apply_rows};
 use crate::definition::{Definition, definition_of, is_definition};
 use crate::outcome::{Carried, Outcome};
-use msipkg_import::{VALIDATION, add_validation, change_validation};
+use crate::stream_rows::apply_streams;
+use msipkg_import::{VALIDATION, add_validation};
 use msipkg_packages::msi::{Package, Statement};
-use msipkg_packages::output::{Failure, Opened};
+use msipkg_packages::output::{Failure, Opened, System};
 use msipkg_queries::{
-    Written, changes_table, check_marks, explained, fitted_statement, mark_count, read_statement,
+    MarkValue, STORAGES, STREAMS, Written, changes_table, check_marks, mark_count, read_statement,
+    sets_only,
 };
 use std::alloc::{AllocError, Global};
 
@@ -36,28 +38,30 @@ enum Work<'a> {
     Rows(Statement),
     /// Rows of `_Validation`, which say more of columns.
     Columns(Statement),
+    /// Rows of `_Streams`, which are the streams.
+    Streams(Statement),
     Tables(Definition<'a>),
 }
 
-/// Reads statements: inserts, updates, deletes and changes of tables. The literals take the places of their marks, in
+/// Reads statements: inserts, updates, deletes and changes of tables. The values take the places of their marks, in
 /// order over all statements.
 ///
 /// # Errors
-/// Fails if there are more or fewer literals than marks, at the first text that is no statement, and if memory is
+/// Fails if there are more or fewer values than marks, at the first text that is no statement, and if memory is
 /// refused.
 pub fn prepare_statements<'a>(
     alloc: Global,
     texts: &[&'a str],
-    literals: &'a [String],
+    values: &'a [MarkValue<'a>],
 ) -> Result<Vec<PreparedStatement<'a>>, Failure> {
-    check_marks(alloc, mark_count_of(alloc, texts)?, literals.len())?;
+    check_marks(alloc, mark_count_of(alloc, texts)?, values.len())?;
     let mut statements = Vec::with_capacity(alloc, texts.len())?;
-    let mut left = literals;
+    let mut left = values;
     for text in texts {
         let count = mark_count(alloc, text)?;
-        let (literals, others) = left.split_at_checked(count).unwrap_or((left, &[]));
+        let (values, others) = left.split_at_checked(count).unwrap_or((left, &[]));
         left = others;
-        statements.push(prepared(alloc, Written { text, literals })?)?;
+        statements.push(prepared(alloc, Written { text, values })?)?;
     }
     Ok(statements)
 }
@@ -83,22 +87,31 @@ fn work_of<'a>(alloc: Global, written: Written<'a>) -> Result<Work<'a>, Failure>
         return Ok(Work::Tables(definition_of(alloc, written.text)?));
     }
     let statement = read_statement(alloc, written)?;
-    if matches!(statement, Statement::Select(_)) || !describes(alloc, written)? {
+    if matches!(statement, Statement::Select(_)) {
         return Ok(Work::Rows(statement));
     }
-    Ok(Work::Columns(statement))
+    if changes_table(alloc, written, STORAGES)? {
+        return Err(Failure::rule("storages aren't changed; _Storages can only be read"));
+    }
+    if changes_table(alloc, written, STREAMS)? {
+        return Ok(Work::Streams(statement));
+    }
+    if describes(alloc, written)? {
+        return Ok(Work::Columns(statement));
+    }
+    Ok(Work::Rows(statement))
 }
 
 /// Returns whether a statement changes what `_Validation` says of columns. The library itself takes their descriptions
 /// alone.
 fn describes(alloc: Global, written: Written<'_>) -> Result<bool, AllocError> {
-    changes_table(alloc, written, VALIDATION, "Description")
+    Ok(changes_table(alloc, written, VALIDATION)? && !sets_only(alloc, written, "Description")?)
 }
 
 /// Carries out statements in turn, and adds what each did. Fails at the first whose change is refused. Those in front
 /// of it are carried out.
 pub(crate) fn carry_out_statements(
-    alloc: Global,
+    rt: &System,
     package: &mut Package<Opened>,
     statements: Vec<PreparedStatement<'_>>,
     outcome: &mut Outcome,
@@ -107,17 +120,19 @@ pub(crate) fn carry_out_statements(
         if matches!(statement.work, Work::Columns(_)) {
             outcome.note_anew();
         }
-        outcome.add_carried(statement.carry_out(alloc, package)?)?;
+        outcome.add_carried(statement.carry_out(rt, package)?)?;
     }
     Ok(())
 }
 
 impl PreparedStatement<'_> {
-    fn carry_out(self, alloc: Global, package: &mut Package<Opened>) -> Result<Carried, Failure> {
+    fn carry_out(self, rt: &System, package: &mut Package<Opened>) -> Result<Carried, Failure> {
         let PreparedStatement { written, work } = self;
+        let alloc = rt.alloc();
         let carried = match work {
-            Work::Rows(statement) => apply_rows(alloc, package, statement, written),
-            Work::Columns(statement) => apply_columns(alloc, package, statement, written),
+            Work::Rows(statement) => apply_rows(rt, package, statement, written),
+            Work::Columns(statement) => apply_columns(rt, package, statement, written),
+            Work::Streams(statement) => apply_streams(rt, package, statement, written),
             Work::Tables(definition) => apply_tables(alloc, package, definition),
         };
         match carried {
@@ -136,40 +151,6 @@ fn apply_tables(
         add_validation(alloc, package)?;
     }
     apply_definition(package, definition)
-}
-
-/// Carries out a change of rows, and returns what it did. The rows are counted first, but why that fails is reported
-/// last.
-fn apply_rows(
-    alloc: Global,
-    package: &mut Package<Opened>,
-    statement: Statement,
-    written: Written<'_>,
-) -> Result<Carried, Failure> {
-    let statement = fitted_statement(alloc, package, statement)?;
-    let carried = counted(package, &statement);
-    match apply_statement(package, statement) {
-        Ok(()) => Ok(carried?),
-        Err(failure) => Err(explained(alloc, package, written, failure)),
-    }
-}
-
-/// Carries out a change of what `_Validation` says of columns, if the package has it.
-fn apply_columns(
-    alloc: Global,
-    package: &mut Package<Opened>,
-    statement: Statement,
-    written: Written<'_>,
-) -> Result<Carried, Failure> {
-    if !package.has_table(VALIDATION) {
-        return apply_rows(alloc, package, statement, written);
-    }
-    let statement = fitted_statement(alloc, package, statement)?;
-    let carried = counted(package, &statement);
-    match change_validation(alloc, package, statement) {
-        Ok(()) => Ok(carried?),
-        Err(failure) => Err(explained(alloc, package, written, failure)),
-    }
 }
 
 fn at_statement(alloc: Global, failure: Failure, text: &str) -> Failure {

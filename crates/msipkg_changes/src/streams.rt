@@ -1,6 +1,6 @@
 //! `add FILE NAME=PATH..` and `remove FILE NAME..`: streams of a package.
 
-use msipkg_packages::fill_stream;
+use crate::stream_changes::fill_from;
 use msipkg_packages::msi::Package;
 use msipkg_packages::output::{Failure, Opened, System};
 use std::alloc::Global;
@@ -22,19 +22,7 @@ fn add_pair(rt: &System, package: &mut Package<Opened>, pair: &str) -> Result<()
     let Some((name, path)) = pair.split_once('=') else {
         return Err(Failure::rule("it isn't of the form NAME=PATH").at(rt.alloc(), "word", pair));
     };
-    match rt.read(path) {
-        Ok(bytes) => fill_named(rt.alloc(), package, name, bytes.as_slice()),
-        Err(error) => Err(Failure::from(error).at(rt.alloc(), "file", path)),
-    }
-}
-
-fn fill_named(
-    alloc: Global,
-    package: &mut Package<Opened>,
-    name: &str,
-    bytes: &[u8],
-) -> Result<(), Failure> {
-    fill_stream(package, name, bytes).map_err(|failure| failure.at(alloc, "stream", name))
+    fill_from(rt, package, name, path)
 }
 
 /// Removes streams of a package, and its digital signature if that is asked for. Fails if nothing is asked for, if the

@@ -140,6 +140,12 @@ const VALUE: Argument = Argument {
     help: "Takes the place of the next ?: NULL, a whole number, or else a text; may be repeated",
 };
 
+const VALUE_FILE: Argument = Argument {
+    id: "value-file",
+    form: Form::Values("PATH"),
+    help: "Takes the place of the next ?: a stream with the bytes of a file; may be repeated",
+};
+
 /// How `query` is called: its files and its text are one argument, so that options may be anywhere between them.
 pub const QUERY_USAGE: &str = "msipkg query [OPTIONS] <FILE>... <TEXT>";
 
@@ -429,6 +435,7 @@ static CHANGE_COMMANDS: [Row; 4] = [
                 help: "Prints how many rows each statement changed as JSON",
             },
             VALUE,
+            VALUE_FILE,
             PAGE,
             RECODE,
             STRICT,

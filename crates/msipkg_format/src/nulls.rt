@@ -1,6 +1,7 @@
-//! Cells of columns of streams that are null. Rows have a stream in each of them, since they know no package.
+//! Cells that are shown in the place of those that rows have: null in columns of streams, since rows know no package, and
+//! literals that a query selects.
 
-use msi_table::{Rows, ValueView};
+use msi_table::{Column, Rows, Value, ValueView};
 use std::alloc::{AllocError, Global};
 use std::collections::BTreeSet;
 
@@ -19,10 +20,29 @@ impl Drop for NullColumn {
     }
 }
 
-/// The cells of rows that are null although the rows have a stream there.
+/// A column that has the same value in all rows, whatever the rows have there.
+struct LiteralColumn {
+    place: usize,
+    name: String,
+    value: Value,
+}
+
+/// Written out, so that a function that owns one calls one drop, and its proof doesn't go through those of the parts.
+impl Drop for LiteralColumn {
+    fn drop(self) {
+        let LiteralColumn {
+            place: _,
+            name: _,
+            value: _,
+        } = self;
+    }
+}
+
+/// The cells of rows that are null although the rows have a stream there, and the columns that are literals.
 pub struct NullCells {
     alloc: Global,
     columns: Vec<NullColumn>,
+    literals: Vec<LiteralColumn>,
 }
 
 /// Written out, so that a function that owns one calls one drop, and its proof doesn't go through those of the parts.
@@ -31,6 +51,7 @@ impl Drop for NullCells {
         let NullCells {
             alloc: _,
             columns: _,
+            literals: _,
         } = self;
     }
 }
@@ -41,6 +62,44 @@ impl NullCells {
         NullCells {
             alloc,
             columns: Vec::new(alloc),
+            literals: Vec::new(alloc),
+        }
+    }
+
+    /// Shows the column at a place as a literal with this name.
+    ///
+    /// # Errors
+    /// Fails if memory is refused.
+    pub fn add_literal(
+        &mut self,
+        place: usize,
+        name: String,
+        value: Value,
+    ) -> Result<(), AllocError> {
+        self.literals.push(LiteralColumn { place, name, value })?;
+        Ok(())
+    }
+
+    fn literal_at(&self, place: usize) -> Option<&LiteralColumn> {
+        self.literals.iter().find(|literal| literal.place == place)
+    }
+
+    /// Returns the value that the column at a place has in all rows, if it is a literal.
+    pub fn literal(&self, place: usize) -> Option<&Value> {
+        match self.literal_at(place) {
+            Some(literal) => Some(&literal.value),
+            None => None,
+        }
+    }
+
+    /// Returns the name of the column at a place.
+    pub fn name_of<'a>(&'a self, columns: &'a [Column], place: usize) -> &'a str {
+        if let Some(literal) = self.literal_at(place) {
+            return literal.name.as_str();
+        }
+        match columns.get(place) {
+            Some(column) => column.name(),
+            None => "",
         }
     }
 
@@ -69,7 +128,7 @@ impl NullCells {
 
     /// Returns whether there are no cells.
     pub fn is_empty(&self) -> bool {
-        self.columns.is_empty()
+        self.columns.is_empty() && self.literals.is_empty()
     }
 
     /// Returns whether the cell of a row in a column is among them, both counted from 0.
@@ -77,9 +136,12 @@ impl NullCells {
         self.columns.iter().any(|column| column.place == place && column.rows.contains(&row))
     }
 
-    /// Returns the value of the next of some rows in a column: null where the cell is among these. The number of the
+    /// Returns the value of the next of some rows in a column: null where the cell is among these, or the literal. The number of the
     /// row is counted from 0.
-    pub fn value_in<'a>(&self, rows: &'a Rows<'_>, row: usize, place: usize) -> ValueView<'a> {
+    pub fn value_in<'a>(&'a self, rows: &'a Rows<'_>, row: usize, place: usize) -> ValueView<'a> {
+        if let Some(literal) = self.literal_at(place) {
+            return ValueView::of(&literal.value);
+        }
         if self.has(row, place) {
             return ValueView::Null;
         }

@@ -44,30 +44,46 @@ pub(crate) fn member_names(
     alloc: Global,
     has_file: bool,
     columns: &[Column],
+    nulls: &NullCells,
 ) -> Result<Vec<String>, AllocError> {
+    let shown = shown_names(alloc, columns, nulls)?;
+    let shown = shown.as_slice();
     let mut names = Vec::new(alloc);
-    for (place, column) in columns.iter().enumerate() {
-        let is_file = has_file && column.name() == FILE;
-        let name = if is_file || is_among(columns.get(..place).unwrap_or(&[]), column.name()) {
-            numbered(alloc, columns, names.as_slice(), column.name())?
+    for (place, name) in shown.iter().enumerate() {
+        let is_file = has_file && *name == FILE;
+        let name = if is_file || shown.iter().take(place).any(|other| *other == *name) {
+            numbered(alloc, shown, names.as_slice(), name)?
         } else {
-            String::from_str(alloc, column.name())?
+            String::from_str(alloc, name)?
         };
         names.push(name)?;
     }
     Ok(names)
 }
 
+/// Returns the names of columns, or of the literals in their places.
+fn shown_names<'a>(
+    alloc: Global,
+    columns: &'a [Column],
+    nulls: &'a NullCells,
+) -> Result<Vec<&'a str>, AllocError> {
+    let mut names = Vec::new(alloc);
+    for place in 0..columns.len() {
+        names.push(nulls.name_of(columns, place))?;
+    }
+    Ok(names)
+}
+
 fn numbered(
     alloc: Global,
-    columns: &[Column],
+    shown: &[&str],
     taken: &[String],
     name: &str,
 ) -> Result<String, AllocError> {
     let mut number = 2u64;
-    for _ in 0..columns.len().saturating_add(taken.len()) {
+    for _ in 0..shown.len().saturating_add(taken.len()) {
         let text = format!(in alloc; "{name}_{number}")?;
-        if !is_among(columns, text.as_str()) && !is_taken(taken, text.as_str()) {
+        if !shown.iter().any(|other| *other == text.as_str()) && !is_taken(taken, text.as_str()) {
             return Ok(text);
         }
         number = number.saturating_add(1);
@@ -96,12 +112,12 @@ pub(crate) fn write_named(
     }
 }
 
-fn object_of(
+fn object_of<'a>(
     alloc: Global,
     members: &Members<'_>,
-    rows: &Rows<'_>,
+    rows: &'a Rows<'_>,
     number: usize,
-    nulls: &NullCells,
+    nulls: &'a NullCells,
 ) -> JsonObject {
     let mut object = JsonObject::new(alloc);
     if members.file.is_some() {

@@ -125,8 +125,8 @@ fn write_names(
     if printer.printing.file.is_some() {
         write_field(printer, FILE, writer)?;
     }
-    for column in columns {
-        write_field(printer, column.name(), writer)?;
+    for place in 0..columns.len() {
+        write_field(printer, printer.nulls.name_of(columns, place), writer)?;
     }
     done(printer, writer.end_record())
 }
@@ -157,7 +157,8 @@ fn write_shown(
         if printer.nulls.has(number, i) {
             write_field(printer, "", writer)?;
         } else {
-            write_value_field(printer, &row[i], writer)?;
+            let value = printer.nulls.literal(i).unwrap_or(&row[i]);
+            write_value_field(printer, value, writer)?;
         }
     }
     done(printer, writer.end_record())
@@ -229,7 +230,7 @@ fn write_repeated(
     let has_file = printer.printing.file.is_some();
     let names = Members {
         file: printer.printing.file,
-        names: member_names(printer.alloc, has_file, rows.columns())?,
+        names: member_names(printer.alloc, has_file, rows.columns(), printer.nulls)?,
     };
     write_named(
         printer.alloc,
@@ -267,19 +268,24 @@ fn write_each(printer: &Printer<'_>, mut rows: Rows<'_>, output: &mut Output) {
 
 /// Writes the next row, with its values on lines, behind an empty line unless it is the first of all, or separated by
 /// tabs.
-fn write_row(printer: &Printer<'_>, number: usize, rows: &Rows<'_>, output: &mut Output) {
+fn write_row<'a>(
+    printer: &Printer<'a>,
+    number: usize,
+    rows: &'a Rows<'_>,
+    output: &mut Output,
+) {
     let has_lines = matches!(printer.printing.format, RowFormat::Lines);
     let between = if has_lines { "\n" } else { "\t" };
     if has_lines && (number > 0 || !printer.printing.is_first) {
         output.push_str("\n");
     }
     write_file(printer, has_lines, between, output);
-    for (place, column) in rows.columns().iter().enumerate() {
+    for place in 0..rows.columns().len() {
         if place > 0 {
             output.push_str(between);
         }
         if has_lines {
-            printer.printing.style.print(column.name(), output);
+            printer.printing.style.print(printer.nulls.name_of(rows.columns(), place), output);
             output.push_str(" = ");
         }
         let value = printer.nulls.value_in(rows, number, place);

@@ -2,29 +2,55 @@
 //! and a number for a column of texts.
 
 use crate::inserting::valued_columns;
+use crate::row_streams::{
+    GivenFiles, GivenStream, RowStream, StatementStreams, UpdatedStreams, given_stream,
+};
 use msi_query::parts::{
     DeleteParts, InsertParts, NewRow, UpdateParts, delete_parts, insert_parts, update_parts,
 };
 use msipkg_packages::msi::{
     Column, ColumnType, Delete, Error, Insert, Items, Package, Statement, Table, Text, Update,
-    Value,
+    Value, ValueView,
 };
-use msipkg_packages::output::Opened;
+use msipkg_packages::has_null_streams;
+use msipkg_packages::output::{Opened, push_key};
 use std::alloc::{AllocError, Global};
 
-/// Returns a statement with the values that it inserts or sets as the columns of a package take them.
+/// A statement with the values that it inserts or sets as the columns of a package take them, and what becomes of the
+/// streams of its rows.
+pub struct Fitted<'a> {
+    pub statement: Statement,
+    pub streams: StatementStreams<'a>,
+}
+
+/// Written out, so that a function that owns one calls one drop, and its proof doesn't go through those of the parts.
+impl Drop for Fitted<'_> {
+    fn drop(self) {
+        let Fitted {
+            statement: _,
+            streams: _,
+        } = self;
+    }
+}
+
+/// Returns a statement as a package takes it. The files are those that `stream_files` returns of its text.
 ///
 /// # Errors
 /// Fails if memory is refused.
-pub fn fitted_statement(
+pub fn fitted_statement<'a>(
     alloc: Global,
     package: &Package<Opened>,
     statement: Statement,
-) -> Result<Statement, Error> {
+    files: &[Option<&'a str>],
+) -> Result<Fitted<'a>, Error> {
+    let mut files = GivenFiles::new(files);
     match statement {
-        Statement::Insert(insert) => Ok(Statement::Insert(fitted_insert(alloc, package, insert)?)),
-        Statement::Update(update) => Ok(Statement::Update(fitted_update(alloc, package, update)?)),
-        Statement::Select(_) | Statement::Delete(_) => Ok(statement),
+        Statement::Insert(insert) => fitted_insert(alloc, package, insert, &mut files),
+        Statement::Update(update) => fitted_update(alloc, package, update, &mut files),
+        Statement::Select(_) | Statement::Delete(_) => Ok(Fitted {
+            statement,
+            streams: StatementStreams::Kept,
+        }),
     }
 }
 
@@ -100,79 +126,227 @@ fn moved_delete(alloc: Global, table: &str, delete: Delete) -> Result<Delete, Er
     }
 }
 
-fn fitted_insert(
+fn fitted_insert<'a>(
     alloc: Global,
     package: &Package<Opened>,
     insert: Insert,
-) -> Result<Insert, Error> {
+    files: &mut GivenFiles<'_, 'a>,
+) -> Result<Fitted<'a>, Error> {
     let InsertParts {
-        table,
+        table: name,
         columns,
         rows,
     } = insert_parts(insert);
-    let names = names_of(alloc, columns.as_slice())?;
-    let valued = match package.get_table(table.as_str()) {
-        Some(table) => valued_columns(alloc, table, names.as_slice())?,
-        None => Vec::new(alloc),
-    };
-    let fitted = Insert::into(alloc, table.as_str())?.columns(names.as_slice())?;
-    fitted.rows(fitted_rows(alloc, valued.as_slice(), rows)?)
-}
-
-fn fitted_rows(
-    alloc: Global,
-    columns: &[&Column],
-    rows: Items<NewRow>,
-) -> Result<Vec<Vec<Value>>, AllocError> {
-    let mut fitted = Vec::new(alloc);
-    for row in rows.into_vec() {
-        fitted.push(fitted_row(alloc, columns, row.into_values())?)?;
-    }
-    Ok(fitted)
-}
-
-fn fitted_row(
-    alloc: Global,
-    columns: &[&Column],
-    values: Vec<Value>,
-) -> Result<Vec<Value>, AllocError> {
-    let mut fitted = Vec::with_capacity(alloc, values.len())?;
-    let mut left = columns;
-    for value in values {
-        match left {
-            [column, others @ ..] => {
-                fitted.push(fitted_value(alloc, column, value)?)?;
-                left = others;
+    let mut names = names_of(alloc, columns.as_slice())?;
+    let rows = values_of(alloc, rows)?;
+    let mut fitted = FittedRows::new(alloc);
+    match package.get_table(name.as_str()) {
+        Some(table) if has_all_values(table, names.as_slice(), rows.as_slice()) => {
+            add_left_out(table, &mut names)?;
+            let columns = valued_columns(alloc, table, names.as_slice())?;
+            for row in rows {
+                fitted.add(alloc, table, columns.as_slice(), row, files)?;
             }
-            [] => fitted.push(value)?,
+        }
+        Some(_) | None => fitted.rows = rows,
+    }
+    let FittedRows { rows, streams } = fitted;
+    let insert = Insert::into(alloc, name.as_str())?.columns(names.as_slice())?.rows(rows)?;
+    Ok(Fitted {
+        statement: Statement::Insert(insert),
+        streams: StatementStreams::OfRows(streams),
+    })
+}
+
+/// Returns whether each row has a value for each column that an insert names, or for each of the table.
+fn has_all_values(table: &Table, names: &[&str], rows: &[Vec<Value>]) -> bool {
+    let wanted = if names.is_empty() {
+        table.columns().len()
+    } else {
+        names.len()
+    };
+    rows.iter().all(|row| row.len() == wanted)
+}
+
+/// Adds the names of the columns of streams that are left out and take null, if columns are named: a row has no stream
+/// there, which isn't stored in its cell.
+fn add_left_out<'a>(table: &'a Table, names: &mut Vec<&'a str>) -> Result<(), AllocError> {
+    if names.is_empty() {
+        return Ok(());
+    }
+    for column in table.columns() {
+        let name = column.name();
+        if has_null_streams(column) && !names.iter().any(|other| *other == name) {
+            names.push(name)?;
         }
     }
-    Ok(fitted)
+    Ok(())
 }
 
-fn fitted_update(
+/// The rows of an insert as their columns take them, and what becomes of their streams.
+#[derive(Drop)]
+struct FittedRows<'a> {
+    rows: Vec<Vec<Value>>,
+    streams: Vec<RowStream<'a>>,
+}
+
+impl<'a> FittedRows<'a> {
+    fn new(alloc: Global) -> FittedRows<'a> {
+        FittedRows {
+            rows: Vec::new(alloc),
+            streams: Vec::new(alloc),
+        }
+    }
+
+    fn add(
+        &mut self,
+        alloc: Global,
+        table: &Table,
+        columns: &[&Column],
+        values: Vec<Value>,
+        files: &mut GivenFiles<'_, 'a>,
+    ) -> Result<(), AllocError> {
+        let mut row = Vec::with_capacity(alloc, columns.len())?;
+        let mut given = GivenStream::Nothing;
+        let mut left = values.into_iter();
+        for column in columns {
+            let value = left.next().unwrap_or(Value::Null);
+            given = given.and(given_stream(column, &value, files));
+            row.push(fitted_value(alloc, column, value)?)?;
+        }
+        if let Some(stream) = stream_of_row(alloc, table, columns, row.as_slice(), given)? {
+            self.streams.push(stream)?;
+        }
+        self.rows.push(row)?;
+        Ok(())
+    }
+}
+
+fn stream_of_row<'a>(
+    alloc: Global,
+    table: &Table,
+    columns: &[&Column],
+    row: &[Value],
+    given: GivenStream<'a>,
+) -> Result<Option<RowStream<'a>>, AllocError> {
+    match given {
+        GivenStream::Nothing | GivenStream::AsItIs => Ok(None),
+        GivenStream::Null | GivenStream::File(_) => {
+            let name = row_stream_name(alloc, table, columns, row)?;
+            Ok(Some(RowStream::new(name, given.file())))
+        }
+    }
+}
+
+/// Returns the name of the stream of a row: that of its table, and its key, with dots between them.
+fn row_stream_name(
+    alloc: Global,
+    table: &Table,
+    columns: &[&Column],
+    row: &[Value],
+) -> Result<String, AllocError> {
+    let mut name = String::from_str(alloc, table.name())?;
+    for key in table.columns() {
+        if key.is_primary_key()
+            && let Some(place) = columns.iter().position(|column| column.name() == key.name())
+        {
+            name.push('.')?;
+            push_key(ValueView::of(&row[place]), &mut name)?;
+        }
+    }
+    Ok(name)
+}
+
+fn fitted_update<'a>(
     alloc: Global,
     package: &Package<Opened>,
     update: Update,
-) -> Result<Update, Error> {
+    files: &mut GivenFiles<'_, 'a>,
+) -> Result<Fitted<'a>, Error> {
     let UpdateParts {
         table: name,
         sets,
         condition,
     } = update_parts(update);
     let table = package.get_table(name.as_str());
-    let mut fitted = Update::table(alloc, name.as_str())?;
+    let mut fitted = FittedUpdate {
+        update: Update::table(alloc, name.as_str())?,
+        given: GivenStream::Nothing,
+        sets_key: false,
+    };
     for set in sets.into_vec() {
         let value = set.value().clone(alloc)?;
-        let value = match column_named(table, set.column()) {
-            Some(column) => fitted_value(alloc, column, value)?,
-            None => value,
-        };
-        fitted = fitted.set(set.column(), value)?;
+        fitted = fitted.set(alloc, column_named(table, set.column()), set.column(), value, files)?;
     }
-    match condition {
-        Some(condition) => fitted.with(condition),
-        None => Ok(fitted),
+    let FittedUpdate {
+        mut update,
+        given,
+        sets_key,
+    } = fitted;
+    if let Some(condition) = condition {
+        update = update.with(condition)?;
+    }
+    let streams = updated_streams(alloc, name.as_str(), given, sets_key)?;
+    Ok(Fitted {
+        statement: Statement::Update(update),
+        streams,
+    })
+}
+
+fn updated_streams<'a>(
+    alloc: Global,
+    table: &str,
+    given: GivenStream<'a>,
+    sets_key: bool,
+) -> Result<StatementStreams<'a>, AllocError> {
+    match given {
+        GivenStream::Nothing | GivenStream::AsItIs => Ok(StatementStreams::Kept),
+        GivenStream::Null | GivenStream::File(_) => {
+            Ok(StatementStreams::OfUpdate(UpdatedStreams {
+                table: String::from_str(alloc, table)?,
+                file: given.file(),
+                sets_key,
+            }))
+        }
+    }
+}
+
+/// An update with its values as their columns take them.
+#[derive(Drop)]
+struct FittedUpdate<'a> {
+    update: Update,
+    /// What it gives to the streams of its rows.
+    given: GivenStream<'a>,
+    sets_key: bool,
+}
+
+impl<'a> FittedUpdate<'a> {
+    fn set(
+        self,
+        alloc: Global,
+        column: Option<&Column>,
+        name: &str,
+        value: Value,
+        files: &mut GivenFiles<'_, 'a>,
+    ) -> Result<FittedUpdate<'a>, Error> {
+        let FittedUpdate {
+            update,
+            given,
+            sets_key,
+        } = self;
+        let Some(column) = column else {
+            return Ok(FittedUpdate {
+                update: update.set(name, value)?,
+                given,
+                sets_key,
+            });
+        };
+        let given = given.and(given_stream(column, &value, files));
+        Ok(FittedUpdate {
+            update: update.set(name, fitted_value(alloc, column, value)?)?,
+            given,
+            sets_key: sets_key || column.is_primary_key(),
+        })
     }
 }
 
@@ -180,7 +354,8 @@ fn column_named<'a>(table: Option<&'a Table>, name: &str) -> Option<&'a Column> 
     table?.get_column(name)
 }
 
-/// Returns a value as a column takes it: a text that spells a number as that number, and a number as its digits.
+/// Returns a value as a column takes it: a text that spells a number as that number, a number as its digits, and null
+/// for a stream as a cell that has none by its name.
 pub(crate) fn fitted_value(
     alloc: Global,
     column: &Column,
@@ -189,6 +364,7 @@ pub(crate) fn fitted_value(
     match column.coltype() {
         ColumnType::Int16 | ColumnType::Int32 => Ok(as_number(value)),
         ColumnType::Str(_) => as_text(alloc, value),
+        ColumnType::Binary if value.is_null() && column.is_nullable() => Ok(Value::Binary),
         ColumnType::Binary => Ok(value),
     }
 }

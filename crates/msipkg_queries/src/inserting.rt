@@ -1,6 +1,6 @@
 //! What is wrong with the columns and the rows of an insert.
 
-use crate::naming::{known_columns, missing_column};
+use crate::naming::{NamedTable, known_columns, missing_column};
 use crate::pieces::{Piece, is_at};
 use crate::values::value_fault;
 use msi_query_tokens::token::Kind;
@@ -43,15 +43,22 @@ fn rows_start(pieces: &[Piece<'_>]) -> usize {
 fn name_fault(alloc: Global, table: &Table, names: &[&str]) -> Result<Option<String>, AllocError> {
     for (place, name) in names.iter().enumerate() {
         if !table.has_column(name) {
-            let known = known_columns(alloc, &[table])?;
-            let fault = missing_column(alloc, &[table], known.as_slice(), name)?;
-            return Ok(Some(fault));
+            return Ok(Some(missing_fault(alloc, table, name)?));
         }
         if names.iter().take(place).any(|other| *other == *name) {
             return column_fault(alloc, table, name, "is named twice");
         }
     }
     left_out_fault(alloc, table, names)
+}
+
+fn missing_fault(alloc: Global, table: &Table, column: &str) -> Result<String, AllocError> {
+    let tables = [NamedTable {
+        name: table.name(),
+        table,
+    }];
+    let known = known_columns(alloc, &tables)?;
+    missing_column(alloc, &tables, known.as_slice(), column)
 }
 
 fn column_fault(

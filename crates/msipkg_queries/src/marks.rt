@@ -4,16 +4,107 @@ use crate::showing::said;
 use msipkg_packages::output::Failure;
 use std::alloc::{AllocError, Global};
 
-/// Returns the literals that spell values: `NULL`, a number as it prints, and a text for anything else.
+/// The value that takes the place of a mark.
+pub struct MarkValue<'a> {
+    literal: String,
+    /// The file whose bytes a stream gets, if the value is a stream.
+    file: Option<&'a str>,
+}
+
+/// Written out, so that a function that owns one calls one drop, and its proof doesn't go through those of the parts.
+impl Drop for MarkValue<'_> {
+    fn drop(self) {
+        let MarkValue {
+            literal: _,
+            file: _,
+        } = self;
+    }
+}
+
+impl<'a> MarkValue<'a> {
+    /// Returns how it is spelled in a text.
+    pub(crate) fn literal(&self) -> &str {
+        self.literal.as_str()
+    }
+
+    pub(crate) fn file(&self) -> Option<&'a str> {
+        self.file
+    }
+}
+
+/// Words of the command line with the places where they were given, in order.
+#[derive(Clone, Copy)]
+pub struct GivenWords<'a, 'b> {
+    pub words: &'b [&'a str],
+    pub places: &'b [usize],
+}
+
+impl<'a> GivenWords<'a, '_> {
+    fn place(self) -> Option<usize> {
+        self.places.first().copied()
+    }
+
+    fn take(&mut self) -> Option<&'a str> {
+        let word = *self.words.first()?;
+        self.words = self.words.get(1..).unwrap_or(&[]);
+        self.places = self.places.get(1..).unwrap_or(&[]);
+        Some(word)
+    }
+}
+
+/// Returns the values for marks, in the order in which they were given: of texts `NULL`, a number as it prints, and a
+/// text for anything else, and of files streams.
 ///
 /// # Errors
 /// Fails if memory is refused.
-pub fn literals_of(alloc: Global, values: &[&str]) -> Result<Vec<String>, AllocError> {
-    let mut literals = Vec::new(alloc);
-    for value in values {
-        literals.push(literal_of(alloc, value)?)?;
+pub fn mark_values<'a>(
+    alloc: Global,
+    mut texts: GivenWords<'a, '_>,
+    mut files: GivenWords<'a, '_>,
+) -> Result<Vec<MarkValue<'a>>, AllocError> {
+    let mut values = Vec::new(alloc);
+    for _ in 0..texts.words.len().saturating_add(files.words.len()) {
+        let next = if is_before(texts.place(), files.place()) {
+            text_value(alloc, texts.take())?
+        } else {
+            file_value(alloc, files.take())?
+        };
+        if let Some(value) = next {
+            values.push(value)?;
+        }
     }
-    Ok(literals)
+    Ok(values)
+}
+
+fn is_before(place: Option<usize>, other: Option<usize>) -> bool {
+    match (place, other) {
+        (Some(place), Some(other)) => place < other,
+        (Some(_), None) => true,
+        (None, _) => false,
+    }
+}
+
+fn text_value<'a>(
+    alloc: Global,
+    text: Option<&'a str>,
+) -> Result<Option<MarkValue<'a>>, AllocError> {
+    let Some(text) = text else {
+        return Ok(None);
+    };
+    Ok(Some(MarkValue {
+        literal: literal_of(alloc, text)?,
+        file: None,
+    }))
+}
+
+fn file_value<'a>(
+    alloc: Global,
+    file: Option<&'a str>,
+) -> Result<Option<MarkValue<'a>>, AllocError> {
+    Ok(Some(MarkValue {
+        literal: String::from_str(alloc, "BINARY_STREAM")?,
+        file,
+    }))
 }
 
 fn literal_of(alloc: Global, value: &str) -> Result<String, AllocError> {
@@ -52,6 +143,6 @@ pub fn check_marks(alloc: Global, marks: usize, values: usize) -> Result<(), Fai
         return Ok(());
     }
     Err(said(format!(in alloc;
-        "each ? takes one --value: the number of ? is {marks}, and that of --value is {values}"
+        "each ? takes one --value: the number of ? is {marks}, and that of values is {values}"
     )))
 }

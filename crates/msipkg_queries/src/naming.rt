@@ -1,12 +1,19 @@
 //! The tables and columns that a text names, and the first of them that a package lacks.
 
 use crate::near::near_text;
-use crate::pieces::{Piece, has_kind, is_at, table_at};
+use crate::pieces::{Piece, has_kind, is_at, own_name_at, table_at};
 use msi_query_tokens::token::Kind;
 use msipkg_format::Shown;
 use msipkg_packages::msi::{Package, Table};
 use msipkg_packages::output::Opened;
 use std::alloc::{AllocError, Global};
+
+/// A table that a text names, and the name that its columns go by there.
+#[derive(Clone, Copy)]
+pub(crate) struct NamedTable<'a> {
+    pub(crate) name: &'a str,
+    pub(crate) table: &'a Table,
+}
 
 pub(crate) fn table_fault(
     alloc: Global,
@@ -41,17 +48,19 @@ fn missing_table(
     format!(in alloc; "table {name} isn't there; msipkg tables FILE lists the {count} tables")
 }
 
+/// Returns the tables that a text names, as far as a package has them.
 pub(crate) fn tables_in<'a>(
     alloc: Global,
     package: &'a Package<Opened>,
-    pieces: &[Piece<'_>],
-) -> Result<Vec<&'a Table>, AllocError> {
+    pieces: &[Piece<'a>],
+) -> Result<Vec<NamedTable<'a>>, AllocError> {
     let mut tables = Vec::new(alloc);
     for i in 0..pieces.len() {
         if let Some(name) = table_at(pieces, i)
             && let Some(table) = package.get_table(name)
         {
-            tables.push(table)?;
+            let name = own_name_at(pieces, i).unwrap_or(name);
+            tables.push(NamedTable { name, table })?;
         }
     }
     Ok(tables)
@@ -61,7 +70,7 @@ pub(crate) fn tables_in<'a>(
 /// known.
 pub(crate) fn column_fault(
     alloc: Global,
-    tables: &[&Table],
+    tables: &[NamedTable<'_>],
     pieces: &[Piece<'_>],
 ) -> Result<Option<String>, AllocError> {
     if has_inner_query(pieces) || has_kind(pieces, Kind::Insert) {
@@ -87,12 +96,21 @@ fn has_inner_query(pieces: &[Piece<'_>]) -> bool {
         > 1
 }
 
-/// Returns the names of the columns of tables, with those of the tables in front where there are several.
-pub(crate) fn known_columns(alloc: Global, tables: &[&Table]) -> Result<Vec<String>, AllocError> {
+/// Returns the names of the columns of tables, with those that the tables go by in front and without: first as most
+/// write them.
+pub(crate) fn known_columns(
+    alloc: Global,
+    tables: &[NamedTable<'_>],
+) -> Result<Vec<String>, AllocError> {
     let mut names = Vec::new(alloc);
-    for table in tables {
-        let front = if tables.len() > 1 { table.name() } else { "" };
-        add_columns(alloc, table, front, &mut names)?;
+    for NamedTable { name, table } in tables {
+        let (first, second) = if tables.len() > 1 {
+            (*name, "")
+        } else {
+            ("", *name)
+        };
+        add_columns(alloc, table, first, &mut names)?;
+        add_columns(alloc, table, second, &mut names)?;
     }
     Ok(names)
 }
@@ -128,10 +146,15 @@ fn column_at(
 /// Returns the name at a place that is neither that of a table nor the second half of one.
 fn first_name<'a>(pieces: &[Piece<'a>], place: usize) -> Option<&'a str> {
     let is_half = place > 0 && is_at(pieces, place.saturating_sub(1), Kind::Dot);
-    if is_half || table_at(pieces, place).is_some() {
+    if is_half || table_at(pieces, place).is_some() || is_own_name(pieces, place) {
         return None;
     }
     pieces.get(place)?.name()
+}
+
+fn is_own_name(pieces: &[Piece<'_>], place: usize) -> bool {
+    let before = place.saturating_sub(1);
+    table_at(pieces, before).is_some() && own_name_at(pieces, before).is_some() && before < place
 }
 
 fn second_name<'a>(pieces: &[Piece<'a>], place: usize) -> Option<&'a str> {
@@ -144,7 +167,7 @@ fn second_name<'a>(pieces: &[Piece<'a>], place: usize) -> Option<&'a str> {
 
 pub(crate) fn missing_column(
     alloc: Global,
-    tables: &[&Table],
+    tables: &[NamedTable<'_>],
     known: &[String],
     name: &str,
 ) -> Result<String, AllocError> {
@@ -155,7 +178,7 @@ pub(crate) fn missing_column(
     let near = near_text(alloc, name, names.as_slice())?;
     let name = Shown::escaped(name);
     match tables {
-        [table] => {
+        [NamedTable { table, .. }] => {
             let table = Shown::escaped(table.name());
             format!(in alloc; "{table}: column {name} isn't there{near}")
         }

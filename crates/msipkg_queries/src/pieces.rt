@@ -86,22 +86,48 @@ pub(crate) fn table_at<'a>(pieces: &[Piece<'a>], place: usize) -> Option<&'a str
     }
 }
 
-/// Returns where the list of names begins that has a name at a place.
+/// Returns where the list of names begins that has a name at a place. A table of a list may have a name of its own
+/// behind its name.
 fn list_start(pieces: &[Piece<'_>], place: usize) -> usize {
     let mut start = place;
     for _ in 0..place {
-        let (comma, name) = (start.saturating_sub(1), start.saturating_sub(2));
-        if start < 2 || !is_at(pieces, comma, Kind::Comma) || !is_name_at(pieces, name) {
-            break;
+        match item_before(pieces, start) {
+            Some(before) => start = before,
+            None => break,
         }
-        start = name;
     }
     start
 }
 
+/// Returns where the item of a list begins that ends at the comma in front of a place.
+fn item_before(pieces: &[Piece<'_>], place: usize) -> Option<usize> {
+    if !is_at(pieces, place.checked_sub(1)?, Kind::Comma) {
+        return None;
+    }
+    let name = place.checked_sub(2)?;
+    let front = place.saturating_sub(3);
+    if !is_name_at(pieces, name) {
+        None
+    } else if front < name && is_name_at(pieces, front) {
+        Some(front)
+    } else {
+        Some(name)
+    }
+}
+
 fn is_name_at(pieces: &[Piece<'_>], place: usize) -> bool {
     match pieces.get(place) {
-        Some(piece) => piece.kind.is_name(),
+        Some(piece) => piece.name().is_some(),
         None => false,
+    }
+}
+
+/// Returns the name of its own that the table at a place has behind its name, in a list of tables.
+pub(crate) fn own_name_at<'a>(pieces: &[Piece<'a>], place: usize) -> Option<&'a str> {
+    let before = list_start(pieces, place).checked_sub(1)?;
+    if is_at(pieces, before, Kind::From) {
+        pieces.get(place.saturating_add(1))?.name()
+    } else {
+        None
     }
 }

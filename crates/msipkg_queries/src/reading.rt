@@ -1,6 +1,10 @@
 //! Reading queries and statements.
 
 use crate::caret::refused_at;
+use crate::literals::{
+    DISTINCT_LITERALS, SelectedLiteral, has_only_literals, is_distinct_without_columns,
+    selected_literals, with_columns,
+};
 use crate::mistakes::sentence_at;
 use crate::pieces::{Piece, is_at};
 use crate::rules::{check_pieces, check_quotes};
@@ -10,17 +14,47 @@ use msipkg_packages::msi::{Parse, ParseError, Refused, Select, Statement};
 use msipkg_packages::output::Failure;
 use std::alloc::{AllocError, Global};
 
+/// A query for rows as it was read.
+pub struct Selection {
+    /// The query, which has a column in the place of each literal.
+    pub select: Select,
+    pub literals: Vec<SelectedLiteral>,
+    /// Whether all that it selects are literals. Then the query selects all columns.
+    pub has_only_literals: bool,
+}
+
+/// Written out, so that a function that owns one calls one drop, and its proof doesn't go through those of the parts.
+impl Drop for Selection {
+    fn drop(self) {
+        let Selection {
+            select: _,
+            literals: _,
+            has_only_literals: _,
+        } = self;
+    }
+}
+
 /// Reads a query for rows. The empty text in it stands for null.
 ///
 /// # Errors
 /// Fails if the text spells none, if it has a text in double quotes with a backslash, a `NOT` in front of a comparison
-/// without brackets or a join of a table with itself, and with `OutOfMemory`.
-pub fn read_select(alloc: Global, written: Written<'_>) -> Result<Select, Failure> {
+/// without brackets, two tables that go by one name or `DISTINCT` of literals alone, and with `OutOfMemory`.
+pub fn read_select(alloc: Global, written: Written<'_>) -> Result<Selection, Failure> {
     let pieces = pieces_of(alloc, written)?;
     check_quotes(alloc, written.text, pieces.as_slice())?;
-    let query = parsed(alloc, written.text, pieces.as_slice())?;
+    let literals = selected_literals(alloc, pieces.as_slice())?;
+    let has_only_literals = has_only_literals(pieces.as_slice());
+    if is_distinct_without_columns(pieces.as_slice()) {
+        return Err(Failure::rule(DISTINCT_LITERALS));
+    }
+    let pieces = with_columns(alloc, pieces)?;
+    let select = parsed(alloc, written.text, pieces.as_slice())?;
     check_pieces(alloc, written.text, pieces.as_slice())?;
-    Ok(query)
+    Ok(Selection {
+        select,
+        literals,
+        has_only_literals,
+    })
 }
 
 /// Reads a statement. The empty text in it stands for null, since the installer knows no empty text.

@@ -1,13 +1,13 @@
 //! Why a package refuses a query or a statement: the table, the column and the value.
 
 use crate::inserting::insert_fault;
-use crate::naming::{column_fault, table_fault, tables_in};
+use crate::naming::{NamedTable, column_fault, table_fault, tables_in};
 use crate::pieces::Piece;
 use crate::showing::said;
 use crate::values::update_fault;
 use crate::written::{Written, pieces_of};
 use msi_query_tokens::token::Kind;
-use msipkg_packages::msi::{Package, Table};
+use msipkg_packages::msi::Package;
 use msipkg_packages::output::{Failure, Opened};
 use std::alloc::{AllocError, Global};
 
@@ -49,10 +49,10 @@ fn fault_in(
 
 fn value_fault_in(
     alloc: Global,
-    tables: &[&Table],
+    tables: &[NamedTable<'_>],
     pieces: &[Piece<'_>],
 ) -> Result<Option<String>, AllocError> {
-    let ([table], Some(first)) = (tables, pieces.first()) else {
+    let ([NamedTable { table, .. }], Some(first)) = (tables, pieces.first()) else {
         return Ok(None);
     };
     match first.kind {

@@ -2,7 +2,7 @@
 
 use crate::caret::refused_at;
 use crate::comparing::{is_operator, operand_end};
-use crate::pieces::{Piece, has_kind, table_at};
+use crate::pieces::{Piece, has_kind, own_name_at, table_at};
 use crate::showing::said;
 use msi_query_tokens::token::Kind;
 use msipkg_format::Shown;
@@ -72,15 +72,15 @@ fn not_failure(alloc: Global, text: &str, not: Piece<'_>, operator: Piece<'_>) -
     }
 }
 
-/// Refuses a join of a table with itself, whose columns couldn't be distinguished.
+/// Refuses two tables that go by one name, whose columns couldn't be told apart.
 fn check_joins(alloc: Global, pieces: &[Piece<'_>]) -> Result<(), Failure> {
     for i in 0..pieces.len() {
-        if let Some(name) = table_at(pieces, i)
+        if let Some(name) = name_of_table(pieces, i)
             && is_named_before(pieces, i, name)
         {
             let name = Shown::escaped(name);
             return Err(said(format!(in alloc;
-                "table {name} is joined with itself, so its columns can't be told apart"
+                "two tables go by the name {name}; name them apart, as in FROM {name} A, {name} B"
             )));
         }
     }
@@ -88,5 +88,11 @@ fn check_joins(alloc: Global, pieces: &[Piece<'_>]) -> Result<(), Failure> {
 }
 
 fn is_named_before(pieces: &[Piece<'_>], place: usize, name: &str) -> bool {
-    (0..place).any(|i| table_at(pieces, i) == Some(name))
+    (0..place).any(|i| name_of_table(pieces, i) == Some(name))
+}
+
+/// Returns the name that the columns of the table at a place go by.
+fn name_of_table<'a>(pieces: &[Piece<'a>], place: usize) -> Option<&'a str> {
+    let name = table_at(pieces, place)?;
+    Some(own_name_at(pieces, place).unwrap_or(name))
 }

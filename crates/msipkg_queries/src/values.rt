@@ -96,7 +96,7 @@ fn fitting_value(
     }
 }
 
-fn value_at(
+pub(crate) fn value_at(
     alloc: Global,
     pieces: &[Piece<'_>],
     place: usize,

@@ -1,5 +1,6 @@
 //! Texts as they are written, and the pieces that they stand for.
 
+use crate::marks::MarkValue;
 use crate::pieces::{Piece, cut_pieces, is_at, table_at};
 use msi_query_tokens::token::Kind;
 use msi_query_tokens::tokens::Tokens;
@@ -9,18 +10,18 @@ use std::alloc::{AllocError, Global};
 #[derive(Clone, Copy)]
 pub struct Written<'a> {
     pub text: &'a str,
-    /// The literals that take the places of its marks, in order.
-    pub literals: &'a [String],
+    /// The values that take the places of its marks, in order.
+    pub values: &'a [MarkValue<'a>],
 }
 
-/// Returns the pieces that a text stands for: literals in place of its marks, no semicolon at its end, and columns
+/// Returns the pieces that a text stands for: values in place of its marks, no semicolon at its end, and columns
 /// without the name of the table in front, where there is one table.
 pub(crate) fn pieces_of<'a>(
     alloc: Global,
     written: Written<'a>,
 ) -> Result<Vec<Piece<'a>>, AllocError> {
     let cut = cut_pieces(alloc, written.text)?;
-    let mut pieces = with_literals(alloc, cut.as_slice(), written.literals)?;
+    let mut pieces = with_values(alloc, cut.as_slice(), written.values)?;
     if let Some(last) = pieces.as_slice().last()
         && last.text == ";"
     {
@@ -32,7 +33,7 @@ pub(crate) fn pieces_of<'a>(
     }
 }
 
-/// Returns whether a text is a change of a table's rows, other than one that only sets this column.
+/// Returns whether this is the table whose rows a text changes.
 ///
 /// # Errors
 /// Fails if memory is refused.
@@ -40,14 +41,22 @@ pub fn changes_table(
     alloc: Global,
     written: Written<'_>,
     table: &str,
-    column: &str,
 ) -> Result<bool, AllocError> {
     let pieces = pieces_of(alloc, written)?;
-    Ok(only_table(pieces.as_slice()) == Some(table) && !sets_only(pieces.as_slice(), column))
+    Ok(only_table(pieces.as_slice()) == Some(table))
 }
 
 /// Returns whether a text only sets a column.
-fn sets_only(pieces: &[Piece<'_>], column: &str) -> bool {
+///
+/// # Errors
+/// Fails if memory is refused.
+pub fn sets_only(
+    alloc: Global,
+    written: Written<'_>,
+    column: &str,
+) -> Result<bool, AllocError> {
+    let pieces = pieces_of(alloc, written)?;
+    let pieces = pieces.as_slice();
     let end = pieces.iter().position(|piece| piece.kind == Kind::Where);
     let sets = pieces.iter().take(end.unwrap_or(pieces.len()));
     let mut is_only = is_at(pieces, 0, Kind::Update);
@@ -56,7 +65,7 @@ fn sets_only(pieces: &[Piece<'_>], column: &str) -> bool {
             is_only = is_only && piece.name() == Some(column);
         }
     }
-    is_only
+    Ok(is_only)
 }
 
 /// Returns how many marks a text has.
@@ -72,25 +81,51 @@ fn is_mark(piece: Piece<'_>) -> bool {
     piece.text == "?"
 }
 
-/// Returns the pieces with literals in place of the marks, in order.
-fn with_literals<'a>(
+/// Returns the pieces with values in place of the marks, in order.
+fn with_values<'a>(
     alloc: Global,
     pieces: &[Piece<'a>],
-    literals: &'a [String],
+    values: &'a [MarkValue<'a>],
 ) -> Result<Vec<Piece<'a>>, AllocError> {
     let mut filled = Vec::with_capacity(alloc, pieces.len())?;
-    let mut left = literals;
+    let mut left = values;
     for piece in pieces {
         if is_mark(*piece)
-            && let [literal, others @ ..] = left
+            && let [value, others @ ..] = left
         {
-            filled.push(literal_piece(literal.as_str(), piece.place))?;
+            filled.push(literal_piece(value.literal(), piece.place))?;
             left = others;
         } else {
             filled.push(*piece)?;
         }
     }
     Ok(filled)
+}
+
+/// Returns for each stream that a text spells or has a mark for, in order, the file that it gets its bytes from, if
+/// that is given.
+///
+/// # Errors
+/// Fails if memory is refused.
+pub fn stream_files<'a>(
+    alloc: Global,
+    written: Written<'a>,
+) -> Result<Vec<Option<&'a str>>, AllocError> {
+    let mut files = Vec::new(alloc);
+    let mut left = written.values;
+    for piece in &cut_pieces(alloc, written.text)? {
+        if is_mark(*piece)
+            && let [value, others @ ..] = left
+        {
+            if value.file().is_some() {
+                files.push(value.file())?;
+            }
+            left = others;
+        } else if piece.kind == Kind::BinaryStream {
+            files.push(None)?;
+        }
+    }
+    Ok(files)
 }
 
 fn literal_piece<'a>(literal: &'a str, place: usize) -> Piece<'a> {

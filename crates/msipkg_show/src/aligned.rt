@@ -14,7 +14,7 @@ pub(crate) fn widths_of(
     nulls: &NullCells,
 ) -> Result<Widths, AllocError> {
     let mut widths = Widths::new(alloc, rows.columns().len())?;
-    widen_by_names(style, rows.columns(), &mut widths);
+    widen_by_names(style, rows.columns(), nulls, &mut widths);
     for number in 0..rows.len() {
         widen_by_row(style, rows, number, nulls, &mut widths);
         rows.advance();
@@ -22,17 +22,17 @@ pub(crate) fn widths_of(
     Ok(widths)
 }
 
-fn widen_by_names(style: Style, columns: &[Column], widths: &mut Widths) {
-    for (place, column) in columns.iter().enumerate() {
-        widths.widen(place, style.width(column.name()));
+fn widen_by_names(style: Style, columns: &[Column], nulls: &NullCells, widths: &mut Widths) {
+    for place in 0..columns.len() {
+        widths.widen(place, style.width(nulls.name_of(columns, place)));
     }
 }
 
-fn widen_by_row(
+fn widen_by_row<'a>(
     style: Style,
-    rows: &Rows<'_>,
+    rows: &'a Rows<'_>,
     number: usize,
-    nulls: &NullCells,
+    nulls: &'a NullCells,
     widths: &mut Widths,
 ) {
     for place in 0..rows.columns().len() {
@@ -54,7 +54,7 @@ pub(crate) fn write_aligned(
     if rows.columns().is_empty() {
         return;
     }
-    write_names(style, widths, rows.columns(), output);
+    write_names(style, widths, rows.columns(), nulls, output);
     widths.write_dashes(output);
     for number in 0..rows.len() {
         write_row(style, widths, &rows, number, nulls, output);
@@ -62,9 +62,15 @@ pub(crate) fn write_aligned(
     }
 }
 
-fn write_names(style: Style, widths: &Widths, columns: &[Column], output: &mut Output) {
-    for (place, column) in columns.iter().enumerate() {
-        let name = column.name();
+fn write_names(
+    style: Style,
+    widths: &Widths,
+    columns: &[Column],
+    nulls: &NullCells,
+    output: &mut Output,
+) {
+    for place in 0..columns.len() {
+        let name = nulls.name_of(columns, place);
         style.print(name, output);
         widths.fill_up(place, style.width(name), output);
     }
@@ -72,12 +78,12 @@ fn write_names(style: Style, widths: &Widths, columns: &[Column], output: &mut O
 }
 
 /// Writes the values of the next row. The last one isn't filled up, so its width isn't asked for.
-fn write_row(
+fn write_row<'a>(
     style: Style,
     widths: &Widths,
-    rows: &Rows<'_>,
+    rows: &'a Rows<'_>,
     number: usize,
-    nulls: &NullCells,
+    nulls: &'a NullCells,
     output: &mut Output,
 ) {
     let count = rows.columns().len();

@@ -3,12 +3,14 @@
 use crate::aligned::{widths_of, write_aligned};
 use crate::nulls::null_cells;
 use msipkg_format::Style;
-use msipkg_packages::msi::{Column, Package, Rows, Select};
+use msipkg_packages::msi::{Column, Error, Package, Rows, Select};
 use msipkg_packages::output::{
-    Failure, Opened, Output, RowFormat, RowPrinting, System, write_rows,
+    Failure, NullCells, Opened, Output, RowFormat, RowPrinting, System, write_rows,
 };
 use msipkg_packages::{PackageFile, open_to_look};
-use msipkg_queries::{Written, check_marks, explained, mark_count, read_select};
+use msipkg_queries::{
+    Selection, Written, check_marks, explained, lists_for, mark_count, read_select,
+};
 use std::alloc::{AllocError, Global};
 
 /// How the rows of a query are printed.
@@ -45,7 +47,7 @@ impl Format {
 pub struct Query<'a> {
     pub written: Written<'a>,
     /// What it selects.
-    pub select: Select,
+    pub selection: Selection,
     pub format: Format,
     pub style: Style,
     /// Whether each row has its file in front, since there are several.
@@ -58,7 +60,7 @@ impl Drop for Query<'_> {
     fn drop(self) {
         let Query {
             written: _,
-            select: _,
+            selection: _,
             format: _,
             style: _,
             has_files: _,
@@ -108,16 +110,16 @@ impl LastNames {
 /// Reads a query for rows.
 ///
 /// # Errors
-/// Fails if it has more or fewer literals than marks, at its text, with the rule that it breaks, and with
+/// Fails if it has more or fewer values than marks, at its text, with the rule that it breaks, and with
 /// `OutOfMemory`.
-pub fn read_query(alloc: Global, written: Written<'_>) -> Result<Select, Failure> {
+pub fn read_query(alloc: Global, written: Written<'_>) -> Result<Selection, Failure> {
     check_marks(
         alloc,
         mark_count(alloc, written.text)?,
-        written.literals.len(),
+        written.values.len(),
     )?;
     match read_select(alloc, written) {
-        Ok(select) => Ok(select),
+        Ok(selection) => Ok(selection),
         Err(failure) => Err(failure.at(alloc, "query", written.text)),
     }
 }
@@ -136,9 +138,24 @@ pub fn print_query(
     notes: &mut Output,
 ) -> Result<bool, Failure> {
     let looked = open_to_look(rt, file, notes)?;
-    match write_selected(rt.alloc(), file.path, &looked.package, query, names, output) {
+    match write_found(rt.alloc(), file.path, &looked.package, query, names, output) {
         Ok(()) => Ok(looked.has_summary),
         Err(failure) => Err(failure.at(rt.alloc(), "query", query.written.text)),
+    }
+}
+
+/// Writes the rows that a query selects in a package, or in the lists of its streams.
+fn write_found(
+    alloc: Global,
+    file: &str,
+    package: &Package<Opened>,
+    query: &Query<'_>,
+    names: &mut LastNames,
+    output: &mut Output,
+) -> Result<(), Failure> {
+    match lists_for(alloc, package, &query.selection.select)? {
+        Some(lists) => write_selected(alloc, file, &lists, query, names, output),
+        None => write_selected(alloc, file, package, query, names, output),
     }
 }
 
@@ -151,7 +168,8 @@ fn write_selected(
     output: &mut Output,
 ) -> Result<(), Failure> {
     let mut rows = selected(alloc, package, query)?;
-    let nulls = null_cells(alloc, package, &query.select, rows.columns())?;
+    let mut nulls = null_cells(alloc, package, &query.selection.select, rows.columns())?;
+    add_literals(alloc, &query.selection, &mut nulls)?;
     match query.format {
         Format::Rows(format) => {
             let printing = RowPrinting {
@@ -180,13 +198,47 @@ fn write_head(file: &str, query: &Query<'_>, output: &mut Output) {
     }
 }
 
+/// Shows literals in the places of the columns that stand for them.
+fn add_literals(
+    alloc: Global,
+    selection: &Selection,
+    nulls: &mut NullCells,
+) -> Result<(), Error> {
+    for literal in &selection.literals {
+        let name = String::from_str(alloc, literal.name.as_str())?;
+        nulls.add_literal(literal.place, name, literal.value.clone(alloc)?)?;
+    }
+    Ok(())
+}
+
 fn selected<'a>(
     alloc: Global,
     package: &'a Package<Opened>,
     query: &Query<'_>,
 ) -> Result<Rows<'a>, Failure> {
-    match package.select_rows(query.select.clone(alloc)?) {
+    let select = query.selection.select.clone(alloc)?;
+    match selected_rows(alloc, package, &query.selection, select) {
         Ok(rows) => Ok(rows),
         Err(error) => Err(explained(alloc, package, query.written, Failure::from(error))),
     }
+}
+
+/// Returns the rows of a query. Where it selects literals alone, its first column stands for each.
+fn selected_rows<'a>(
+    alloc: Global,
+    package: &'a Package<Opened>,
+    selection: &Selection,
+    select: Select,
+) -> Result<Rows<'a>, Error> {
+    if !selection.has_only_literals {
+        return package.select_rows(select);
+    }
+    let rows = package.select_rows(select.clone(alloc)?)?;
+    let mut names = Vec::new(alloc);
+    if let [column, ..] = rows.columns() {
+        for _ in 0..selection.literals.len() {
+            names.push(column.name())?;
+        }
+    }
+    package.select_rows(select.columns(names.as_slice())?)
 }

@@ -1,0 +1,139 @@
+//! The installer's lists of the streams and of the storages of a package, which no file has as tables.
+
+use msi_query::parts::{SelectTree, select_tree};
+use msipkg_packages::msi::{Column, Error, Insert, Package, Select, Text, Value, ValueView};
+use msipkg_packages::output::{Failure, Opened};
+use msipkg_packages::{new_package, rows_of};
+use std::alloc::{AllocError, Global};
+use std::collections::BTreeSet;
+
+/// The list of streams: their names, and their bytes as streams.
+pub const STREAMS: &str = "_Streams";
+
+/// The list of storages, which has the same columns.
+pub const STORAGES: &str = "_Storages";
+
+/// Returns the package that a query is asked of: none if it is the package itself, and else one that has the lists that
+/// it names as tables.
+///
+/// # Errors
+/// Fails if a query names such a list beside a table, and as `with_stream_lists` does.
+pub fn lists_for(
+    alloc: Global,
+    package: &Package<Opened>,
+    query: &Select,
+) -> Result<Option<Package<Opened>>, Failure> {
+    let named = named_in(package, select_tree(query));
+    match (named.lists, named.tables) {
+        (0, _) => Ok(None),
+        (_, 0) => Ok(Some(with_stream_lists(alloc, package)?)),
+        _ => Err(Failure::rule("_Streams and _Storages are asked without other tables")),
+    }
+}
+
+/// How many lists and how many tables a query names.
+#[derive(Clone, Copy)]
+struct Named {
+    lists: usize,
+    tables: usize,
+}
+
+impl Named {
+    fn of(package: &Package<Opened>, name: &str) -> Named {
+        if is_list_name(name) && !package.has_table(name) {
+            Named {
+                lists: 1,
+                tables: 0,
+            }
+        } else {
+            Named {
+                lists: 0,
+                tables: 1,
+            }
+        }
+    }
+
+    fn and(self, other: Named) -> Named {
+        Named {
+            lists: self.lists.saturating_add(other.lists),
+            tables: self.tables.saturating_add(other.tables),
+        }
+    }
+}
+
+fn is_list_name(name: &str) -> bool {
+    matches!(name, "_Streams" | "_Storages")
+}
+
+fn named_in(package: &Package<Opened>, tree: &SelectTree) -> Named {
+    match tree {
+        SelectTree::Table { name, .. } => Named::of(package, name.as_str()),
+        SelectTree::Join { left, right, .. } => named_in(package, left).and(named_in(package, right)),
+        SelectTree::Product { sides, .. } => {
+            let mut named = Named {
+                lists: 0,
+                tables: 0,
+            };
+            for side in sides.as_slice() {
+                named = named.and(Named::of(package, side.table().as_str()));
+            }
+            named
+        }
+    }
+}
+
+/// Returns a package that has the lists of the streams and of the storages of another one as tables. A package that is
+/// opened has no storages.
+///
+/// # Errors
+/// Fails if a name of a stream can't be read, and if memory is refused.
+pub fn with_stream_lists(
+    alloc: Global,
+    package: &Package<Opened>,
+) -> Result<Package<Opened>, Failure> {
+    let mut lists = new_package(alloc, package.package_type())?;
+    lists.create_table(STREAMS, list_columns(alloc)?)?;
+    lists.create_table(STORAGES, list_columns(alloc)?)?;
+    lists.insert_rows(Insert::into(alloc, STREAMS)?.rows(stream_rows(alloc, package)?)?)?;
+    Ok(lists)
+}
+
+fn list_columns(alloc: Global) -> Result<Vec<Column>, Error> {
+    let mut columns = Vec::new(alloc);
+    columns.push(Column::build(alloc, "Name")?.primary_key().string(0))?;
+    columns.push(Column::build(alloc, "Data")?.binary())?;
+    Ok(columns)
+}
+
+fn stream_rows(
+    alloc: Global,
+    package: &Package<Opened>,
+) -> Result<Vec<Vec<Value>>, Failure> {
+    let mut rows = Vec::new(alloc);
+    for name in package.streams() {
+        let mut row = Vec::new(alloc);
+        row.push(Value::Str(Text::from_string(name?)))?;
+        row.push(Value::Binary)?;
+        rows.push(row)?;
+    }
+    Ok(rows)
+}
+
+/// Returns the names in the list of streams of a package that has it as a table.
+///
+/// # Errors
+/// Fails if memory is refused.
+pub fn listed_names(
+    alloc: Global,
+    lists: &Package<Opened>,
+) -> Result<BTreeSet<String>, Failure> {
+    let mut names = BTreeSet::new(alloc);
+    let mut rows = rows_of(alloc, lists, STREAMS)?;
+    for _ in 0..rows.len() {
+        if let Some(ValueView::Str(name)) = rows.get(0) {
+            names.insert(String::from_str(alloc, name)?)?;
+        }
+        rows.advance();
+    }
+    Ok(names)
+}
