@@ -204,7 +204,7 @@ fn relation_of_tree<T: Tables>(
     }
 }
 
-/// The rows stay in the table's stream.
+/// The rows stay in the table's stream, in which the table is looked up once.
 fn table_rows<'a, T: Tables>(
     alloc: Global,
     pool: &'a StringPool,
@@ -217,12 +217,15 @@ fn table_rows<'a, T: Tables>(
         IfOk result (Selects (relation_of values (table name.now clauses.now))) }
     ensures kind { let values = tables_values pool.now.places (T.table tables.now) in
         IfErr result (IsRefusal (relation_of values (table name.now clauses.now))) }
+    ensures early { let columns = columns_read (T.table tables.now) in
+        AnswersWith (early_refusal columns (table name.now clauses.now)) result }
 {
     let stored = tables.stored(name)?;
     let scope = Scope {
         table: name,
         columns: stored.columns(),
     };
+    refuse_meaningless(scope, clauses)?;
     let clauses = clauses.with_meant_names(alloc, scope)?;
     narrowed_rows(alloc, pool, &clauses, stored)
 }
@@ -237,7 +240,9 @@ fn tree_rows<'a, T: Tables>(
         IfOk result (Selects (relation_of values (query_of tree.now))) }
     ensures kind { let values = tables_values pool.now.places (T.table tables.now) in
         IfErr result (IsRefusal (relation_of values (query_of tree.now))) }
+    ensures early { AnswersWith (early_refusal (columns_read (T.table tables.now)) (query_of tree.now)) result }
 {
+    refuse_early(tables, tree)?;
     let relation = relation_of_tree(alloc, pool, tables, tree)?;
     relation.into_rows(alloc, pool)
 }
@@ -269,7 +274,6 @@ pub fn select_rows<'a, T: Tables>(
     ensures early { AnswersWith (early_refusal (columns_read (T.table tables.now)) query.now) result }
 {
     let tree = select_tree(query);
-    refuse_early(tables, tree)?;
     match tree {
         SelectTree::Table { name, clauses } if keep_order(clauses) => {
             table_rows(alloc, pool, tables, name.as_str(), clauses)

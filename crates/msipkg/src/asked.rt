@@ -12,7 +12,7 @@ pub(crate) struct Asked<'a, 'b> {
     pub(crate) verb: Verb,
     pub(crate) given: &'b ArgMatches<'a>,
     /// The values for marks.
-    pub(crate) values: &'b [MarkValue<'b>],
+    pub(crate) values: &'b [MarkValue],
     pub(crate) style: Style,
 }
 

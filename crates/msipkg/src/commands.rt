@@ -82,10 +82,10 @@ fn run_matched(
 }
 
 /// Returns the values that are given for marks.
-fn given_values<'a>(
+fn given_values(
     alloc: Global,
-    matches: &ArgMatches<'a>,
-) -> Result<Vec<MarkValue<'a>>, AllocError> {
+    matches: &ArgMatches<'_>,
+) -> Result<Vec<MarkValue>, AllocError> {
     match matches.subcommand() {
         Some((_, given)) => {
             mark_values(alloc, given_words(given, "value"), given_words(given, "value-file"))
@@ -95,16 +95,19 @@ fn given_values<'a>(
 }
 
 fn given_words<'a, 'b>(given: &'b ArgMatches<'a>, id: &str) -> GivenWords<'a, 'b> {
-    GivenWords {
-        words: given.get_strs(id).unwrap_or(&[]),
-        places: given.indices_of(id).unwrap_or(&[]),
+    match (given.get_strs(id), given.indices_of(id)) {
+        (Some(words), Some(places)) => GivenWords { words, places },
+        (_, _) => GivenWords {
+            words: &[],
+            places: &[],
+        },
     }
 }
 
 fn run_given(
     rt: &System,
     matches: &ArgMatches<'_>,
-    values: &[MarkValue<'_>],
+    values: &[MarkValue],
     is_terminal: bool,
     output: &mut Output,
     errors: &mut Output,
@@ -141,7 +144,7 @@ fn run_asked(
 
 fn asked_of<'a, 'b>(
     matches: &'b ArgMatches<'a>,
-    values: &'b [MarkValue<'b>],
+    values: &'b [MarkValue],
     is_terminal: bool,
 ) -> Option<Asked<'a, 'b>> {
     let (name, given) = matches.subcommand()?;
@@ -282,10 +285,28 @@ fn execute_script(
     errors: &mut Output,
 ) -> Result<u8, Failure> {
     let statements = read_script(rt, path)?;
+    execute_texts(
+        rt,
+        asked,
+        statements.as_slice(),
+        asked.values,
+        output,
+        errors,
+    )
+}
+
+fn execute_texts<'x>(
+    rt: &System,
+    asked: &Asked<'_, '_>,
+    statements: &'x [String],
+    values: &'x [MarkValue],
+    output: &mut Output,
+    errors: &mut Output,
+) -> Result<u8, Failure> {
     let mut texts = Vec::with_capacity(rt.alloc(), statements.len())?;
-    for statement in &statements {
+    for statement in statements {
         texts.push(statement.as_str())?;
     }
-    let prepared = prepare_statements(rt.alloc(), texts.as_slice(), asked.values)?;
+    let prepared = prepare_statements(rt.alloc(), texts.as_slice(), values)?;
     change(rt, asked, Change::Execute(prepared), output, errors)
 }

@@ -97,6 +97,10 @@ pub(crate) fn apply_definition(
             package.create_table(table, columns)?;
             Ok(Carried::Created)
         }
+        Definition::Add { table, column } => {
+            package.add_column(table, column)?;
+            Ok(Carried::Added)
+        }
         Definition::Remove { table } => {
             package.drop_table(table)?;
             Ok(Carried::Dropped)

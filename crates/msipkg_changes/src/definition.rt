@@ -1,4 +1,4 @@
-//! `CREATE TABLE` and `DROP TABLE` as text, in the installer's form.
+//! `CREATE TABLE`, `ALTER TABLE` and `DROP TABLE` as text, in the installer's form.
 
 use crate::tokens::Tokens;
 use msipkg_format::Shown;
@@ -16,6 +16,9 @@ const TOO_MANY: &str = "a table has at most 32 columns";
 
 /// The error of a column's name that was there before.
 const SAME_NAME: &str = "two columns have the same name";
+
+/// The error of a new column that rows would need values for.
+const NOT_NULL: &str = "a column that is added takes null, which the rows have in it";
 
 /// The error of a word that is no type.
 const NO_TYPE: &str = "expected CHAR, LONGCHAR, SHORT, LONG or OBJECT";
@@ -40,6 +43,11 @@ pub(crate) enum Definition<'a> {
         table: &'a str,
         columns: Vec<Column>,
     },
+    /// A column is added behind those of a table.
+    Add {
+        table: &'a str,
+        column: Column,
+    },
     Remove {
         table: &'a str,
     },
@@ -63,20 +71,23 @@ enum Kind {
     Stream,
 }
 
-/// Returns whether the first word of a text is `CREATE` or `DROP`.
+/// Returns whether the first word of a text is `CREATE`, `ALTER` or `DROP`.
 pub(crate) fn is_definition(alloc: Global, text: &str) -> bool {
     let mut tokens = Tokens::new(alloc, text);
-    tokens.takes_word("CREATE") || tokens.takes_word("DROP")
+    tokens.takes_word("CREATE") || tokens.takes_word("ALTER") || tokens.takes_word("DROP")
 }
 
-/// Reads a definition, such as ``CREATE TABLE `T` (`A` CHAR(72) NOT NULL, `B` LONG PRIMARY KEY `A`)`` or ``DROP TABLE
-/// `T` ``.
+/// Reads a definition, such as ``CREATE TABLE `T` (`A` CHAR(72) NOT NULL, `B` LONG PRIMARY KEY `A`)``, ``ALTER TABLE `T`
+/// ADD `C` SHORT`` or ``DROP TABLE `T` ``.
 pub(crate) fn definition_of<'a>(alloc: Global, text: &'a str) -> Result<Definition<'a>, Failure> {
     let mut tokens = Tokens::new(alloc, text);
     if tokens.takes_word("CREATE") {
         return creation(alloc, &mut tokens);
     }
-    tokens.expect_word("DROP", "expected CREATE TABLE or DROP TABLE")?;
+    if tokens.takes_word("ALTER") {
+        return addition(alloc, &mut tokens);
+    }
+    tokens.expect_word("DROP", "expected CREATE TABLE, ALTER TABLE or DROP TABLE")?;
     let table = named_table(&mut tokens)?;
     tokens.expect_end()?;
     Ok(Definition::Remove { table })
@@ -93,6 +104,18 @@ fn creation<'a>(alloc: Global, tokens: &mut Tokens<'a>) -> Result<Definition<'a>
     let columns = columns(alloc, tokens)?;
     tokens.expect_end()?;
     Ok(Definition::Create { table, columns })
+}
+
+fn addition<'a>(alloc: Global, tokens: &mut Tokens<'a>) -> Result<Definition<'a>, Failure> {
+    let table = named_table(tokens)?;
+    tokens.expect_word("ADD", "expected ADD, a column and its type")?;
+    let described = described_column(tokens)?;
+    tokens.expect_end()?;
+    if !described.is_nullable {
+        return Err(Failure::rule(NOT_NULL));
+    }
+    let column = built_column(alloc, &described, false)?;
+    Ok(Definition::Add { table, column })
 }
 
 fn columns(alloc: Global, tokens: &mut Tokens<'_>) -> Result<Vec<Column>, Failure> {

@@ -12,6 +12,8 @@ pub(crate) enum Carried {
     Changed(usize),
     Deleted(usize),
     Created,
+    /// A column was added.
+    Added,
     Dropped,
 }
 
@@ -19,7 +21,7 @@ impl Carried {
     fn count(self) -> usize {
         match self {
             Carried::Inserted(count) | Carried::Changed(count) | Carried::Deleted(count) => count,
-            Carried::Created | Carried::Dropped => 0,
+            Carried::Created | Carried::Added | Carried::Dropped => 0,
         }
     }
 
@@ -29,6 +31,7 @@ impl Carried {
             Carried::Changed(_) => "changed",
             Carried::Deleted(_) => "deleted",
             Carried::Created => "created",
+            Carried::Added => "added",
             Carried::Dropped => "dropped",
         }
     }
@@ -38,6 +41,7 @@ impl Carried {
         let (count, word) = (self.count(), self.word());
         match self {
             Carried::Created | Carried::Dropped => writeln!(output, "table {word}"),
+            Carried::Added => writeln!(output, "column {word}"),
             Carried::Inserted(_) | Carried::Changed(_) | Carried::Deleted(_) => {
                 let rows = if count == 1 { "row" } else { "rows" };
                 writeln!(output, "{count} {rows} {word}");

@@ -52,18 +52,26 @@ enum Work<'a> {
 pub fn prepare_statements<'a>(
     alloc: Global,
     texts: &[&'a str],
-    values: &'a [MarkValue<'a>],
+    values: &'a [MarkValue],
 ) -> Result<Vec<PreparedStatement<'a>>, Failure> {
     check_marks(alloc, mark_count_of(alloc, texts)?, values.len())?;
     let mut statements = Vec::with_capacity(alloc, texts.len())?;
     let mut left = values;
     for text in texts {
         let count = mark_count(alloc, text)?;
-        let (values, others) = left.split_at_checked(count).unwrap_or((left, &[]));
+        let (values, others) = split_values(left, count);
         left = others;
         statements.push(prepared(alloc, Written { text, values })?)?;
     }
     Ok(statements)
+}
+
+/// Returns so many values, and the others.
+fn split_values(values: &[MarkValue], count: usize) -> (&[MarkValue], &[MarkValue]) {
+    match values.split_at_checked(count) {
+        Some(parts) => parts,
+        None => (values, &[]),
+    }
 }
 
 /// Returns how many marks texts have.
@@ -147,7 +155,7 @@ fn apply_tables(
     package: &mut Package<Opened>,
     definition: Definition<'_>,
 ) -> Result<Carried, Failure> {
-    if matches!(definition, Definition::Create { .. }) {
+    if matches!(definition, Definition::Create { .. } | Definition::Add { .. }) {
         add_validation(alloc, package)?;
     }
     apply_definition(package, definition)

@@ -136,15 +136,20 @@ impl NullCells {
         self.columns.iter().any(|column| column.place == place && column.rows.contains(&row))
     }
 
-    /// Returns the value of the next of some rows in a column: null where the cell is among these, or the literal. The number of the
+    /// Returns the value of the next of some rows in a column: null where the cell is among these. The number of the
     /// row is counted from 0.
-    pub fn value_in<'a>(&'a self, rows: &'a Rows<'_>, row: usize, place: usize) -> ValueView<'a> {
-        if let Some(literal) = self.literal_at(place) {
-            return ValueView::of(&literal.value);
-        }
+    pub fn value_in<'a>(&self, rows: &'a Rows<'_>, row: usize, place: usize) -> ValueView<'a> {
         if self.has(row, place) {
             return ValueView::Null;
         }
         rows.get(place).unwrap_or(ValueView::Null)
+    }
+
+    /// Returns what is shown of the next of some rows in a column: a literal, or its value as `value_in` returns it.
+    pub fn shown_in<'a>(&'a self, rows: &'a Rows<'_>, row: usize, place: usize) -> ValueView<'a> {
+        match self.literal_at(place) {
+            Some(literal) => ValueView::of(&literal.value),
+            None => self.value_in(rows, row, place),
+        }
     }
 }

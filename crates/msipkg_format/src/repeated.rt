@@ -124,7 +124,7 @@ fn object_of<'a>(
         object.put_text(FILE, members.file);
     }
     for (place, name) in members.names.iter().enumerate() {
-        let value = nulls.value_in(rows, number, place);
+        let value = nulls.shown_in(rows, number, place);
         put_value(name.as_str(), value, &mut object);
     }
     object

@@ -261,7 +261,7 @@ fn write_objects(
 
 fn write_each(printer: &Printer<'_>, mut rows: Rows<'_>, output: &mut Output) {
     for number in 0..rows.len() {
-        write_row(printer, number, &rows, output);
+        write_row(printer, printer.nulls, number, &rows, output);
         rows.advance();
     }
 }
@@ -269,7 +269,8 @@ fn write_each(printer: &Printer<'_>, mut rows: Rows<'_>, output: &mut Output) {
 /// Writes the next row, with its values on lines, behind an empty line unless it is the first of all, or separated by
 /// tabs.
 fn write_row<'a>(
-    printer: &Printer<'a>,
+    printer: &Printer<'_>,
+    nulls: &'a NullCells,
     number: usize,
     rows: &'a Rows<'_>,
     output: &mut Output,
@@ -285,10 +286,10 @@ fn write_row<'a>(
             output.push_str(between);
         }
         if has_lines {
-            printer.printing.style.print(printer.nulls.name_of(rows.columns(), place), output);
+            printer.printing.style.print(nulls.name_of(rows.columns(), place), output);
             output.push_str(" = ");
         }
-        let value = printer.nulls.value_in(rows, number, place);
+        let value = nulls.shown_in(rows, number, place);
         write_value(printer.printing.style, value, output);
     }
     output.push_str("\n");

@@ -18,19 +18,10 @@ use std::alloc::{AllocError, Global};
 
 /// A statement with the values that it inserts or sets as the columns of a package take them, and what becomes of the
 /// streams of its rows.
+#[derive(Drop)]
 pub struct Fitted<'a> {
     pub statement: Statement,
     pub streams: StatementStreams<'a>,
-}
-
-/// Written out, so that a function that owns one calls one drop, and its proof doesn't go through those of the parts.
-impl Drop for Fitted<'_> {
-    fn drop(self) {
-        let Fitted {
-            statement: _,
-            streams: _,
-        } = self;
-    }
 }
 
 /// Returns a statement as a package takes it. The files are those that `stream_files` returns of its text.

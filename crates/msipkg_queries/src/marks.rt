@@ -5,14 +5,14 @@ use msipkg_packages::output::Failure;
 use std::alloc::{AllocError, Global};
 
 /// The value that takes the place of a mark.
-pub struct MarkValue<'a> {
+pub struct MarkValue {
     literal: String,
     /// The file whose bytes a stream gets, if the value is a stream.
-    file: Option<&'a str>,
+    file: Option<String>,
 }
 
 /// Written out, so that a function that owns one calls one drop, and its proof doesn't go through those of the parts.
-impl Drop for MarkValue<'_> {
+impl Drop for MarkValue {
     fn drop(self) {
         let MarkValue {
             literal: _,
@@ -21,14 +21,17 @@ impl Drop for MarkValue<'_> {
     }
 }
 
-impl<'a> MarkValue<'a> {
+impl MarkValue {
     /// Returns how it is spelled in a text.
     pub(crate) fn literal(&self) -> &str {
         self.literal.as_str()
     }
 
-    pub(crate) fn file(&self) -> Option<&'a str> {
-        self.file
+    pub(crate) fn file(&self) -> Option<&str> {
+        match &self.file {
+            Some(file) => Some(file.as_str()),
+            None => None,
+        }
     }
 }
 
@@ -57,11 +60,11 @@ impl<'a> GivenWords<'a, '_> {
 ///
 /// # Errors
 /// Fails if memory is refused.
-pub fn mark_values<'a>(
+pub fn mark_values(
     alloc: Global,
-    mut texts: GivenWords<'a, '_>,
-    mut files: GivenWords<'a, '_>,
-) -> Result<Vec<MarkValue<'a>>, AllocError> {
+    mut texts: GivenWords<'_, '_>,
+    mut files: GivenWords<'_, '_>,
+) -> Result<Vec<MarkValue>, AllocError> {
     let mut values = Vec::new(alloc);
     for _ in 0..texts.words.len().saturating_add(files.words.len()) {
         let next = if is_before(texts.place(), files.place()) {
@@ -84,10 +87,7 @@ fn is_before(place: Option<usize>, other: Option<usize>) -> bool {
     }
 }
 
-fn text_value<'a>(
-    alloc: Global,
-    text: Option<&'a str>,
-) -> Result<Option<MarkValue<'a>>, AllocError> {
+fn text_value(alloc: Global, text: Option<&str>) -> Result<Option<MarkValue>, AllocError> {
     let Some(text) = text else {
         return Ok(None);
     };
@@ -97,13 +97,13 @@ fn text_value<'a>(
     }))
 }
 
-fn file_value<'a>(
-    alloc: Global,
-    file: Option<&'a str>,
-) -> Result<Option<MarkValue<'a>>, AllocError> {
+fn file_value(alloc: Global, file: Option<&str>) -> Result<Option<MarkValue>, AllocError> {
+    let Some(file) = file else {
+        return Ok(None);
+    };
     Ok(Some(MarkValue {
         literal: String::from_str(alloc, "BINARY_STREAM")?,
-        file,
+        file: Some(String::from_str(alloc, file)?),
     }))
 }
 

@@ -7,6 +7,10 @@ use msi_query_tokens::token::Kind;
 /// Said of `TEMPORARY`.
 const TEMPORARY: &str = "a file has no temporary rows; leave TEMPORARY out";
 
+/// Said of a text that begins as no statement.
+const OTHER_STATEMENT: &str =
+    "expected INSERT, UPDATE, DELETE, CREATE TABLE, ALTER TABLE or DROP TABLE";
+
 /// Said of `HOLD` and `FREE`.
 const HOLD: &str = "HOLD and FREE count uses within a session, which a file doesn't have";
 
@@ -113,7 +117,7 @@ pub fn session_sentence(word: &str) -> Option<&'static str> {
 pub(crate) fn sentence_at(pieces: &[Piece<'_>], place: usize, expected: Expected) -> &'static str {
     match expected {
         Expected::Select => other_command(pieces, place).unwrap_or(expected.description()),
-        Expected::Query => other_statement(pieces),
+        Expected::Query => OTHER_STATEMENT,
         Expected::End | Expected::From | Expected::CloseBracket | Expected::Join | Expected::On => {
             continued(pieces, place).unwrap_or(expected.description())
         }
@@ -133,21 +137,6 @@ fn other_command(pieces: &[Piece<'_>], place: usize) -> Option<&'static str> {
         Some("query prints the rows of a SELECT; exec carries out statements")
     } else {
         None
-    }
-}
-
-/// Returns what is said of a text that begins as no statement.
-fn other_statement(pieces: &[Piece<'_>]) -> &'static str {
-    let is_alter = match pieces.first() {
-        Some(first) => first.is_word("ALTER"),
-        None => false,
-    };
-    if !is_alter {
-        return "expected INSERT, UPDATE, DELETE, CREATE TABLE or DROP TABLE";
-    }
-    match pieces.last() {
-        Some(last) => session_sentence(last.text).unwrap_or("ALTER TABLE is not supported yet"),
-        None => "ALTER TABLE is not supported yet",
     }
 }
 

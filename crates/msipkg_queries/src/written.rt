@@ -11,7 +11,7 @@ use std::alloc::{AllocError, Global};
 pub struct Written<'a> {
     pub text: &'a str,
     /// The values that take the places of its marks, in order.
-    pub values: &'a [MarkValue<'a>],
+    pub values: &'a [MarkValue],
 }
 
 /// Returns the pieces that a text stands for: values in place of its marks, no semicolon at its end, and columns
@@ -85,7 +85,7 @@ fn is_mark(piece: Piece<'_>) -> bool {
 fn with_values<'a>(
     alloc: Global,
     pieces: &[Piece<'a>],
-    values: &'a [MarkValue<'a>],
+    values: &'a [MarkValue],
 ) -> Result<Vec<Piece<'a>>, AllocError> {
     let mut filled = Vec::with_capacity(alloc, pieces.len())?;
     let mut left = values;

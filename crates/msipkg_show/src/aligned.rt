@@ -36,7 +36,7 @@ fn widen_by_row<'a>(
     widths: &mut Widths,
 ) {
     for place in 0..rows.columns().len() {
-        match nulls.value_in(rows, number, place) {
+        match nulls.shown_in(rows, number, place) {
             ValueView::Str(text) => widths.widen_by_text(place, style, text),
             value => widths.widen(place, value_width(style, value)),
         }
@@ -88,7 +88,7 @@ fn write_row<'a>(
 ) {
     let count = rows.columns().len();
     for place in 0..count {
-        let value = nulls.value_in(rows, number, place);
+        let value = nulls.shown_in(rows, number, place);
         write_value(style, value, output);
         if place + 1 < count {
             widths.fill_up(place, value_width(style, value), output);

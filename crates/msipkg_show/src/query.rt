@@ -233,12 +233,19 @@ fn selected_rows<'a>(
     if !selection.has_only_literals {
         return package.select_rows(select);
     }
-    let rows = package.select_rows(select.clone(alloc)?)?;
+    let name = first_name(alloc, package, select.clone(alloc)?)?;
     let mut names = Vec::new(alloc);
-    if let [column, ..] = rows.columns() {
-        for _ in 0..selection.literals.len() {
-            names.push(column.name())?;
-        }
+    for _ in 0..selection.literals.len() {
+        names.push(name.as_str())?;
     }
     package.select_rows(select.columns(names.as_slice())?)
+}
+
+/// Returns the name of the first column of a query.
+fn first_name(alloc: Global, package: &Package<Opened>, select: Select) -> Result<String, Error> {
+    let rows = package.select_rows(select)?;
+    match rows.columns() {
+        [column, ..] => Ok(String::from_str(alloc, column.name())?),
+        [] => Ok(String::new(alloc)),
+    }
 }
