@@ -102,6 +102,13 @@ impl<F: Source> Package<F> {
         self.is_unwritten
     }
 
+    /// Returns whether there are storages below the root, which the package doesn't have and `flush` refuses.
+    pub fn has_storages(&self) -> bool
+        ensures { result ≡ self.now.state.has_storages }
+    {
+        self.has_storages
+    }
+
     /// Returns whether there is a table of this name.
     pub fn has_table(&self, name: &str) -> bool
         ensures { result ≡ has_one name.now self.now.state.kept.database }

@@ -1,6 +1,6 @@
 //! The installer's lists of the streams and of the storages of a package, which no file has as tables.
 
-use msi_query::parts::{SelectTree, select_tree};
+use msi_query::parts::{SelectTree, Side, select_tree};
 use msipkg_packages::msi::{Column, Error, Insert, Package, Select, Text, Value, ValueView};
 use msipkg_packages::output::{Failure, Opened};
 use msipkg_packages::{new_package, rows_of};
@@ -17,73 +17,81 @@ pub const STORAGES: &str = "_Storages";
 /// it names as tables.
 ///
 /// # Errors
-/// Fails if a query names such a list beside a table, and as `with_stream_lists` does.
+/// Fails if a query names such a list beside a table, if the package has storages, whose names aren't read, and as
+/// `with_stream_lists` does.
 pub fn lists_for(
     alloc: Global,
     package: &Package<Opened>,
     query: &Select,
 ) -> Result<Option<Package<Opened>>, Failure> {
     let named = named_in(package, select_tree(query));
-    match (named.lists, named.tables) {
-        (0, _) => Ok(None),
-        (_, 0) => Ok(Some(with_stream_lists(alloc, package)?)),
-        _ => Err(Failure::rule("_Streams and _Storages are asked without other tables")),
+    if named.streams == 0 && named.storages == 0 {
+        return Ok(None);
     }
+    if named.tables > 0 {
+        return Err(Failure::rule("_Streams and _Storages are asked without other tables"));
+    }
+    if named.storages > 0 && package.has_storages() {
+        return Err(Failure::rule("the package has storages, whose names aren't read"));
+    }
+    Ok(Some(with_stream_lists(alloc, package)?))
 }
 
-/// How many lists and how many tables a query names.
+/// How often a query names each list, and tables.
 #[derive(Clone, Copy)]
 struct Named {
-    lists: usize,
+    streams: usize,
+    storages: usize,
     tables: usize,
 }
 
+/// No list and no table is named.
+const NONE: Named = Named {
+    streams: 0,
+    storages: 0,
+    tables: 0,
+};
+
 impl Named {
     fn of(package: &Package<Opened>, name: &str) -> Named {
-        if is_list_name(name) && !package.has_table(name) {
-            Named {
-                lists: 1,
-                tables: 0,
-            }
-        } else {
-            Named {
-                lists: 0,
-                tables: 1,
-            }
+        match name {
+            STREAMS if !package.has_table(STREAMS) => Named { streams: 1, ..NONE },
+            STORAGES if !package.has_table(STORAGES) => Named {
+                storages: 1,
+                ..NONE
+            },
+            _ => Named { tables: 1, ..NONE },
         }
     }
 
     fn and(self, other: Named) -> Named {
         Named {
-            lists: self.lists.saturating_add(other.lists),
+            streams: self.streams.saturating_add(other.streams),
+            storages: self.storages.saturating_add(other.storages),
             tables: self.tables.saturating_add(other.tables),
         }
     }
 }
 
-fn is_list_name(name: &str) -> bool {
-    matches!(name, "_Streams" | "_Storages")
-}
-
 fn named_in(package: &Package<Opened>, tree: &SelectTree) -> Named {
     match tree {
         SelectTree::Table { name, .. } => Named::of(package, name.as_str()),
-        SelectTree::Join { left, right, .. } => named_in(package, left).and(named_in(package, right)),
-        SelectTree::Product { sides, .. } => {
-            let mut named = Named {
-                lists: 0,
-                tables: 0,
-            };
-            for side in sides.as_slice() {
-                named = named.and(Named::of(package, side.table().as_str()));
-            }
-            named
+        SelectTree::Join { left, right, .. } => {
+            named_in(package, left).and(named_in(package, right))
         }
+        SelectTree::Product { sides, .. } => named_among(package, sides.as_slice()),
     }
 }
 
-/// Returns a package that has the lists of the streams and of the storages of another one as tables. A package that is
-/// opened has no storages.
+fn named_among(package: &Package<Opened>, sides: &[Side]) -> Named {
+    let mut named = NONE;
+    for side in sides {
+        named = named.and(Named::of(package, side.table().as_str()));
+    }
+    named
+}
+
+/// Returns a package that has the lists of the streams and of the storages of another one, which has none, as tables.
 ///
 /// # Errors
 /// Fails if a name of a stream can't be read, and if memory is refused.
