@@ -77,8 +77,8 @@ pub(crate) fn is_definition(alloc: Global, text: &str) -> bool {
     tokens.takes_word("CREATE") || tokens.takes_word("ALTER") || tokens.takes_word("DROP")
 }
 
-/// Reads a definition, such as ``CREATE TABLE `T` (`A` CHAR(72) NOT NULL, `B` LONG PRIMARY KEY `A`)``, ``ALTER TABLE `T`
-/// ADD `C` SHORT`` or ``DROP TABLE `T` ``.
+/// Reads a definition, such as ``CREATE TABLE `T` (`A` CHAR(72) NOT NULL, `B` LONG PRIMARY KEY `A`)``, ``ALTER TABLE
+/// `T` ADD `C` SHORT`` or ``DROP TABLE `T` ``.
 pub(crate) fn definition_of<'a>(alloc: Global, text: &'a str) -> Result<Definition<'a>, Failure> {
     let mut tokens = Tokens::new(alloc, text);
     if tokens.takes_word("CREATE") {

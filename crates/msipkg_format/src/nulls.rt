@@ -1,5 +1,5 @@
-//! Cells that are shown in the place of those that rows have: null in columns of streams, since rows know no package, and
-//! literals that a query selects.
+//! Cells that are shown in the place of those that rows have: null in columns of streams, since rows know no package,
+//! and literals that a query selects.
 
 use msi_table::{Column, Rows, Value, ValueView};
 use std::alloc::{AllocError, Global};

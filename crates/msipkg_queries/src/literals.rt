@@ -1,5 +1,5 @@
-//! Literals that a query selects beside columns. The library selects columns, so a literal is asked for as a column, and
-//! is put in its place when the rows are printed.
+//! Literals that a query selects beside columns. The library selects columns, so a literal is asked for as a column,
+//! and is put in its place when the rows are printed.
 
 use crate::pieces::{Piece, has_kind, is_at};
 use crate::values::value_at;
