@@ -239,13 +239,19 @@ fn row_stream_name(
     let mut name = String::from_str(alloc, table.name())?;
     for key in table.columns() {
         if key.is_primary_key()
-            && let Some(place) = columns.iter().position(|column| column.name() == key.name())
+            && let Some(value) = value_of(columns, row, key.name())
         {
             name.push('.')?;
-            push_key(ValueView::of(&row[place]), &mut name)?;
+            push_key(ValueView::of(value), &mut name)?;
         }
     }
     Ok(name)
+}
+
+/// Returns the value that a row has in a column.
+fn value_of<'a>(columns: &[&Column], row: &'a [Value], column: &str) -> Option<&'a Value> {
+    let place = columns.iter().position(|other| other.name() == column)?;
+    row.get(place)
 }
 
 fn fitted_update<'a>(
