@@ -143,6 +143,6 @@ pub fn check_marks(alloc: Global, marks: usize, values: usize) -> Result<(), Fai
         return Ok(());
     }
     Err(said(format!(in alloc;
-        "each ? takes one --value: the number of ? is {marks}, and that of values is {values}"
+        "each ? takes a value: the number of ? is {marks}, and that of values is {values}"
     )))
 }
