@@ -3,11 +3,13 @@
 use crate::definition::Definition;
 use crate::outcome::Carried;
 use crate::stream_changes::{fill_streams, streams_met};
+use msipkg_format::Shown;
 use msipkg_import::{VALIDATION, change_validation};
 use msipkg_packages::msi::parts::{deleted_rows, row_count, updated_rows};
 use msipkg_packages::msi::{Error, Package, Statement};
 use msipkg_packages::output::{Failure, Opened, System};
-use msipkg_queries::{Fitted, Written, explained, fitted_statement, stream_files};
+use msipkg_queries::{Fitted, Written, explained, fitted_statement, said, stream_files};
+use std::alloc::Global;
 
 /// Carries out a change of rows and of their streams, and returns what it did. The rows are counted first, but why that
 /// fails is reported last.
@@ -89,6 +91,7 @@ pub(crate) fn counted(package: &Package<Opened>, statement: &Statement) -> Resul
 
 /// Carries out a change of tables, and returns what it did. After a failure nothing has changed.
 pub(crate) fn apply_definition(
+    alloc: Global,
     package: &mut Package<Opened>,
     definition: Definition<'_>,
 ) -> Result<Carried, Failure> {
@@ -98,6 +101,7 @@ pub(crate) fn apply_definition(
             Ok(Carried::Created)
         }
         Definition::Add { table, column } => {
+            check_new(alloc, package, table, column.name())?;
             package.add_column(table, column)?;
             Ok(Carried::Added)
         }
@@ -105,5 +109,21 @@ pub(crate) fn apply_definition(
             package.drop_table(table)?;
             Ok(Carried::Dropped)
         }
+    }
+}
+
+/// Fails if a table has a column of this name.
+fn check_new(
+    alloc: Global,
+    package: &Package<Opened>,
+    table: &str,
+    column: &str,
+) -> Result<(), Failure> {
+    match package.get_table(table) {
+        Some(known) if known.has_column(column) => {
+            let (table, column) = (Shown::escaped(table), Shown::escaped(column));
+            Err(said(format!(in alloc; "{table}: column {column} is there already")))
+        }
+        Some(_) | None => Ok(()),
     }
 }

@@ -158,7 +158,7 @@ fn apply_tables(
     if matches!(definition, Definition::Create { .. } | Definition::Add { .. }) {
         add_validation(alloc, package)?;
     }
-    apply_definition(package, definition)
+    apply_definition(alloc, package, definition)
 }
 
 fn at_statement(alloc: Global, failure: Failure, text: &str) -> Failure {
