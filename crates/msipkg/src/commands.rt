@@ -66,14 +66,7 @@ fn run_matched(
     errors: &mut Output,
 ) -> u8 {
     match given_values(rt.alloc(), matches) {
-        Ok(values) => run_given(
-            rt,
-            matches,
-            values.as_slice(),
-            is_terminal,
-            output,
-            errors,
-        ),
+        Ok(values) => run_given(rt, matches, values.as_slice(), is_terminal, output, errors),
         Err(error) => {
             report("--value", &Failure::from(error), errors);
             1
@@ -82,13 +75,14 @@ fn run_matched(
 }
 
 /// Returns the values that are given for marks.
-fn given_values(
-    alloc: Global,
-    matches: &ArgMatches<'_>,
-) -> Result<Vec<MarkValue>, AllocError> {
+fn given_values(alloc: Global, matches: &ArgMatches<'_>) -> Result<Vec<MarkValue>, AllocError> {
     match matches.subcommand() {
         Some((_, given)) => {
-            mark_values(alloc, given_words(given, "value"), given_words(given, "value-file"))
+            mark_values(
+                alloc,
+                given_words(given, "value"),
+                given_words(given, "value-file"),
+            )
         }
         None => Ok(Vec::new(alloc)),
     }

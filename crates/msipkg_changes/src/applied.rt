@@ -21,8 +21,12 @@ pub(crate) fn apply_rows(
 ) -> Result<Carried, Failure> {
     let alloc = rt.alloc();
     let files = stream_files(alloc, written)?;
-    let Fitted { statement, streams } =
-        fitted_statement(alloc, package, statement, files.as_slice())?;
+    let Fitted { statement, streams } = fitted_statement(
+        alloc,
+        package,
+        statement,
+        files.as_slice(),
+    )?;
     let carried = counted(package, &statement);
     let streams = streams_met(alloc, package, &statement, streams);
     match apply_statement(package, statement) {

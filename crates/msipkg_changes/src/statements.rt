@@ -155,7 +155,10 @@ fn apply_tables(
     package: &mut Package<Opened>,
     definition: Definition<'_>,
 ) -> Result<Carried, Failure> {
-    if matches!(definition, Definition::Create { .. } | Definition::Add { .. }) {
+    if matches!(
+        definition,
+        Definition::Create { .. } | Definition::Add { .. }
+    ) {
         add_validation(alloc, package)?;
     }
     apply_definition(alloc, package, definition)

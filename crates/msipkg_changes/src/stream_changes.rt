@@ -19,7 +19,9 @@ pub(crate) fn streams_met<'a>(
         (StatementStreams::OfRows(streams), _) => Ok(streams),
         (StatementStreams::OfUpdate(streams), Statement::Update(update)) => {
             if streams.sets_key {
-                return Err(Failure::rule("a key and a stream of its row are set one after the other"));
+                return Err(Failure::rule(
+                    "a key and a stream of its row are set one after the other",
+                ));
             }
             let rows = package.select_rows(updated_rows(update)?)?;
             Ok(streams_of(alloc, rows, &streams)?)
@@ -67,8 +69,11 @@ pub(crate) fn fill_from(
 ) -> Result<(), Failure> {
     match rt.read(path) {
         Ok(bytes) => {
-            fill_stream(package, name, bytes.as_slice())
-                .map_err(|failure| failure.at(rt.alloc(), "stream", name))
+            fill_stream(package, name, bytes.as_slice()).map_err(|failure| failure.at(
+                rt.alloc(),
+                "stream",
+                name,
+            ))
         }
         Err(error) => Err(Failure::from(error).at(rt.alloc(), "file", path)),
     }

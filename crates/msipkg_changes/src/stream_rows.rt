@@ -26,8 +26,12 @@ pub(crate) fn apply_streams(
     let alloc = rt.alloc();
     let mut lists = with_stream_lists(alloc, package)?;
     let files = stream_files(alloc, written)?;
-    let Fitted { statement, streams } =
-        fitted_statement(alloc, &lists, statement, files.as_slice())?;
+    let Fitted { statement, streams } = fitted_statement(
+        alloc,
+        &lists,
+        statement,
+        files.as_slice(),
+    )?;
     let carried = counted(&lists, &statement);
     let streams = streams_met(alloc, &lists, &statement, streams);
     if let Err(failure) = apply_statement(&mut lists, statement) {
@@ -95,7 +99,9 @@ fn check_stored(
 ) -> Result<(), Failure> {
     for name in listed {
         if !package.has_stream(name.as_str()) {
-            let failure = Failure::rule("a new stream needs a file: write ? for Data, and --value-file");
+            let failure = Failure::rule(
+                "a new stream needs a file: write ? for Data, and --value-file",
+            );
             return Err(failure.at(alloc, "stream", name.as_str()));
         }
     }

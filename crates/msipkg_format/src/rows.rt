@@ -286,7 +286,10 @@ fn write_row<'a>(
             output.push_str(between);
         }
         if has_lines {
-            printer.printing.style.print(nulls.name_of(rows.columns(), place), output);
+            printer
+                .printing
+                .style
+                .print(nulls.name_of(rows.columns(), place), output);
             output.push_str(" = ");
         }
         let value = nulls.shown_in(rows, number, place);

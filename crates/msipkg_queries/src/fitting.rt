@@ -8,11 +8,11 @@ use crate::row_streams::{
 use msi_query::parts::{
     DeleteParts, InsertParts, NewRow, UpdateParts, delete_parts, insert_parts, update_parts,
 };
+use msipkg_packages::has_null_streams;
 use msipkg_packages::msi::{
     Column, ColumnType, Delete, Error, Insert, Items, Package, Statement, Table, Text, Update,
     Value, ValueView,
 };
-use msipkg_packages::has_null_streams;
 use msipkg_packages::output::{Opened, push_key};
 use std::alloc::{AllocError, Global};
 
@@ -142,7 +142,9 @@ fn fitted_insert<'a>(
         Some(_) | None => fitted.rows = rows,
     }
     let FittedRows { rows, streams } = fitted;
-    let insert = Insert::into(alloc, name.as_str())?.columns(names.as_slice())?.rows(rows)?;
+    let insert = Insert::into(alloc, name.as_str())?
+        .columns(names.as_slice())?
+        .rows(rows)?;
     Ok(Fitted {
         statement: Statement::Insert(insert),
         streams: StatementStreams::OfRows(streams),
@@ -273,7 +275,13 @@ fn fitted_update<'a>(
     };
     for set in sets.into_vec() {
         let value = set.value().clone(alloc)?;
-        fitted = fitted.set(alloc, column_named(table, set.column()), set.column(), value, files)?;
+        fitted = fitted.set(
+            alloc,
+            column_named(table, set.column()),
+            set.column(),
+            value,
+            files,
+        )?;
     }
     let FittedUpdate {
         mut update,

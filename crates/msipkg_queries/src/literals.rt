@@ -49,7 +49,11 @@ fn items_with_literals(pieces: &[Piece<'_>]) -> Option<Items> {
     };
     let end = pieces.iter().position(|piece| piece.kind == Kind::From)?;
     let has_literal = (start..end).any(|i| is_literal_at(pieces, i));
-    if has_literal { Some(Items { start, end }) } else { None }
+    if has_literal {
+        Some(Items { start, end })
+    } else {
+        None
+    }
 }
 
 /// Returns whether an item is a literal that begins at a place.
@@ -57,7 +61,9 @@ fn is_literal_at(pieces: &[Piece<'_>], place: usize) -> bool {
     let is_first = is_at(pieces, place.saturating_sub(1), Kind::Comma)
         || is_at(pieces, place.saturating_sub(1), Kind::Select)
         || is_at(pieces, place.saturating_sub(1), Kind::Distinct);
-    let last = if is_at(pieces, place, Kind::Sub) && is_at(pieces, place.saturating_add(1), Kind::Number) {
+    let last = if is_at(pieces, place, Kind::Sub)
+        && is_at(pieces, place.saturating_add(1), Kind::Number)
+    {
         place.saturating_add(1)
     } else {
         place

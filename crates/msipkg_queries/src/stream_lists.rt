@@ -113,10 +113,7 @@ fn list_columns(alloc: Global) -> Result<Vec<Column>, Error> {
     Ok(columns)
 }
 
-fn stream_rows(
-    alloc: Global,
-    package: &Package<Opened>,
-) -> Result<Vec<Vec<Value>>, Failure> {
+fn stream_rows(alloc: Global, package: &Package<Opened>) -> Result<Vec<Vec<Value>>, Failure> {
     let mut rows = Vec::new(alloc);
     for name in package.streams() {
         let mut row = Vec::new(alloc);
@@ -131,10 +128,7 @@ fn stream_rows(
 ///
 /// # Errors
 /// Fails if memory is refused.
-pub fn listed_names(
-    alloc: Global,
-    lists: &Package<Opened>,
-) -> Result<BTreeSet<String>, Failure> {
+pub fn listed_names(alloc: Global, lists: &Package<Opened>) -> Result<BTreeSet<String>, Failure> {
     let mut names = BTreeSet::new(alloc);
     let mut rows = rows_of(alloc, lists, STREAMS)?;
     for _ in 0..rows.len() {

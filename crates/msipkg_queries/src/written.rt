@@ -37,11 +37,7 @@ pub(crate) fn pieces_of<'a>(
 ///
 /// # Errors
 /// Fails if memory is refused.
-pub fn changes_table(
-    alloc: Global,
-    written: Written<'_>,
-    table: &str,
-) -> Result<bool, AllocError> {
+pub fn changes_table(alloc: Global, written: Written<'_>, table: &str) -> Result<bool, AllocError> {
     let pieces = pieces_of(alloc, written)?;
     Ok(only_table(pieces.as_slice()) == Some(table))
 }
@@ -50,11 +46,7 @@ pub fn changes_table(
 ///
 /// # Errors
 /// Fails if memory is refused.
-pub fn sets_only(
-    alloc: Global,
-    written: Written<'_>,
-    column: &str,
-) -> Result<bool, AllocError> {
+pub fn sets_only(alloc: Global, written: Written<'_>, column: &str) -> Result<bool, AllocError> {
     let pieces = pieces_of(alloc, written)?;
     let pieces = pieces.as_slice();
     let end = pieces.iter().position(|piece| piece.kind == Kind::Where);

@@ -199,11 +199,7 @@ fn write_head(file: &str, query: &Query<'_>, output: &mut Output) {
 }
 
 /// Shows literals in the places of the columns that stand for them.
-fn add_literals(
-    alloc: Global,
-    selection: &Selection,
-    nulls: &mut NullCells,
-) -> Result<(), Error> {
+fn add_literals(alloc: Global, selection: &Selection, nulls: &mut NullCells) -> Result<(), Error> {
     for literal in &selection.literals {
         let name = String::from_str(alloc, literal.name.as_str())?;
         nulls.add_literal(literal.place, name, literal.value.clone(alloc)?)?;
