@@ -1,7 +1,7 @@
 //! The parts of text archives.
 
 use crate::losses::has_localizable_type;
-use msi_idt::ArchiveColumn;
+use msi_exchange::ArchiveColumn;
 use msipkg_packages::msi::{Column, Error, IntoText, Items, Text, Value};
 use std::alloc::Global;
 

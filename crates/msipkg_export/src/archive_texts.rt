@@ -2,7 +2,7 @@
 
 use crate::archive_pages::ArchivePage;
 use crate::archive_parts::{archive_columns, key_names};
-use msi_idt::{Archive, ArchiveError, write, write_row};
+use msi_exchange::{Archive, ArchiveError, write, write_row};
 use msipkg_format::{Shown, Style};
 use msipkg_packages::msi::{CodePage, Column, Error, IntoText, Items, Value};
 use msipkg_packages::output::{Failure, Output};

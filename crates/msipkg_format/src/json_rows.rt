@@ -2,7 +2,7 @@
 
 use crate::nulls::NullCells;
 use crate::{Style, write_text};
-use msi_csv_json::{JsonWriter, write_json_object, write_json_row, write_json_value};
+use msi_exchange::{JsonWriter, write_json_object, write_json_row, write_json_value};
 use msi_table::{Row, Value};
 use msipkg_system::Output;
 use std::alloc::{AllocError, Global};

@@ -7,7 +7,7 @@ use crate::nulls::NullCells;
 use crate::repeated::{FILE, Members, has_repeated, member_names, write_named};
 use crate::values::{STREAM, write_value};
 use csv::Writer;
-use msi_csv_json::write_csv_row;
+use msi_exchange::write_csv_row;
 use msi_table::{Column, Row, Rows, Value};
 use msipkg_system::Output;
 use std::alloc::Global;

@@ -2,7 +2,7 @@
 
 use crate::given::{Given, GivenColumn, GivenTable};
 use csv::{ReaderBuilder, StringRecord};
-use msi_csv_json::csv_value;
+use msi_exchange::csv_value;
 use msipkg_format::Failure;
 use msipkg_packages::msi::{ColumnType, Error, Value};
 use std::alloc::{AllocError, Global};

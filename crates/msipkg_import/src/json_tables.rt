@@ -2,7 +2,7 @@
 
 use crate::given::{GivenColumn, GivenTable};
 use crate::json_packages::{items_in, text_in};
-use msi_csv_json::json_value;
+use msi_exchange::json_value;
 use msipkg_format::Failure;
 use msipkg_packages::msi::{ColumnType, Value};
 use serde_json::Value as Json;

@@ -1,8 +1,7 @@
 //! Cells of tables, as `find` and `refs` list them. They print as rows or as JSON.
 
-use msipkg_format::{Failure, Grid, JsonObject, Shown, Style};
 use msipkg_packages::msi::{Rows, ValueView};
-use msipkg_packages::output::{Output, push_key};
+use msipkg_packages::output::{Failure, Grid, JsonObject, Output, Shown, Style, push_key};
 use std::alloc::{AllocError, Global};
 
 /// What was found in a package.

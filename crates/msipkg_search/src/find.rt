@@ -2,9 +2,8 @@
 
 use crate::cells::{Cell, CellList, CellSubject, Found, note_unread, row_key};
 use crate::matching::{Finder, Wanted};
-use msipkg_format::Style;
 use msipkg_packages::msi::{Package, Rows, Table, ValueView};
-use msipkg_packages::output::{Failure, Opened, Output, System};
+use msipkg_packages::output::{Failure, Opened, Output, Style, System};
 use msipkg_packages::{PackageFile, is_list, open_to_look, rows_of};
 use std::alloc::{AllocError, Global};
 

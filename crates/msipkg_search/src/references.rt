@@ -3,9 +3,8 @@
 use crate::cells::{Cell, CellList, CellSubject, Found, note_unread, row_key};
 use crate::known_keys::known_key;
 use crate::target::Target;
-use msipkg_format::{Shown, Style};
 use msipkg_packages::msi::{Column, Package, Rows, Table, ValueView};
-use msipkg_packages::output::{Failure, Opened, Output, System};
+use msipkg_packages::output::{Failure, Opened, Output, Shown, Style, System};
 use msipkg_packages::{PackageFile, open_to_look, rows_of};
 use std::alloc::{AllocError, Global};
 

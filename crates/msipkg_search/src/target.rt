@@ -1,9 +1,8 @@
 //! The row that `refs` asks for.
 
 use crate::cells::row_key;
-use msipkg_format::Shown;
 use msipkg_packages::msi::{Package, Rows, Table, ValueView};
-use msipkg_packages::output::{Failure, Opened, push_key};
+use msipkg_packages::output::{Failure, Opened, Shown, push_key};
 use msipkg_packages::rows_of;
 use msipkg_queries::{near_text, said};
 use std::alloc::{AllocError, Global};

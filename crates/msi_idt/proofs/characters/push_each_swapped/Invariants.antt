@@ -1,6 +1,0 @@
-use Rattle.std.proofs.Common.{◌≡◌, ◌++◌, map, string_bytes, encode_utf8_all}
-use Rattle.msi_idt.specs.Characters.{swapped}
-use Rattle.msi_idt.proofs.characters.push_each_swapped.Given as goal
-
-abbrev pub invariant-loop-character : goal.invariant-loop-character
-invariant-loop-character l = string_bytes l.text ≡ string_bytes l.initial.text ++ encode_utf8_all (map swapped l.yielded)

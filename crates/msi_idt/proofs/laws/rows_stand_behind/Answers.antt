@@ -1,5 +1,0 @@
-use Rattle.msi_idt.proofs.WrittenLemmas.{rows_behind}
-use Rattle.msi_idt.proofs.laws.rows_stand_behind.Goals as goal
-
-pub returns : goal.returns
-returns c = λ archive. rows_behind archive

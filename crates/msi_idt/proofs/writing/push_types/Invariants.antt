@@ -1,7 +1,0 @@
-use Rattle.std.proofs.Common.{◌≡◌, ◌∷◌, ◌++◌, take, string_bytes}
-use Rattle.std.specs.List.{flat_map}
-use Rattle.msi_idt.specs.Writing.{type_field}
-use Rattle.msi_idt.proofs.writing.push_types.Given as goal
-
-abbrev pub invariant-loop-column : goal.invariant-loop-column
-invariant-loop-column l = string_bytes l.text ≡ string_bytes l.initial.text ++ flat_map (λ column. 9 ∷ type_field column.field_type) (take l.column-index l.others)
