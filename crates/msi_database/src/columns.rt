@@ -1,6 +1,7 @@
 //! Adding a column to a table: it is described in the system tables, and each row has null in it.
 
-ghost use Rattle.std.specs.Prelude.{◌≡◌, ◌<◌, ◌≤◌, ◌++◌, ◌∷◌, [], IfErr, IfOk, None, Ok, OnErr, OnOk, Some, length, true};
+ghost use Rattle.std.specs.Prelude.{◌≡◌, ◌<◌, ◌≤◌, ◌++◌, ◌∷◌, [], IfErr, IfOk, None, Ok, OnErr, OnOk, Some, length};
+ghost use Rattle.std.specs.Prelude.{true};
 ghost use Rattle.msi_base.specs.Results.{OnlyMemory};
 ghost use Rattle.msi_base.specs.Refusals.{AnswersFirst, IsRefusal, first_refusal};
 ghost use Rattle.msi_table_values.specs.Columns.{HasShortLength, most_columns};

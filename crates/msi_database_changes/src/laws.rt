@@ -44,8 +44,8 @@ pub fn changes_keep_databases_sound()
     given_back_takes_one();
 }
 
-/// A table that is created or dropped, and a column that is added, leave a sound database well formed and sound, rows that fit their columns
-/// fitting, counts that equal the cells equal, and keys that are distinct distinct.
+/// A table that is created or dropped, and a column that is added, leave a sound database well formed and sound, rows
+/// that fit their columns fitting, counts that equal the cells equal, and keys that are distinct distinct.
 pub fn table_changes_keep_databases_sound()
     ensures { TableChangesKeep }
 {

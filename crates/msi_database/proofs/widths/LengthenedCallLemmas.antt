@@ -19,7 +19,10 @@ use Rattle.msi_database_changes.specs.Texts.{PoolInUse, UsedPool, in_use, settle
 use Rattle.msi_database_changes.specs.Widening.{widened}
 use Rattle.msi_database_changes.specs.declared.storing.Stored.{Stored}
 use Rattle.msi_database_changes.proofs.steps.AtWidthLemmas.{column_added, sound_widened}
-use Rattle.msi_database_changes.proofs.steps.RefusedLemmas.{first_refused}
+use Rattle.msi_database_changes.specs.Drop.{drop_refusals, early_drop_refusals}
+use Rattle.msi_database_changes.proofs.steps.RefusedLemmas.{behind_passed, first_refused, front_fails, front_holds, not_refused, refused_first, tail_holds}
+use Rattle.msi_base.proofs.OptionLemmas.{map_some}
+use Rattle.msi_database.specs.Listed.{IsKnown}
 use Rattle.msi_database_storage.specs.Kept.{Kept, kept_widened}
 use Rattle.msi_database.specs.AddingColumn.{CanHoldColumn, IsLengthened, column_streams, rows_for_column, rows_lengthened, tables_over}
 use Rattle.msi_database.specs.Keeping.{IsKeptDatabase}
@@ -157,3 +160,62 @@ module _ (k : Kept) (name : List ℕ) (column : ColumnDef) (columns : List Colum
 
   pub column_named_with : HaveOwnNames es
   column_named_with = subst HaveOwnNames (sym is.stored) left.names
+
+-- OVER THE OLD DATABASE, or over that with wider references
+
+module _ (old : Kept) (name : List ℕ) (columns : List ColumnDef) (rows : ColumnRows) (used : UsedPool) (over : Option Kept) (over_is : over ≡ wide_for used old) where
+  pub lengthened_held : CanHoldColumn (base_with (wide_for used old) old).database columns rows → CanHoldColumn (base_with over old).database columns rows
+  lengthened_held = subst (λ (w : Option Kept). CanHoldColumn (base_with w old).database columns rows) (sym over_is)
+
+  pub lengthened_made : (wide : Option Kept) → wide ≡ over → (streams given : List Stored) → streams ≡ given → given ≡ column_streams (base_with over old).database name columns rows
+      → (after listed : List TableDef) → after ≡ listed → listed ≡ tables_over (base_with over old).database name columns → (new : Pool) → new ≡ settled used.pool → (is_pool_used : Bool) → is_pool_used ≡ used.is_used
+      → IsLengthened old name columns rows used wide streams after new is_pool_used
+  lengthened_made wide wide_is streams given streams_are given_are after listed after_is listed_are new new_is is_pool_used uses = record {
+    base = wide_is ∙ over_is;
+    stored = streams_are ∙ given_are ∙ ap (λ (w : Option Kept). column_streams (base_with w old).database name columns rows) over_is;
+    tables = after_is ∙ listed_are ∙ ap (λ (w : Option Kept). tables_over (base_with w old).database name columns) over_is;
+    pool = new_is;
+    uses = uses;
+  }
+
+-- WHAT IS TOLD BEFORE ROWS ARE LOOKED AT
+
+pub known_there : (d : Database) (name : List ℕ) (t : TableDef) → IsKnown d name t → (u : TableCells) × (table_at name d ≡ Some u) × (u.columns ≡ t.columns)
+known_there d name t known =
+    let (u, at, is) = map_some (table_at t.name d) (λ (u : TableCells). record { name = t.name; columns = u.columns; long = d.pool.long }) t known.listed in
+    (u, ap (λ (n : List ℕ). table_at n d) (sym known.named) ∙ at, ap (λ (t : TableDef). t.columns) is)
+
+abbrev of_table : Database → ColumnDef → List ColumnDef → Refusals
+of_table d column columns = new_column_refusals columns column ++ (not (has_table validation_name d), NotFound) ∷ []
+
+missing_holds : (o : Option TableCells) (f : TableCells → Refusals) (kind : ErrorKind) → first_refusal (missing_or o (λ t. [])) ≡ Some kind → first_refusal (missing_or o f) ≡ Some kind
+missing_holds None f kind e = e
+missing_holds (Some t) f kind e = cc
+
+pub column_dropped_early : (d : Database) (name : List ℕ) (column : ColumnDef) (kind : ErrorKind) → first_refusal (early_drop_refusals d name) ≡ Some kind → first_refusal (early_column_refusals d name column) ≡ Some kind
+column_dropped_early d name column kind e =
+    tail_holds (drop_refusals d name) (missing_or (table_at name d) (λ t. [])) (missing_or (table_at name d) (λ t. of_table d column t.columns)) kind
+    (missing_holds (table_at name d) (λ t. of_table d column t.columns) kind) e
+
+module _ (d : Database) (name : List ℕ) (t : TableDef) (known : IsKnown d name t) (passed : first_refusal (early_drop_refusals d name) ≡ None) (column : ColumnDef) (seen : List ColumnDef) (seen_is : seen ≡ t.columns) where
+  early_is : first_refusal (early_column_refusals d name column) ≡ first_refusal (of_table d column seen)
+  early_is =
+      let (u, at, same) = known_there d name t known in
+      let drops = (front_fails (drop_refusals d name) (missing_or (table_at name d) (λ t. [])) passed).0 in
+      behind_passed (drop_refusals d name) (missing_or (table_at name d) (λ t. of_table d column t.columns)) drops
+      ∙ ap (λ (o : Option TableCells). first_refusal (missing_or o (λ t. of_table d column t.columns))) at
+      ∙ ap (λ (cs : List ColumnDef). first_refusal (of_table d column cs)) (same ∙ sym seen_is)
+
+  pub column_judged : (kind : ErrorKind) → Err kind ≡ unless_refused {A = Unit {0}} (new_column_refusals seen column) tt → first_refusal (early_column_refusals d name column) ≡ Some kind
+  column_judged kind e = early_is ∙ front_holds (new_column_refusals seen column) ((not (has_table validation_name d), NotFound) ∷ []) kind (refused_first (new_column_refusals seen column) tt kind (sym e))
+
+  module _ (x : Unit {0}) (answer : Ok x ≡ unless_refused (new_column_refusals seen column) tt) (there : Bool) (there_is : there ≡ has_table validation_name d) where
+    judged : first_refusal (early_column_refusals d name column) ≡ first_refusal ((not there, NotFound) ∷ [])
+    judged = early_is ∙ behind_passed (new_column_refusals seen column) ((not (has_table validation_name d), NotFound) ∷ []) (not_refused (new_column_refusals seen column) tt x (sym answer)).0
+        ∙ ap (λ b. first_refusal ((not b, NotFound) ∷ [])) (sym there_is)
+
+    pub column_unvalidated : there ≡ false → first_refusal (early_column_refusals d name column) ≡ Some NotFound
+    column_unvalidated none = judged ∙ ap (λ b. first_refusal ((not b, NotFound) ∷ [])) none
+
+    pub column_passes : there ≡ true → first_refusal (early_column_refusals d name column) ≡ None
+    column_passes yes = judged ∙ ap (λ b. first_refusal ((not b, NotFound) ∷ [])) yes
