@@ -1,11 +1,10 @@
 //! Adding a column to a table: it is described in the system tables, and each row has null in it.
 
-ghost use Rattle.std.specs.Prelude.{◌≡◌, ◌<◌, ◌≤◌, ◌++◌, ◌∷◌, [], IfErr, IfOk, None, Ok, OnErr, OnOk, Some, length};
-ghost use Rattle.std.specs.Prelude.{true};
+ghost use Rattle.std.specs.Prelude.{◌≡◌, ◌+◌, ◌<◌, ◌≤◌, ◌++◌, ◌∷◌, [], IfErr, IfOk, None, Ok, OnErr, OnOk, Some};
+ghost use Rattle.std.specs.Prelude.{length, true};
 ghost use Rattle.msi_base.specs.Results.{OnlyMemory};
 ghost use Rattle.msi_base.specs.Refusals.{AnswersFirst, IsRefusal, first_refusal};
 ghost use Rattle.msi_table_values.specs.Columns.{HasShortLength, most_columns};
-ghost use Rattle.msi_table.specs.Tables.{CanStore};
 ghost use Rattle.msi_database_schema.specs.Keys.{is_table_name as is_name_of_table};
 ghost use Rattle.msi_database_changes.specs.AddColumn as adds;
 ghost use Rattle.msi_database_changes.specs.AddColumn.{early_column_refusals};
@@ -14,7 +13,6 @@ ghost use Rattle.msi_database_changes.specs.Storing.{HaveOwnNames};
 ghost use Rattle.msi_database_changes.specs.Texts.{in_use};
 ghost use Rattle.msi_database.specs.AddingColumn.{CanHoldColumn, IsLengthened, column_streams, rows_lengthened};
 ghost use Rattle.msi_database.specs.AddingColumn.{tables_over};
-ghost use Rattle.msi_database.specs.Creating.{new_table};
 ghost use Rattle.msi_database.specs.Listed.{IsKnown};
 ghost use Rattle.msi_database.specs.Making.{Leaves, Makes, TellsUse, base_with, wide_for};
 
@@ -49,6 +47,14 @@ fn columns_with(
     let mut all = copied_columns(alloc, columns)?.into_vec();
     all.push(column)?;
     Ok(Items::from_vec(all))
+}
+
+/// The number of a column behind these.
+fn next_number(columns: &[Column]) -> u16
+    requires { length columns.now < 32 }
+    ensures { result ≡ length columns.now + 1 }
+{
+    columns.len() as u16 + 1
 }
 
 impl Database {
@@ -93,7 +99,7 @@ impl Database {
         let alloc = self.alloc;
         let name = table.name();
         let own = rows_with_nulls(alloc, self.sound_rows(table)?)?;
-        let number = table.columns().len() as u16 + 1;
+        let number = next_number(table.columns());
         let describing = Vec::from_array(alloc, [column_row(alloc, name, number, column)?])?;
         let columns = self.rows_with(pool, COLUMNS, describing)?;
         let validating = Vec::from_array(alloc, [validation_row(alloc, name, column)?])?;
@@ -108,7 +114,7 @@ impl Database {
     fn column_streams(&self, new: &Table, rows: ColumnRows) -> Result<Vec<Stored>, Error>
         requires sound { is_sound_one self.now.database ≡ true }
         requires named { is_name_of_table new.now.name ≡ true }
-        requires new { new.now ≡ new_table self.now.database new.now.name new.now.columns }
+        requires long { new.now.long ≡ self.now.database.pool.long }
         requires held { CanHoldColumn self.now.database new.now.columns rows }
         ensures ok { IfOk result (λ stored.
             stored.items ≡ column_streams self.now.database new.now.name new.now.columns rows) }
@@ -126,7 +132,7 @@ impl Database {
     }
 
     fn tables_over(&self, new: Table) -> Result<Items<Table>, Error>
-        requires { new ≡ new_table self.now.database new.name new.columns }
+        requires { new.long ≡ self.now.database.pool.long }
         ensures ok { IfOk result (λ tables. tables ≡ tables_over self.now.database new.name new.columns) }
         ensures kind { OnlyMemory result }
     {

@@ -75,6 +75,10 @@ present_more {X} f g k (suc m) n xs x at same last e =
     ∙ ap (option_map (λ (zs : List X). y ∷ zs)) behind
     ∙ ap (λ (zs : List X). Some (zs ++ x ∷ [])) (sym whole)
 
+some_behind : {X : Type 0} (b : Bool) (o : Option X) (x : X) → (if b then None else o) ≡ Some x → o ≡ Some x
+some_behind true o x e = cc
+some_behind false o x e = e
+
 -- ---- a column keeps the name of its row
 
 name_described : (o : Option (List Value)) (c : ColumnDef) → (described o c).name ≡ c.name
@@ -148,15 +152,18 @@ module _ (s : SchemaRows) (name : List ℕ) (columns : List ColumnDef) (column :
       (ap (λ (j : ℕ). has_number (j + 1) row) e ∙ has_own_number name (length columns + 1) column)
       ∙ column_back now name (length columns + 1) column new.describable own_validation
 
+  -- what rows with numbers from 1 on give
+  abbrev read : List (List Value) → Option (List ColumnDef)
+  read rows = if length rows == 0 then None else all_present (map (λ i. option_and_then (column_of_row now name) (find (has_number (i + 1)) rows)) (numbers_from 0 (length rows)))
+
   own_columns : columns_of now name ≡ Some (columns ++ column ∷ [])
-  own_columns = by_test (length (column_rows s name) == 0)
-      (λ t. let none = rw t at new.there in cc)
-      (λ t.
-      let there : all_present (map before (numbers_from 0 (length (column_rows s name)))) ≡ Some columns = rw t at new.there in
-      let many : length columns ≡ length (column_rows s name) = present_many before 0 (length (column_rows s name)) columns there in
-      let some : (suc (length (column_rows s name)) == 0) ≡ false = grind (arith, nat_tests) in
-      rw own_rows (ap (λ b. if b then None else all_present (map after (numbers_from 0 (suc (length (column_rows s name)))))) some
-      ∙ present_more after before 0 (length (column_rows s name)) (length columns) columns column (omega arith) (λ i c l h inside. same_before i c l h inside) (last_column (length columns) refl) there))
+  own_columns =
+      let m = length (column_rows s name) in
+      let there : all_present (map before (numbers_from 0 m)) ≡ Some columns = some_behind (m == 0) (all_present (map before (numbers_from 0 m))) columns new.there in
+      let many : length columns ≡ m = present_many before 0 m columns there in
+      let some : (suc m == 0) ≡ false = grind (arith, nat_tests) in
+      ap read own_rows ∙ ap (λ b. if b then None else all_present (map after (numbers_from 0 (suc m)))) some
+      ∙ present_more after before 0 m (length columns) columns column (omega (arith, many)) (λ i c l h inside. same_before i c l h inside) (last_column (length columns) refl) there
 
   -- rules
   own_key : (r : List Value) → In r s.validation → bytes_eq name (text_at 0 r) ≡ true → bytes_eq column.name (text_at 1 r) ≡ false
