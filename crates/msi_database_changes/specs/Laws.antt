@@ -153,3 +153,12 @@ AddedColumnsAreDescribed = (d : Database) (name : List ℕ) (column : ColumnDef)
     → is_well_formed d ≡ true → RowsFit d → TablesAreDescribed d → table_at name d ≡ Some t
     → add_column d name column ≡ Ok c
     → schema_of (describing c.database) ≡ Some (put list_cmp name (t.columns ++ column ∷ []) (columns_by_name d))
+
+-- an added column has null in each row of its table, and the tables that neither have it nor describe it have the same
+-- rows
+abbrev pub AddedColumnsAreNull : Type 0
+AddedColumnsAreNull = (d : Database) (name : List ℕ) (column : ColumnDef) (c : Change)
+    → is_well_formed d ≡ true → add_column d name column ≡ Ok c
+    → (rows_at name c.database ≡ map (λ row. row ++ Null ∷ []) (rows_at name d))
+    × ((other : List ℕ) → bytes_eq name other ≡ false → bytes_eq columns_name other ≡ false
+    → bytes_eq validation_name other ≡ false → values_of c.database other ≡ values_of d other)

@@ -1,7 +1,7 @@
 //! Laws of accepted changes: each is the contract of a function that does nothing.
 
-ghost use Rattle.msi_database_changes.specs.Laws.{AddedColumnsAreDescribed, ChangesKeep, CountsTellTexts};
-ghost use Rattle.msi_database_changes.specs.Laws.{CreatedTablesAreDescribed};
+ghost use Rattle.msi_database_changes.specs.Laws.{AddedColumnsAreDescribed, AddedColumnsAreNull, ChangesKeep};
+ghost use Rattle.msi_database_changes.specs.Laws.{CountsTellTexts, CreatedTablesAreDescribed};
 ghost use Rattle.msi_database_changes.specs.Laws.{DeleteRemovesItsRows, DroppedTablesAreForgotten, InsertAddsItsRows};
 ghost use Rattle.msi_database_changes.specs.Laws.{LeadingNumbersAscend, TableChangesKeep, UpdateSetsItsRows};
 ghost use Rattle.msi_database_changes.specs.Recounting.{RecountsMakeExact};
@@ -80,6 +80,15 @@ pub fn created_tables_are_described()
 /// After a column was added the rows that describe its table give all its columns back, and those of the other tables.
 pub fn added_columns_are_described()
     ensures { AddedColumnsAreDescribed }
+{
+    taken_places_hold_their_text();
+    given_back_takes_one();
+}
+
+/// An added column has null in each row of its table. The tables that neither have it nor describe it have the rows
+/// that they had.
+pub fn added_columns_are_null()
+    ensures { AddedColumnsAreNull }
 {
     taken_places_hold_their_text();
     given_back_takes_one();

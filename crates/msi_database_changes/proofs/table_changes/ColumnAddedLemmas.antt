@@ -1,5 +1,5 @@
 -- A column that is added: its rows are inserted, and its table becomes longer. What each step keeps.
-use Rattle.std.proofs.Common.{◌≡◌, ℕ, ◌+◌, Bool, true, false, not, ◌||◌, List, [], ◌∷◌, ◌++◌, length, Option, Some, None, Result, Ok, refl, sym, ap, subst, ◌∙◌, bytes_eq}
+use Rattle.std.proofs.Common.{◌≡◌, ℕ, ◌+◌, Bool, true, false, not, ◌||◌, List, [], ◌∷◌, ◌++◌, length, map, Option, Some, None, Result, Ok, refl, sym, ap, subst, ◌∙◌, bytes_eq}
 use Rattle.std.specs.List.{list_all, list_any}
 use Rattle.std.proofs.lemmas.Bool.{and_parts, not-false, not-true, or_parts}
 use Rattle.msi_base.specs.declared.errors.ErrorKind.{ErrorKind}
@@ -21,17 +21,17 @@ use Rattle.msi_database_schema.specs.Keys.{is_table_name}
 use Rattle.msi_database_schema.specs.System.{columns_name, is_schema_table, is_system_table, tables_name, validation_name}
 use Rattle.msi_database_schema.proofs.ColumnBackLemmas.{IsDescribable}
 use Rattle.msi_database_schema.proofs.FaultLemmas.{texts_flip}
-use Rattle.msi_database_changes.specs.Database.{Database, has_table, is_sound, table_at}
+use Rattle.msi_database_changes.specs.Database.{Database, has_table, is_sound, table_at, values_of}
 use Rattle.msi_database_changes.specs.Changes.{Change, missing_or, no_change}
 use Rattle.msi_database_changes.specs.Create.{columns_are_named}
 use Rattle.msi_database_changes.specs.Drop.{drop_refusals}
 use Rattle.msi_database_changes.specs.Insert.{rows_inserted}
 use Rattle.msi_database_changes.specs.AddColumn.{add_column_at_width, column_inserted, early_column_refusals, new_column_refusals, with_new_column}
-use Rattle.msi_database_changes.specs.Laws.{KeysAreDistinct}
+use Rattle.msi_database_changes.specs.Laws.{KeysAreDistinct, rows_at}
 use Rattle.msi_database_changes.proofs.steps.RefusedLemmas.{front_fails, none_holds, not_refused, same_Ok, value_there}
 use Rattle.msi_database_changes.proofs.steps.StoredLemmas.{WellFormed}
 use Rattle.msi_database_changes.proofs.steps.TracksLemmas.{Tracks}
-use Rattle.msi_database_changes.proofs.steps.UntouchedTableLemmas.{LeavesUnlisted, unlisted_by, unlisted_on}
+use Rattle.msi_database_changes.proofs.steps.UntouchedTableLemmas.{LeavesUnlisted, Stays, rows_at_stay, stays_on, unlisted_by, unlisted_on, values_stay}
 use Rattle.msi_database_changes.proofs.row_changes.InsertedLemmas.{Inserted, inserted_parts}
 use Rattle.msi_database_changes.proofs.row_keys.KeysLemmas.{inserted_distinct}
 use Rattle.msi_database_changes.proofs.describing.ShownTablesLemmas.{ok_first}
@@ -40,7 +40,7 @@ use Rattle.msi_database_changes.proofs.table_changes.CreateLemmas.{inserted_keep
 use Rattle.msi_database_changes.proofs.table_changes.CreateRowsLemmas.{StepsOn, steps_on}
 use Rattle.msi_database_changes.proofs.table_changes.CreateTracksLemmas.{tracked_from, tracks_inserted}
 use Rattle.msi_database_changes.proofs.table_changes.DropLemmas.{Keeps, keeps_on}
-use Rattle.msi_database_changes.proofs.table_changes.LongerTableLemmas.{longer_distinct, longer_keeps, tracks_longer}
+use Rattle.msi_database_changes.proofs.table_changes.LongerTableLemmas.{longer_distinct, longer_elsewhere, longer_keeps, longer_values, tracks_longer}
 
 -- THE STEPS
 
@@ -176,3 +176,15 @@ module _ (takes : TakenPlacesHoldTheirText) (gives : GivenBackTakesOne) (d : Dat
       let t₁ = tracks_inserted takes gives d (no_change d) columns_name c_values r.first first_inserted c_named accepted.sound (tracked_from d) in
       let t₂ = tracks_inserted takes gives d r.first validation_name v_values r.second second_inserted v_named first_step.sound t₁ in
       subst (Tracks d) r.last (tracks_longer d r.second name column r.table table_still accepted.named (column_null r.second.database.pool.long) t₂)
+
+  -- what tables have
+  still : (other : List ℕ) → bytes_eq columns_name other ≡ false → bytes_eq validation_name other ≡ false → Stays d r.second.database other
+  still other in_columns in_validation = stays_on d r.first.database r.second.database other (first_step.leaves.others other in_columns) (second_step.leaves.others other in_validation)
+
+  pub column_nulls : rows_at name c.database ≡ map (λ row. row ++ Null ∷ []) (rows_at name d)
+  column_nulls = ap (λ (x : Change). rows_at name x.database) (sym r.last) ∙ longer_values r.second.database name column r.table table_still
+      ∙ ap (map (λ (row : List Value). row ++ Null ∷ [])) (rows_at_stay d r.second.database name (still name (texts_flip columns_name name ∙ apart.columns) (texts_flip validation_name name ∙ apart.validation)))
+
+  pub column_others : (other : List ℕ) → bytes_eq name other ≡ false → bytes_eq columns_name other ≡ false → bytes_eq validation_name other ≡ false → values_of c.database other ≡ values_of d other
+  column_others other own in_columns in_validation = ap (λ (x : Change). values_of x.database other) (sym r.last) ∙ longer_elsewhere r.second.database name column r.table table_still other own
+      ∙ values_stay d r.second.database other (still other in_columns in_validation)

@@ -3,7 +3,8 @@ use Rattle.std.proofs.Common.{◌≡◌, ℕ, ◌+◌, ◌<◌, Bool, true, fals
 use Rattle.std.specs.Prelude.{◌&&◌, not, unwrap_or, IsSomeAnd}
 use Rattle.std.specs.List.{AllByRecursion, list_all}
 use Rattle.std.specs.Option as options
-use Rattle.std.specs.Ordering.{eq_by_cmp}
+use Rattle.std.specs.Ordering.{eq_by_cmp, is_eq}
+use Rattle.std.specs.Cmp.{tied_itself}
 use Rattle.std.specs.Cmp.Lexicographic.{nat_list_cmp_total}
 use Rattle.std.specs.FinMap.Entries.{find-put, is_sorted-put}
 use Rattle.std.proofs.lemmas.Bool.{and_parts, and_from, cases_Bool}
@@ -27,7 +28,8 @@ use Rattle.msi_database_schema.specs.Keys.{is_table_name}
 use Rattle.msi_database_schema.specs.System.{validation_name, validation_columns}
 use Rattle.msi_database_schema.proofs.FaultLemmas.{texts_flip}
 use Rattle.msi_database_schema.proofs.AccountLemmas.{Enough}
-use Rattle.msi_database_changes.specs.Database.{Database, are_alike, is_sound, rows_of, table_at, with_table}
+use Rattle.msi_query.specs.Rows.{table_values}
+use Rattle.msi_database_changes.specs.Database.{Database, are_alike, is_sound, rows_of, table_at, values_of, with_table}
 use Rattle.msi_database_changes.specs.Changes.{Change}
 use Rattle.msi_database_changes.specs.AddColumn.{with_column, with_new_column, with_nulls}
 use Rattle.msi_database_changes.specs.Laws.{KeysAreDistinct, rows_at}
@@ -176,6 +178,17 @@ module _ (d : Database) (name : List ℕ) (column : ColumnDef) (t : TableCells) 
 
   found_now : (other : List ℕ) → table_at other now ≡ cond (eq_by_cmp list_cmp other name) (Some longer) (table_at other d)
   found_now other = find-put list_cmp nat_list_cmp_total other name longer d.tables
+
+  pub longer_there : table_at name now ≡ Some longer
+  longer_there = found_now name ∙ ap (λ r. cond (is_eq r) (Some longer) (table_at name d)) (tied_itself nat_list_cmp_total name)
+
+  -- each row has null more, and other tables have their rows
+  pub longer_values : rows_at name now ≡ map (λ row. row ++ value.Null ∷ []) (rows_at name d)
+  longer_values = rows_at_is name now longer longer_there ∙ ap (map (row_values d.pool.places)) (rows_longer column t) ∙ values_longer d.pool.places (rows_of t)
+      ∙ ap (map (λ (row : List Value). row ++ value.Null ∷ [])) (sym (rows_at_is name d t found))
+
+  pub longer_elsewhere : (other : List ℕ) → bytes_eq name other ≡ false → values_of now other ≡ values_of d other
+  longer_elsewhere other apart = ap (option_map (table_values d.pool.places)) (put_elsewhere name other longer d apart)
 
   module _ (well : WellFormed d) (no_key : column.is_primary_key ≡ false) (before : KeysAreDistinct d) where
     own_distinct : (other : List ℕ) (u : TableCells) → table_at other now ≡ Some longer → table_at other now ≡ Some u → has_pair same_key (map (key_of u.columns) (rows_at other now)) ≡ false
