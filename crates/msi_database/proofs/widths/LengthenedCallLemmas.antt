@@ -1,5 +1,6 @@
 -- A call that adds a column: what it makes of what it has in hand, and what refuses it.
-use Rattle.std.proofs.Common.{◌≡◌, ℕ, ◌≤◌, Bool, true, false, not, List, [], ◌∷◌, ◌++◌, length, Option, Some, None, Result, Ok, Err, refl, sym, ap, subst, ◌∙◌, inl, inr}
+use Rattle.std.proofs.Common.{◌≡◌, ℕ, ◌+◌, ◌<◌, ◌≤◌, Bool, true, false, not, List, [], ◌∷◌, ◌++◌, length, Option, Some, None, Result, Ok, Err, refl, sym, ap, subst, ◌∙◌, inl, inr, arith}
+use Rattle.std.proofs.lemmas.List.{length-append}
 use Rattle.msi_base.specs.declared.errors.ErrorKind.{ErrorKind}
 use Rattle.msi_base.specs.declared.errors.ErrorKind.TheVariants.{InvalidData, InvalidInput, NotFound}
 use Rattle.msi_base.specs.Refusals.{IsRefusal, Refusals, first_refusal, unless_refused}
@@ -219,3 +220,9 @@ module _ (d : Database) (name : List ℕ) (t : TableDef) (known : IsKnown d name
 
     pub column_passes : there ≡ true → first_refusal (early_column_refusals d name column) ≡ None
     column_passes yes = judged ∙ ap (λ b. first_refusal ((not b, NotFound) ∷ [])) yes
+
+pub few_columns : (all cs : List ColumnDef) (column : ColumnDef) → all ≡ cs ++ column ∷ [] → length cs < 32 → length all ≤ 32767
+few_columns all cs column is few =
+    let many : length (cs ++ column ∷ []) ≡ length cs + 1 = length-append cs (column ∷ []) in
+    let same : length all ≡ length (cs ++ column ∷ []) = ap length is in
+    omega (arith, many, same, few)
