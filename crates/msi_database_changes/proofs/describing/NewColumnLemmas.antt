@@ -1,5 +1,5 @@
 -- The rows of a column that is added to a table break no rule, and give it back behind the others.
-use Rattle.std.proofs.Common.{◌≡◌, ℕ, zero, suc, ◌+◌, ◌<◌, Bool, true, false, List, [], ◌∷◌, ◌++◌, length, refl, sym, ap, ◌∙◌, Some, None, arith, inl, inr, pos, w16}
+use Rattle.std.proofs.Common.{◌≡◌, ℕ, zero, suc, ◌+◌, ◌<◌, Bool, true, false, List, [], ◌∷◌, ◌++◌, length, refl, sym, ap, subst, ◌∙◌, Some, None, arith, inl, inr, pos, w16}
 use Rattle.std.specs.Prelude.{◌&&◌, ◌||◌, not, Option, map, option_map, option_and_then, is_some, if◌then◌else◌, find, bytes_eq, ◌==◌}
 use Rattle.std.specs.List.{list_any}
 use Rattle.std.specs.FinMap.{put, find as find_in}
@@ -60,7 +60,7 @@ present_many g k zero [] e = refl
 present_many g k zero (x ∷ xs) e = cc
 present_many g k (suc m) xs e =
     let (y, ys, first, rest, whole) = cons_present (g k) (map g (numbers_from (k + 1) m)) xs e in
-    rw whole (ap suc (present_many g (k + 1) m ys rest))
+    ap length whole ∙ ap suc (present_many g (k + 1) m ys rest)
 
 present_more : {X : Type 0} (f g : ℕ → Option X) (k m n : ℕ) (xs : List X) (x : X) → n ≡ k + m → ((i : ℕ) (y : X) → i < n → g i ≡ Some y → In y xs → f i ≡ Some y) → f n ≡ Some x
     → all_present (map g (numbers_from k m)) ≡ Some xs → all_present (map f (numbers_from k (suc m))) ≡ Some (xs ++ x ∷ [])
@@ -68,9 +68,9 @@ present_more f g k zero n [] x at same last e = let here : n ≡ k = omega arith
 present_more f g k zero n (y ∷ ys) x at same last e = cc
 present_more {X} f g k (suc m) n xs x at same last e =
     let (y, ys, first, rest, whole) = cons_present (g k) (map g (numbers_from (k + 1) m)) xs e in
-    let here : f k ≡ Some y = same k y (omega arith) first (rw whole (inl refl)) in
+    let here : f k ≡ Some y = same k y (omega arith) first (subst (In y) (sym whole) (inl refl)) in
     let behind : all_present (map f (numbers_from (k + 1) (suc m))) ≡ Some (ys ++ x ∷ []) =
-    present_more f g (k + 1) m n ys x (omega arith) (λ i z l h inside. same i z l h (rw whole (inr inside))) last rest in
+    present_more f g (k + 1) m n ys x (omega arith) (λ i z l h inside. same i z l h (subst (In z) (sym whole) (inr inside))) last rest in
     ap (λ (o : Option X). option_and_then (λ z. option_map (λ zs. z ∷ zs) (all_present (map f (numbers_from (k + 1) (suc m))))) o) here
     ∙ ap (option_map (λ (zs : List X). y ∷ zs)) behind
     ∙ ap (λ (zs : List X). Some (zs ++ x ∷ [])) (sym whole)

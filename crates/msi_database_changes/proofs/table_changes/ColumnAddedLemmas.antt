@@ -70,7 +70,7 @@ column_parts d name column c e =
     let two = one >>= rows_inserted validation_name (validation_values name column) in
     let (c2, e2, f2) = ok_first two (λ c. Ok (with_new_column name column t c)) c f1 in
     let (c1, e3, f3) = ok_first one (rows_inserted validation_name (validation_values name column)) c2 e2 in
-    record { passed = none; table = t; at = value_there NotFound (table_at name d) t e1; first = c1; second = c2; in_columns = rw (← same) at e3; in_validation = f3; last = same_Ok (with_new_column name column t c2) c f2 }
+    record { passed = none; table = t; at = value_there NotFound (table_at name d) t e1; first = c1; second = c2; in_columns = subst (λ (b : Change). rows_inserted columns_name (column_values name t column) b ≡ Ok c1) (sym same) e3; in_validation = f3; last = same_Ok (with_new_column name column t c2) c f2 }
 
 -- WHAT WAS ACCEPTED
 

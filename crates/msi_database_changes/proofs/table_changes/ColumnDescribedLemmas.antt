@@ -16,7 +16,7 @@ use Rattle.msi_base.proofs.ListLemmas.{all_at, all_from, any_kept, list_any-map,
 use Rattle.msi_pool.specs.FirstFitLaws.{TakenPlacesHoldTheirText, GivenBackTakesOne}
 use Rattle.msi_table_values.specs.declared.value.Value.{Value}
 use Rattle.msi_table_values.specs.declared.value.Value.TheVariants.{Int, Null, Str}
-use Rattle.msi_table_values.specs.Columns.{ColumnDef}
+use Rattle.msi_table_values.specs.Columns.{ColumnDef, type_bits}
 use Rattle.msi_table_cells.specs.KeyOrder.{key_of, same_key}
 use Rattle.msi_table_cells.specs.TableCells.{TableCells}
 use Rattle.msi_database_schema.specs.Schema.{counted, schema_of, share_key}
@@ -53,7 +53,7 @@ one_key name number column (v ∷ []) t = let e : Int (pos number) ≡ Null = sh
 one_key name number column (v ∷ w ∷ vs) t =
     let e : Str name ≡ v = shared_first 1 (row_of_column name number column) (v ∷ w ∷ vs) t in
     let f : Int (pos number) ≡ w = shared_second (row_of_column name number column) (v ∷ w ∷ vs) t in
-    let same : key_of columns_columns (row_of_column name number column) ≡ key_of columns_columns (v ∷ w ∷ vs) = columns_key _ _ _ ∙ (λ i. e i ∷ f i ∷ []) ∙ sym (columns_key v w vs) in
+    let same : key_of columns_columns (row_of_column name number column) ≡ key_of columns_columns (v ∷ w ∷ vs) = columns_key (Str name) (Int (pos number)) (Str column.name ∷ Int (pos (type_bits column)) ∷ []) ∙ (λ i. e i ∷ f i ∷ []) ∙ sym (columns_key v w vs) in
     ap (same_key (key_of columns_columns (row_of_column name number column))) (sym same) ∙ key_itself (key_of columns_columns (row_of_column name number column))
 
 no_row_at : (rows : List (List Value)) (name : List ℕ) (number : ℕ) (column : ColumnDef)

@@ -1,6 +1,6 @@
 -- A table with one more column, in which its rows have null: what it keeps.
 use Rattle.std.proofs.Common.{◌≡◌, ℕ, ◌+◌, ◌<◌, Bool, true, false, cond, List, [], ◌∷◌, ◌++◌, length, map, Option, Some, None, is_some, option_map, refl, sym, ap, subst, ◌∙◌, arith, ◌==◌, ⊎_elim, bytes_eq}
-use Rattle.std.specs.Prelude.{◌&&◌, not, unwrap_or, IsSomeAnd}
+use Rattle.std.specs.Prelude.{◌&&◌, if◌then◌else◌, unwrap_or, IsSomeAnd}
 use Rattle.std.specs.List.{AllByRecursion, list_all}
 use Rattle.std.specs.Option as options
 use Rattle.std.specs.Ordering.{eq_by_cmp, is_eq}
