@@ -219,7 +219,7 @@ module _ (d : Database) (name : List ℕ) (t : TableDef) (known : IsKnown d name
     column_unvalidated none = judged ∙ ap (λ b. first_refusal ((not b, NotFound) ∷ [])) none
 
     pub column_passes : there ≡ true → first_refusal (early_column_refusals d name column) ≡ None
-    column_passes yes = judged ∙ ap (λ b. first_refusal ((not b, NotFound) ∷ [])) yes
+    column_passes is = judged ∙ ap (λ b. first_refusal ((not b, NotFound) ∷ [])) is
 
 pub few_columns : (all cs : List ColumnDef) (column : ColumnDef) → all ≡ cs ++ column ∷ [] → length cs < 32 → length all ≤ 32767
 few_columns all cs column is few =

@@ -41,7 +41,8 @@ returns-in_err-columns-clause-ok c = no_value _ c.from_residual-in_err-columns.r
 pub returns-in_err-columns-clause-kind : goal.returns-in_err-columns-clause-kind
 returns-in_err-columns-clause-kind c = err_passed c.from_residual-in_err-columns.result c.in_err-columns.field-0.0 _ c.from_residual-in_err-columns.ensures.1
     (columns_refuse c.args.self.now.database c.args.table.now c.args.column.now (in_use c.args.pool.now) c.in_ok-sound_rows.field-0.items c.in_ok-sound_rows.ensures.ok
-    c.in_ok-describing.describing.items (described_is c) c.in_err-columns.field-0.0 c.in_err-columns.ensures.kind)
+    c.in_ok-describing.describing.items (c.in_ok-describing.ensures.items ∙ ap (λ (row : List Value). row ∷ []) (c.in_ok-column_row.ensures.ok
+    ∙ (λ i. column_row (c.name-name.ensures i) ((c.next_number-number.ensures ∙ ap (λ (cs : List ColumnDef). length cs + 1) c.columns.ensures.columns) i, c.args.column.now)))) c.in_err-columns.field-0.0 c.in_err-columns.ensures.kind)
 
 pub returns-in_err-validation_row-clause-ok : goal.returns-in_err-validation_row-clause-ok
 returns-in_err-validation_row-clause-ok c = no_value _ c.from_residual-in_err-validation_row.result c.in_err-validation_row.field-0.0 c.from_residual-in_err-validation_row.ensures.1
@@ -61,11 +62,15 @@ returns-in_err-validation-clause-ok c = no_value _ c.from_residual-in_err-valida
 pub returns-in_err-validation-clause-kind : goal.returns-in_err-validation-clause-kind
 returns-in_err-validation-clause-kind c = err_passed c.from_residual-in_err-validation.result c.in_err-validation.field-0.0 _ c.from_residual-in_err-validation.ensures.1
     (validation_refuses c.args.self.now.database c.args.table.now c.args.column.now (in_use c.args.pool.now) c.in_ok-sound_rows.field-0.items c.in_ok-sound_rows.ensures.ok
-    c.in_ok-describing.describing.items (described_is c) c.in_ok-columns.columns.items (in_use c.rows_with.new.pool) c.in_ok-columns.ensures.ok c.in_ok-validating.validating.items (validated_is c) c.in_err-validation.field-0.0 c.in_err-validation.ensures.kind)
+    c.in_ok-describing.describing.items (c.in_ok-describing.ensures.items ∙ ap (λ (row : List Value). row ∷ []) (c.in_ok-column_row.ensures.ok
+    ∙ (λ i. column_row (c.name-name.ensures i) ((c.next_number-number.ensures ∙ ap (λ (cs : List ColumnDef). length cs + 1) c.columns.ensures.columns) i, c.args.column.now)))) c.in_ok-columns.columns.items (in_use c.rows_with.new.pool) c.in_ok-columns.ensures.ok c.in_ok-validating.validating.items (c.in_ok-validating.ensures.items ∙ ap (λ (row : List Value). row ∷ []) (c.in_ok-validation_row.ensures.ok
+    ∙ ap (λ (name : List ℕ). validation_row name c.args.column.now) c.name-name.ensures)) c.in_err-validation.field-0.0 c.in_err-validation.ensures.kind)
 
 pub returns-clause-ok : goal.returns-clause-ok
 returns-clause-ok c = lengthened_given c.args.self.now.database c.args.table.now c.args.column.now (in_use c.args.pool.now) c.in_ok-sound_rows.field-0.items c.in_ok-sound_rows.ensures.ok
-    c.in_ok-describing.describing.items (described_is c) c.in_ok-columns.columns.items (in_use c.rows_with.new.pool) c.in_ok-columns.ensures.ok c.in_ok-validating.validating.items (validated_is c)
+    c.in_ok-describing.describing.items (c.in_ok-describing.ensures.items ∙ ap (λ (row : List Value). row ∷ []) (c.in_ok-column_row.ensures.ok
+    ∙ (λ i. column_row (c.name-name.ensures i) ((c.next_number-number.ensures ∙ ap (λ (cs : List ColumnDef). length cs + 1) c.columns.ensures.columns) i, c.args.column.now)))) c.in_ok-columns.columns.items (in_use c.rows_with.new.pool) c.in_ok-columns.ensures.ok c.in_ok-validating.validating.items (c.in_ok-validating.ensures.items ∙ ap (λ (row : List Value). row ∷ []) (c.in_ok-validation_row.ensures.ok
+    ∙ ap (λ (name : List ℕ). validation_row name c.args.column.now) c.name-name.ensures))
     c.in_ok-validation.validation.items (in_use c.rows_with-2.new.pool) c.in_ok-validation.ensures.ok c.in_ok-own.own.items c.in_ok-own.ensures.ok
 
 pub returns-clause-kind : goal.returns-clause-kind
