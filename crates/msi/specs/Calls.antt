@@ -62,6 +62,7 @@ pub data Call : Type 0 where
   set_database_codepage : CodePage → Call
   has_table get_table drop_table has_stream remove_stream : List ℕ → Call
   create_table : List ℕ → List ColumnDef → Call
+  add_column : List ℕ → ColumnDef → Call
   select_rows : Query → Call
   insert_rows : InsertQuery → Call
   update_rows : UpdateQuery → Call

@@ -26,6 +26,7 @@ pub use Rattle.msi_database.specs.Update
 pub use Rattle.msi_database.specs.Delete
 pub use Rattle.msi_database.specs.Create
 pub use Rattle.msi_database.specs.Drop
+pub use Rattle.msi_database.specs.AddColumn
 pub use Rattle.msi_database.specs.Laws
 pub use Rattle.msi_database.specs.RecountedDatabases
 pub use Rattle.msi_database_storage.specs.Streams

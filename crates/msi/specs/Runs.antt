@@ -108,6 +108,7 @@ FitsCall (calls.update_rows query) = Unit {0}
 FitsCall (calls.delete_rows query) = Unit {0}
 FitsCall (calls.create_table name columns) = Unit {0}
 FitsCall (calls.drop_table name) = Unit {0}
+FitsCall (calls.add_column name column) = Unit {0}
 FitsCall (calls.set_database_codepage page) = Unit {0}
 FitsCall (calls.remove_stream name) = Unit {0}
 FitsCall calls.remove_digital_signature = Unit {0}

@@ -20,6 +20,7 @@ use Rattle.msi_database.specs.Update.{early_update_refusals, update_rows}
 use Rattle.msi_database.specs.Delete.{delete_rows, early_delete_refusals}
 use Rattle.msi_database.specs.Create.{create_table}
 use Rattle.msi_database.specs.Drop.{drop_table, early_drop_refusals}
+use Rattle.msi_database.specs.AddColumn.{add_column, early_column_refusals}
 use Rattle.msi_database.specs.RecountedDatabases.{counts_changed, early_recount_refusals, recount}
 use Rattle.msi_database_storage.specs.Streams.{Streams, stream_at, has_stream_at, with_stream, without_stream}
 use Rattle.msi_database_storage.specs.Kept as databases
@@ -181,6 +182,8 @@ outcome earlier_len s (calls.delete_rows query) =
 outcome earlier_len s (calls.create_table name columns) =
     changed s (changing (parts_of s) (λ d. create_table d name columns))
 outcome earlier_len s (calls.drop_table name) = changed s (changing (parts_of s) (λ d. drop_table d name))
+outcome earlier_len s (calls.add_column name column) =
+    changed s (changing (parts_of s) (λ d. add_column d name column))
 outcome earlier_len s (calls.set_database_codepage page) =
     leaving s (storage_refusal (parts_of s) ++ sound_refusal s.kept.database) (with_page page s)
 outcome earlier_len s (calls.remove_stream name) =
@@ -237,6 +240,7 @@ Lends s (calls.update_rows query) _ new = ⊥
 Lends s (calls.delete_rows query) _ new = ⊥
 Lends s (calls.create_table name columns) _ new = ⊥
 Lends s (calls.drop_table name) _ new = ⊥
+Lends s (calls.add_column name column) _ new = ⊥
 Lends s (calls.set_database_codepage page) _ new = ⊥
 Lends s (calls.remove_stream name) _ new = ⊥
 Lends s calls.remove_digital_signature _ new = ⊥
@@ -264,6 +268,7 @@ is_lending (calls.update_rows query) = false
 is_lending (calls.delete_rows query) = false
 is_lending (calls.create_table name columns) = false
 is_lending (calls.drop_table name) = false
+is_lending (calls.add_column name column) = false
 is_lending (calls.set_database_codepage page) = false
 is_lending (calls.remove_stream name) = false
 is_lending calls.remove_digital_signature = false
@@ -286,6 +291,7 @@ may_want_memory s (calls.update_rows q) = true
 may_want_memory s (calls.delete_rows q) = true
 may_want_memory s (calls.create_table name columns) = true
 may_want_memory s (calls.drop_table name) = true
+may_want_memory s (calls.add_column name column) = true
 may_want_memory s (calls.set_database_codepage page) = false
 may_want_memory s (calls.write_stream name c) = true
 may_want_memory s (calls.read_stream name c) = false
@@ -322,6 +328,7 @@ may_meet_fault s (calls.update_rows query) = false
 may_meet_fault s (calls.delete_rows query) = false
 may_meet_fault s (calls.create_table name columns) = false
 may_meet_fault s (calls.drop_table name) = false
+may_meet_fault s (calls.add_column name column) = false
 may_meet_fault s (calls.set_database_codepage page) = false
 may_meet_fault s (calls.remove_stream name) = false
 may_meet_fault s calls.remove_digital_signature = false
@@ -346,6 +353,8 @@ refused_early s (calls.create_table name columns) =
     first_refusal (storage_refusal (parts_of s) ++ create_refusals s.kept.database name columns)
 refused_early s (calls.drop_table name) =
     first_refusal (storage_refusal (parts_of s) ++ early_drop_refusals s.kept.database name)
+refused_early s (calls.add_column name column) =
+    first_refusal (storage_refusal (parts_of s) ++ early_column_refusals s.kept.database name column)
 refused_early s calls.recount = first_refusal (storage_refusal (parts_of s) ++ early_recount_refusals s.kept.database)
 refused_early s (calls.write_stream name stream_calls) = first_refusal (name_refusals (parts_of s) name)
 refused_early s (calls.image n) = first_refusal (storage_refusal (parts_of s) ++ text_refusals s)

@@ -3,6 +3,8 @@
 ghost use Rattle.std.specs.Prelude.{◌≡◌, ◌++◌, IfErr, OnErr, OnOk};
 ghost use Rattle.msi_base.specs.Refusals.{AnswersFirst, IsRefusal, unless_refused};
 ghost use Rattle.msi_database.specs.Changes.{sound_refusal};
+ghost use Rattle.msi_database.specs.AddColumn as adds;
+ghost use Rattle.msi_database.specs.AddColumn.{early_column_refusals};
 ghost use Rattle.msi_database.specs.Create as creates;
 ghost use Rattle.msi_database.specs.Delete as deletes;
 ghost use Rattle.msi_database.specs.Delete.{early_delete_refusals};
@@ -186,6 +188,33 @@ impl<F: Source> Package<F> {
         self.check_storages()?;
         settle(&mut self.database, &mut self.open, &mut self.current);
         let is_pool_used = self.database.drop_table(name)?;
+        self.note_change(is_pool_used);
+        Ok(())
+    }
+
+    /// Adds a column at the end of a table. Each of its rows has null there.
+    ///
+    /// # Errors
+    /// Fails with the first of these that applies: `InvalidInput` if storages lie below the root; `InvalidData` if
+    /// the package isn't sound; `InvalidInput` for a system table and for a name that no table may have; `NotFound`
+    /// if there is none; `InvalidInput` if the column is of the key, not nullable or binary, and if `create_table`
+    /// refuses the table's columns with it; `NotFound` if `_Validation` isn't there; then as for the rows that describe
+    /// the column, put into `_Columns` and `_Validation` in turn. If none applies, it fails with `OutOfMemory`, which
+    /// may also come in place of the refusals of these rows. Then nothing has changed.
+    pub fn add_column(&mut self, table: &str, column: Column) -> Result<(), Error>
+        ensures ok { let change = changing (parts_of self.old.state)
+            (λ d. adds.add_column d table.now column) in
+            OnOk result (Leaves self.old change self.new) }
+        ensures same { OnErr result (self.new ≡ self.old) }
+        ensures kind { let change = changing (parts_of self.old.state)
+            (λ d. adds.add_column d table.now column) in
+            IfErr result (IsRefusal change) }
+        ensures early { let s = self.old.state in AnswersFirst
+            (storage_refusal (parts_of s) ++ early_column_refusals s.kept.database table.now column) result }
+    {
+        self.check_storages()?;
+        settle(&mut self.database, &mut self.open, &mut self.current);
+        let is_pool_used = self.database.add_column(table, column)?;
         self.note_change(is_pool_used);
         Ok(())
     }

@@ -20,4 +20,5 @@ pub use Rattle.msi_database_changes.proofs.row_changes.InsertLemmas
 pub use Rattle.msi_database_changes.proofs.row_changes.UpdateLemmas
 pub use Rattle.msi_database_changes.proofs.row_changes.DeleteLemmas
 pub use Rattle.msi_database_changes.proofs.describing.ShownChangesLemmas
+pub use Rattle.msi_database_changes.proofs.table_changes.ColumnAddedLemmas
 pub use Rattle.msi_database_changes.proofs.soundness.LawLemmas

@@ -5,6 +5,7 @@ pub mod InsertCallLemmas
 pub mod UpdateCallLemmas
 pub mod AcceptedCallLemmas
 pub mod RefusedCallLemmas
+pub mod ColumnCallLemmas
 pub mod EarlyCallLemmas
 pub mod ChangingLemmas
 pub mod FinishedChangeLemmas

@@ -5,4 +5,5 @@ pub mod DroppingCallLemmas
 pub mod TableCallLemmas
 pub mod TableListLemmas
 pub mod SystemRowsLemmas
+pub mod ColumnRowsLemmas
 pub mod TableChangeStepsLemmas

@@ -6,3 +6,5 @@ pub mod RowsAtBothWidthsLemmas
 pub mod TablesAtBothWidthsLemmas
 pub mod CallAtBothWidthsLemmas
 pub mod CreatingAtBothWidthsLemmas
+pub mod ColumnAtBothWidthsLemmas
+pub mod LengthenedCallLemmas

@@ -8,6 +8,7 @@ pub mod Others
 pub mod Fresh
 pub mod FreshParts
 pub mod Creating
+pub mod AddingColumn
 pub mod Recounting
 -- The words of the crates below, which public clauses cite.
 pub use Rattle.msi_base.specs.declared.errors.ErrorKind
@@ -37,6 +38,7 @@ pub use Rattle.msi_database_changes.specs.Update
 pub use Rattle.msi_database_changes.specs.Delete
 pub use Rattle.msi_database_changes.specs.Create
 pub use Rattle.msi_database_changes.specs.Drop
+pub use Rattle.msi_database_changes.specs.AddColumn
 pub use Rattle.msi_database_changes.specs.Laws
 pub use Rattle.msi_database_changes.specs.Recounting as RecountedDatabases
 pub use Rattle.msi_database_storage.specs.Streams

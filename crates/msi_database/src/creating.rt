@@ -37,12 +37,12 @@ use msi_table_values::value::Value;
 
 /// What creating a table makes, and whether it took a text of the pool.
 #[derive(Drop)]
-struct Created {
-    new: TablesAnew,
-    is_pool_used: bool,
+pub(crate) struct Created {
+    pub(crate) new: TablesAnew,
+    pub(crate) is_pool_used: bool,
 }
 
-fn creation(
+pub(crate) fn creation(
     wide: Option<Database>,
     stored: Vec<Stored>,
     tables: Items<Table>,
@@ -88,7 +88,7 @@ impl Database {
         Ok(())
     }
 
-    fn rows_with(
+    pub(crate) fn rows_with(
         &self,
         pool: &mut PoolInUse,
         name: &str,
@@ -146,7 +146,7 @@ impl Database {
         })
     }
 
-    fn stream_for(&self, name: &str, rows: Vec<Items<ValueRef>>) -> Result<Stored, Error>
+    pub(crate) fn stream_for(&self, name: &str, rows: Vec<Items<ValueRef>>) -> Result<Stored, Error>
         requires sound { is_sound_one self.now.database ≡ true }
         requires held { CanHold self.now.database name.now rows.items }
         ensures ok { IfOk result (λ stored. stored ≡ stream_for self.now.database name.now rows.items) }

@@ -58,7 +58,7 @@ impl Database {
         Ok(())
     }
 
-    fn table_to_drop(&self, name: &str) -> Result<&Table, Error>
+    pub(crate) fn table_to_drop(&self, name: &str) -> Result<&Table, Error>
         ensures sound { OnOk result (is_sound_one self.now.database ≡ true) }
         ensures free { OnOk result (is_of_system name.now ≡ false) }
         ensures named { OnOk result (is_of_table name.now ≡ true) }

@@ -2,6 +2,7 @@
 #![tactic(auto)]
 
 mod changing;
+mod columns;
 mod creating;
 pub mod database;
 mod dropping;

@@ -15,7 +15,7 @@ pub(crate) const TABLE_NAME: Reason = Reason("no table may have this name");
 pub(crate) const TABLE_EXISTS: Reason = Reason("there is a table of this name already");
 
 pub(crate) const NO_VALIDATION: Reason = Reason(
-    "a table is created only where _Validation is a table",
+    "a table is created, and a column added, only where _Validation is a table",
 );
 
 pub(crate) const ODD_TABLE: Reason = Reason(

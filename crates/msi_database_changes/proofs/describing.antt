@@ -8,3 +8,4 @@ pub mod ShownChangesLemmas
 pub mod AlikeColumnLemmas
 pub mod KindsLemmas
 pub mod KindsKeptLemmas
+pub mod NewColumnLemmas

@@ -10,3 +10,6 @@ pub mod DropRowsLemmas
 pub mod DropTracksLemmas
 pub mod DroppedLemmas
 pub mod UnlistedLemmas
+pub mod LongerTableLemmas
+pub mod ColumnAddedLemmas
+pub mod ColumnDescribedLemmas

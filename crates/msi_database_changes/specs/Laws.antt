@@ -28,6 +28,7 @@ use Rattle.msi_database_changes.specs.Update.{update_rows, values_after}
 use Rattle.msi_database_changes.specs.Delete.{delete_rows}
 use Rattle.msi_database_changes.specs.Create.{create_table}
 use Rattle.msi_database_changes.specs.Drop.{drop_table}
+use Rattle.msi_database_changes.specs.AddColumn.{add_column}
 
 -- the rows of a table, as values
 abbrev pub rows_at : List ℕ → Database → List (List Value)
@@ -80,6 +81,7 @@ pub data IsChange (d : Database) (c : Change) : Type 0 where
 pub data IsTableChange (d : Database) (c : Change) : Type 0 where
   created : (name : List ℕ) (columns : List ColumnDef) → create_table d name columns ≡ Ok c → IsTableChange d c
   dropped : (name : List ℕ) → drop_table d name ≡ Ok c → IsTableChange d c
+  column_added : (name : List ℕ) (column : ColumnDef) → add_column d name column ≡ Ok c → IsTableChange d c
 
 -- a database stays well formed and sound; rows that fit still do, exact counts stay exact, and distinct keys distinct
 pub record Keeps (old new : Database) : Type 0 where
@@ -144,3 +146,19 @@ abbrev pub DroppedTablesAreForgotten : Type 0
 DroppedTablesAreForgotten = (d : Database) (name : List ℕ) (c : Change)
     → is_well_formed d ≡ true → RowsFit d → TablesAreDescribed d → drop_table d name ≡ Ok c
     → schema_of (describing c.database) ≡ Some (filter (λ t. not (eq_by_cmp list_cmp name t.0)) (columns_by_name d))
+
+-- the rows that describe a table describe it with the column that was added, beside the other tables
+abbrev pub AddedColumnsAreDescribed : Type 0
+AddedColumnsAreDescribed = (d : Database) (name : List ℕ) (column : ColumnDef) (t : TableCells) (c : Change)
+    → is_well_formed d ≡ true → RowsFit d → TablesAreDescribed d → table_at name d ≡ Some t
+    → add_column d name column ≡ Ok c
+    → schema_of (describing c.database) ≡ Some (put list_cmp name (t.columns ++ column ∷ []) (columns_by_name d))
+
+-- an added column has null in each row of its table, and the tables that neither have it nor describe it have the same
+-- rows
+abbrev pub AddedColumnsAreNull : Type 0
+AddedColumnsAreNull = (d : Database) (name : List ℕ) (column : ColumnDef) (c : Change)
+    → is_well_formed d ≡ true → add_column d name column ≡ Ok c
+    → (rows_at name c.database ≡ map (λ row. row ++ Null ∷ []) (rows_at name d))
+    × ((other : List ℕ) → bytes_eq name other ≡ false → bytes_eq columns_name other ≡ false
+    → bytes_eq validation_name other ≡ false → values_of c.database other ≡ values_of d other)

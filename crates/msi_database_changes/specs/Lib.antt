@@ -12,6 +12,7 @@ pub mod Update
 pub mod Delete
 pub mod Create
 pub mod Drop
+pub mod AddColumn
 pub mod Laws
 pub mod RowUpdates
 pub mod Recounting

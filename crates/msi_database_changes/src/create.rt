@@ -1,6 +1,6 @@
 //! Creating a table: why a name and columns are refused.
 
-ghost use Rattle.std.specs.Prelude.{◌≡◌, ◌≤◌, ◌==◌, ◌&&◌, ◌||◌, IsTrue, OnOk, bytes_eq, length, true, Err};
+ghost use Rattle.std.specs.Prelude.{◌≡◌, ◌≤◌, ◌<◌, ◌==◌, ◌&&◌, ◌||◌, ◌∷◌, IsTrue, OnOk, bytes_eq, length, true, Err};
 ghost use Rattle.std.specs.List.{AllByRecursion, list_all, list_any};
 ghost use Rattle.msi_categories.specs.CategoryRules.{is_identifier};
 ghost use Rattle.msi_base.specs.declared.errors.ErrorKind.TheVariants.{InvalidInput};
@@ -11,6 +11,7 @@ ghost use Rattle.msi_database_schema.specs.Description.{have_short_lengths};
 ghost use Rattle.msi_database_schema.specs.Keys.{is_table_name as is_name_of_table};
 ghost use Rattle.msi_database_changes.specs.Create.{column_refusals, columns_are_named, is_binary, is_too_long};
 ghost use Rattle.msi_database_changes.specs.Create.{new_table_refusals};
+ghost use Rattle.msi_database_changes.specs.AddColumn.{new_column_refusals};
 
 use crate::reasons;
 use msi_base::errors::{Error, ErrorKind, Reason};
@@ -19,6 +20,7 @@ use msi_categories::category::Category;
 use msi_database_schema::names::is_table_name;
 use msi_table_cells::cell::ValueRef;
 use msi_table_values::column::{Column, ColumnType};
+use msi_table_values::value::Value;
 use std::marker::Model;
 
 /// The most columns that a table may be created with.
@@ -170,6 +172,57 @@ pub fn refuse_columns(columns: &[Column]) -> Result<(), Error>
         return refused(reasons::SEMICOLON);
     }
     Ok(())
+}
+
+fn are_named_with(columns: &[Column], column: &Column) -> bool
+    ensures { result ≡ columns_are_named (column.now ∷ columns.now) }
+{
+    let is_identifier = Category::Identifier.validate(column.name());
+    let is_there = is_name_of(column.name(), columns);
+    (is_identifier && has_identifiers(columns)) && !(is_there || repeats_name(columns))
+}
+
+/// Refuses a column that is no key and takes null, if a table of these columns and of it can't be made.
+fn refuse_beside(columns: &[Column], column: &Column) -> Result<(), Error>
+    ensures value { result ≡ unless_refused (column_refusals (column.now ∷ columns.now)) tt }
+    ensures few { OnOk result (length columns.now < 32) }
+    ensures short { OnOk result (HasShortLength column.now.coltype) }
+{
+    if columns.len() >= MOST_COLUMNS {
+        return refused(reasons::COLUMN_COUNT);
+    }
+    if !(column.is_primary_key() || has_key(columns)) {
+        return refused(reasons::NO_KEY);
+    }
+    if !are_named_with(columns, column) {
+        return refused(reasons::COLUMN_NAMES);
+    }
+    if is_long(column) || has_long(columns) {
+        return refused(reasons::COLUMN_LENGTH);
+    }
+    if is_marked_binary(column) || has_marked_binary(columns) {
+        return refused(reasons::BINARY_MARKED);
+    }
+    if lists_semicolon(column) || has_listed_semicolon(columns) {
+        return refused(reasons::SEMICOLON);
+    }
+    Ok(())
+}
+
+/// Refuses a column that isn't added to a table of these columns.
+///
+/// # Errors
+/// Fails with `InvalidInput` if the column is a key or doesn't take null, as none of streams does; and for the table's
+/// columns with it as `refuse_columns` does.
+pub fn refuse_new_column(columns: &[Column], column: &Column) -> Result<(), Error>
+    ensures value { result ≡ unless_refused (new_column_refusals columns.now column.now) tt }
+    ensures few { OnOk result (length columns.now < 32) }
+    ensures short { OnOk result (HasShortLength column.now.coltype) }
+{
+    if column.is_primary_key() || !column.is_valid_value(&Value::Null) {
+        return refused(reasons::NO_NULL);
+    }
+    refuse_beside(columns, column)
 }
 
 /// Refuses a name and columns of which no table is made.

@@ -1,6 +1,7 @@
 //! Laws of accepted changes: each is the contract of a function that does nothing.
 
-ghost use Rattle.msi_database_changes.specs.Laws.{ChangesKeep, CountsTellTexts, CreatedTablesAreDescribed};
+ghost use Rattle.msi_database_changes.specs.Laws.{AddedColumnsAreDescribed, AddedColumnsAreNull, ChangesKeep};
+ghost use Rattle.msi_database_changes.specs.Laws.{CountsTellTexts, CreatedTablesAreDescribed};
 ghost use Rattle.msi_database_changes.specs.Laws.{DeleteRemovesItsRows, DroppedTablesAreForgotten, InsertAddsItsRows};
 ghost use Rattle.msi_database_changes.specs.Laws.{LeadingNumbersAscend, TableChangesKeep, UpdateSetsItsRows};
 ghost use Rattle.msi_database_changes.specs.Recounting.{RecountsMakeExact};
@@ -43,8 +44,8 @@ pub fn changes_keep_databases_sound()
     given_back_takes_one();
 }
 
-/// A table that is created or dropped leaves a sound database well formed and sound, rows that fit their columns
-/// fitting, counts that equal the cells equal, and keys that are distinct distinct.
+/// A table that is created or dropped, and a column that is added, leave a sound database well formed and sound, rows
+/// that fit their columns fitting, counts that equal the cells equal, and keys that are distinct distinct.
 pub fn table_changes_keep_databases_sound()
     ensures { TableChangesKeep }
 {
@@ -71,6 +72,23 @@ pub fn leading_numbers_ascend()
 /// The rows that describe a new table give its columns back, and those of the other tables.
 pub fn created_tables_are_described()
     ensures { CreatedTablesAreDescribed }
+{
+    taken_places_hold_their_text();
+    given_back_takes_one();
+}
+
+/// After a column was added the rows that describe its table give all its columns back, and those of the other tables.
+pub fn added_columns_are_described()
+    ensures { AddedColumnsAreDescribed }
+{
+    taken_places_hold_their_text();
+    given_back_takes_one();
+}
+
+/// An added column has null in each row of its table. The tables that neither have it nor describe it have the rows
+/// that they had.
+pub fn added_columns_are_null()
+    ensures { AddedColumnsAreNull }
 {
     taken_places_hold_their_text();
     given_back_takes_one();

@@ -9,6 +9,7 @@ pub mod drop;
 pub mod insert;
 pub mod keys;
 pub mod laws;
+pub mod lengthening;
 mod naming;
 mod reasons;
 pub mod setting;

@@ -28,6 +28,10 @@ pub(crate) const COLUMN_COUNT: Reason = Reason("a new table has 1 to 32 columns"
 
 pub(crate) const NO_KEY: Reason = Reason("a new table has a key column");
 
+pub(crate) const NO_NULL: Reason = Reason(
+    "a column that is added to a table is no key and takes null, as none of streams does",
+);
+
 pub(crate) const COLUMN_NAMES: Reason = Reason(
     "the columns of a new table are named by identifiers, no two alike",
 );

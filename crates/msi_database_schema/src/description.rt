@@ -48,8 +48,12 @@ pub fn tables_row(alloc: Global, name: &str) -> Result<Items<Value>, Error>
     Ok(Items::from_vec(Vec::from_array(alloc, [name])?))
 }
 
-/// The column's number counts from 1 on.
-fn column_row(
+/// Returns the row of `_Columns` that describes a table's column, whose number counts from 1 on. The bits of its type
+/// have to hold its length, which `has_short_length` checks.
+///
+/// # Errors
+/// Fails with `OutOfMemory`.
+pub fn column_row(
     alloc: Global,
     table: &str,
     number: u16,

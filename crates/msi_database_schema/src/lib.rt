@@ -12,6 +12,6 @@ mod rows;
 pub mod schema;
 pub mod system;
 
-pub use description::column_rows;
+pub use description::{column_row, column_rows};
 pub use names::short_table_key;
 pub use schema::named_table;

@@ -20,6 +20,7 @@ use Rattle.msi_database_changes.specs.Database.{Database, Tables, table_at, with
 use Rattle.msi_database_changes.specs.Changes.{Change, no_change, with_stored}
 use Rattle.msi_database_changes.specs.Texts.{PoolInUse}
 use Rattle.msi_database_changes.specs.Create.{with_new_table}
+use Rattle.msi_database_changes.specs.AddColumn.{with_column, with_new_column}
 use Rattle.msi_database_changes.specs.Drop.{table_released}
 use Rattle.msi_database_storage.specs.Streams.{Streams, table_stream, stream_of_rows, stored_stream, stored_streams}
 use Rattle.msi_database_changes.specs.declared.storing.Stored.{Stored}
@@ -164,3 +165,19 @@ module _ (d : Database) (name : List ℕ) (t : TableCells) (cs ts vs : List Colu
       rows_stored_last b₂ tables_name ts t_rows t_pool (or_from (bytes_eq tables_name name) false tables refl)
       ∙ ap (λ (es : List Stored). es ++ single (table_key tables_name) (stream_of_rows d.pool.long ts t_rows)) (rows_stored_last b₀ columns_name cs c_rows c_pool (or_from (bytes_eq columns_name name) false columns refl)
       ∙ ap (λ (es : List Stored). es ++ single (table_key columns_name) (stream_of_rows d.pool.long cs c_rows)) (dropped_stored_first d name t))
+
+-- a table that gets a column, after rows of the two system tables that describe it
+pub column_stored : (d : Database) (name : List ℕ) (column : ColumnDef) (t : TableCells) (cs vs : List ColumnDef) (c_rows v_rows : List (List ValueRef)) (c_pool v_pool : PoolInUse)
+    → list_any (bytes_eq name) (columns_name ∷ validation_name ∷ []) ≡ false
+    → let c = with_new_column name column t (with_stored validation_name vs v_rows v_pool (with_stored columns_name cs c_rows c_pool (no_change d))) in
+    tables_stored c.database c.stored
+    ≡ record { name = table_key columns_name; bytes = stream_of_rows d.pool.long cs c_rows }
+    ∷ record { name = table_key validation_name; bytes = stream_of_rows d.pool.long vs v_rows }
+    ∷ record { name = table_key name; bytes = table_stream d.pool.long (Some (with_column column t)) } ∷ []
+unfolding single
+column_stored d name column t cs vs c_rows v_rows c_pool v_pool apart =
+    let b₁ : Change = with_stored columns_name cs c_rows c_pool (no_change d) in
+    let b₂ : Change = with_stored validation_name vs v_rows v_pool b₁ in
+    put_stored b₂.database name (with_column column t) b₂.stored apart
+    ∙ ap (λ (es : List Stored). es ++ single (table_key name) (table_stream d.pool.long (Some (with_column column t)))) (rows_stored_last b₁ validation_name vs v_rows v_pool refl
+    ∙ ap (λ (es : List Stored). es ++ single (table_key validation_name) (stream_of_rows d.pool.long vs v_rows)) (rows_stored_first d columns_name cs c_rows c_pool))

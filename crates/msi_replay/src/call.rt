@@ -93,6 +93,8 @@ pub enum Change {
     DeleteRows(Delete),
     /// Takes a table out.
     DropTable(Text),
+    /// Adds a column to the table of this name.
+    AddColumn(Text, Column),
     /// Sets the page in which the database's texts are written.
     SetDatabaseCodepage(CodePage),
     /// Removes the stream of this name.

@@ -35,6 +35,7 @@ fn changed(target: &mut Package<Memory>, change: Change) -> Result<(), Error>
         Change::UpdateRows(query) => target.update_rows(query),
         Change::DeleteRows(query) => target.delete_rows(query),
         Change::DropTable(name) => target.drop_table(name.as_str()),
+        Change::AddColumn(name, column) => target.add_column(name.as_str(), column),
         Change::SetDatabaseCodepage(page) => target.set_database_codepage(page),
         Change::RemoveStream(name) => target.remove_stream(name.as_str()),
         Change::RemoveDigitalSignature => target.remove_digital_signature(),

@@ -108,6 +108,23 @@ pub fn write_long_rows(
     writing::write_table(alloc, true, table.columns(), rows)
 }
 
+/// Returns the bytes of a table's rows in the order that the rows have. The table has to be able to store the rows,
+/// which `fits_table` checks.
+///
+/// # Errors
+/// Fails with `OutOfMemory`.
+pub fn write_ordered_rows(
+    alloc: Global,
+    table: &Table,
+    rows: &[Items<ValueRef>],
+) -> Result<Vec<u8>, Error>
+    requires { CanStore table.now rows.now }
+    ensures ok { IfOk result (λ bytes. bytes.items ≡ table_bytes table.now.long (types_of table.now.columns) rows.now) }
+    ensures kind { OnlyMemory result }
+{
+    writing::write_table(alloc, table.is_long(), table.columns(), rows)
+}
+
 /// Returns a copy of a table whose references to texts take three bytes.
 ///
 /// # Errors

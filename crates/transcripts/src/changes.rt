@@ -3,14 +3,15 @@
 use crate::counting::Counting;
 use crate::summary;
 use msi::{Error, Insert, Package};
-use transcripts_words::columns::columns;
+use transcripts_words::columns::{column, columns};
 use transcripts_words::texts::codepage;
 use transcripts_words::values::rows;
 use transcripts_words::words::Words;
 
 /// The names of these calls.
-pub(crate) static VERBS: [&str; 11] = [
+pub(crate) static VERBS: [&str; 12] = [
     "create_table",
+    "add_column",
     "drop_table",
     "fill",
     "set_codepage",
@@ -30,6 +31,7 @@ pub(crate) fn make(
 ) -> Result<(), Error> {
     match verb {
         "create_table" => create_table(package, words),
+        "add_column" => add_column(package, words),
         "fill" => fill(package, words),
         "set" => summary::set(package.summary_info_mut()?, words),
         "clear" => summary::clear(package.summary_info_mut()?, words),
@@ -45,6 +47,11 @@ pub(crate) fn make(
 fn create_table(package: &mut Package<Counting>, words: &mut Words) -> Result<(), Error> {
     let name = words.name();
     package.create_table(name, columns(words)?)
+}
+
+fn add_column(package: &mut Package<Counting>, words: &mut Words) -> Result<(), Error> {
+    let name = words.name();
+    package.add_column(name, column(words)?)
 }
 
 fn fill(package: &mut Package<Counting>, words: &mut Words) -> Result<(), Error> {

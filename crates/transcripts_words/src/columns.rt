@@ -31,8 +31,9 @@ static KINDS: [&str; 7] = [
     "formatted_string",
 ];
 
-/// Reads a column: its name, its options, and last its type. They are named after the calls of a builder.
-pub(crate) fn column(words: &mut Words) -> Result<Column, Error> {
+/// Reads a column: its name, its options, and last its type. They are named after the calls of a builder. Fails if
+/// memory runs out.
+pub fn column(words: &mut Words) -> Result<Column, Error> {
     let mut builder = Column::build(words.alloc, words.name())?;
     for _ in 0..words.len() {
         let word = words.word();

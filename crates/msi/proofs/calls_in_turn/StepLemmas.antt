@@ -16,8 +16,9 @@ use Rattle.msi_database.specs.Update.{update_rows}
 use Rattle.msi_database.specs.Delete.{delete_rows}
 use Rattle.msi_database.specs.Create.{create_table}
 use Rattle.msi_database.specs.Drop.{drop_table}
+use Rattle.msi_database.specs.AddColumn.{add_column}
 use Rattle.msi_database.specs.RecountedDatabases.{counts_changed, recount, recount_refusals}
-use Rattle.msi_database.specs.Laws.{IsChange, IsTableChange, inserted, updated, deleted, created, dropped}
+use Rattle.msi_database.specs.Laws.{IsChange, IsTableChange, inserted, updated, deleted, created, dropped, column_added}
 use Rattle.msi_database.proofs.RefusedLemmas.{not_refused, value_there}
 use Rattle.msi_database.proofs.ShownTablesLemmas.{ok_first}
 use Rattle.msi_database_storage.specs.Streams.{Streams, with_stream, without_stream}
@@ -151,6 +152,7 @@ module _ (P : State → Type 0) (keeps : Keeps P) where
     outcome_keeps (calls.delete_rows query) e = table_change (λ d. delete_rows d query) (λ c is. inl (deleted query is))
     outcome_keeps (calls.create_table name columns) e = table_change (λ d. create_table d name columns) (λ c is. inr (created name columns is))
     outcome_keeps (calls.drop_table name) e = table_change (λ d. drop_table d name) (λ c is. inr (dropped name is))
+    outcome_keeps (calls.add_column name column) e = table_change (λ d. add_column d name column) (λ c is. inr (column_added name column is))
     outcome_keeps (calls.set_database_codepage page) e = leaving_keeps (first_refusal (storage_refusal (parts_of s) ++ sound_refusal s.kept.database)) s (with_page page s) h
         (λ passes. keeps.paged s page h (second_passes s.has_storages (is_sound s.kept.database) InvalidInput InvalidData None passes))
     outcome_keeps (calls.remove_stream name) e = leaving_keeps _ s (with_streams (without_stream (stream_key name)) s) h

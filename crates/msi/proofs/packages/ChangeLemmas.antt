@@ -11,8 +11,9 @@ use Rattle.msi_database.specs.Create.{create_table}
 use Rattle.msi_database.specs.Database.{Database, is_sound}
 use Rattle.msi_database.specs.Delete.{delete_rows}
 use Rattle.msi_database.specs.Drop.{drop_table}
+use Rattle.msi_database.specs.AddColumn.{add_column}
 use Rattle.msi_database.specs.Insert.{insert_rows}
-use Rattle.msi_database.specs.Laws.{IsChange, IsTableChange, inserted, updated, deleted, created, dropped}
+use Rattle.msi_database.specs.Laws.{IsChange, IsTableChange, inserted, updated, deleted, created, dropped, column_added}
 use Rattle.msi_database.specs.Update.{update_rows}
 use Rattle.msi_database_storage.specs.Kept.{Kept}
 use Rattle.msi_database.specs.Keeping.{IsKeptDatabase}
@@ -71,6 +72,9 @@ module _ (k new : Kept) (name : Option (List ℕ)) (used : Bool) (none : name �
 
   pub after_drop : (table : List ℕ) → databases.Leaves k (drop_table k.database table) new → IsHeld new name used
   after_drop table left = held_by (drop_table k.database table) (λ c e. inr (dropped table e)) left
+
+  pub after_column : (table : List ℕ) (column : ColumnDef) → databases.Leaves k (add_column k.database table column) new → IsHeld new name used
+  after_column table column left = held_by (add_column k.database table column) (λ c e. inr (column_added table column e)) left
 
 -- WHAT A CHANGE ANSWERS AND LEAVES OF THE WHOLE
 

@@ -12,6 +12,7 @@ use Rattle.msi_database.specs.Update.{update_rows}
 use Rattle.msi_database.specs.Delete.{delete_rows}
 use Rattle.msi_database.specs.Create.{create_table}
 use Rattle.msi_database.specs.Drop.{drop_table}
+use Rattle.msi_database.specs.AddColumn.{add_column}
 use Rattle.msi_summary.specs.declared.property.SummaryProperty.{SummaryProperty}
 use Rattle.msi.specs.Calls.{Call, Answer}
 use Rattle.msi.specs.Calls as calls
@@ -44,6 +45,7 @@ outcome_leaves n s (calls.update_rows query) f e = changed_leaves s (changing (p
 outcome_leaves n s (calls.delete_rows query) f e = changed_leaves s (changing (parts_of s) (λ d. delete_rows d query))
 outcome_leaves n s (calls.create_table name columns) f e = changed_leaves s (changing (parts_of s) (λ d. create_table d name columns))
 outcome_leaves n s (calls.drop_table name) f e = changed_leaves s (changing (parts_of s) (λ d. drop_table d name))
+outcome_leaves n s (calls.add_column name column) f e = changed_leaves s (changing (parts_of s) (λ d. add_column d name column))
 outcome_leaves n s (calls.set_database_codepage page) f e = leaving_leaves _ s _ refl
 outcome_leaves n s (calls.remove_stream name) f e = leaving_leaves _ s _ refl
 outcome_leaves n s calls.remove_digital_signature f e = leaving_leaves _ s _ refl

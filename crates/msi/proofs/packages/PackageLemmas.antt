@@ -17,13 +17,14 @@ use Rattle.msi_database.specs.Database.{Database, is_sound}
 use Rattle.msi_database.specs.Changes.{Change}
 use Rattle.msi_database.specs.Laws.{IsChange, IsTableChange}
 use Rattle.msi_database.specs.Widening.{widened}
-use Rattle.msi_database.proofs.AtWidthLemmas.{IsChangeAtWidth, IsTableChangeAtWidth, any_change_many, sound_widened, inserted, updated, deleted, created, dropped}
+use Rattle.msi_database.proofs.AtWidthLemmas.{IsChangeAtWidth, IsTableChangeAtWidth, any_change_many, sound_widened, inserted, updated, deleted, created, dropped, column_added}
 use Rattle.msi_database.proofs.InsertLemmas.{insert_parts}
 use Rattle.msi_database.proofs.UpdateLemmas.{update_parts}
 use Rattle.msi_database.proofs.DeleteLemmas.{delete_parts}
 use Rattle.msi_database.proofs.RefusedLemmas.{first_fails}
 use Rattle.msi_database.proofs.ShownTablesLemmas as steps
 use Rattle.msi_database.proofs.ShownChangesLemmas.{dropped_parts}
+use Rattle.msi_database.proofs.ColumnAddedLemmas.{accepts, column_parts}
 use Rattle.msi_database_storage.specs.Kept.{Kept, base_of, kept_widened}
 use Rattle.msi_database_storage.specs.Streams.{Streams, stored_streams, stream_at, with_stream, without_stream}
 use Rattle.msi_database_storage.specs.StreamNames as databases
@@ -152,6 +153,7 @@ change_sound_at d c (inl (updated q e)) = (update_parts d q c e).sound
 change_sound_at d c (inl (deleted q e)) = (delete_parts d q c e).sound
 change_sound_at d c (inr (created name columns e)) = not-false (is_sound d) (first_fails _ InvalidData [] (steps.created d name columns c e).sound).0
 change_sound_at d c (inr (dropped name e)) = not-false (is_sound d) (first_fails _ InvalidData [] (dropped_parts d name c e).sound).0
+change_sound_at d c (inr (column_added name column e)) = let p = column_parts d name column c e in (accepts d name p.table column p.passed p.at).sound
 
 pub change_sound : (d : Database) (c : Change) → IsChange d c ⊎ IsTableChange d c → is_sound d ≡ true
 change_sound d c change = any_change_many d c change (λ sound short many wide. sound) (λ same. change_sound_at d c same)

@@ -133,3 +133,24 @@ selected_rows = refl
 still_sound : is_sound fives.kept.database ≡ true
 unfolding Rattle.std.specs.Str.chars
 still_sound = refl
+
+-- a column added: zeros behind the old stream, and a text that two cells more name
+abbrev lengthened : State
+lengthened = state_after filled (calls.add_column (codes "Numbers") (nullable (plain_column (codes "Size") Int32)))
+
+lengthened_stream : numbers_stream lengthened ≡ Some (1 ∷ 0x80 ∷ 2 ∷ 0x80 ∷ 4 ∷ 0x80 ∷ 0x17 ∷ 0 ∷ 0x15 ∷ 0 ∷ 0x16 ∷ 0 ∷ replicate 12 0)
+unfolding Rattle.std.specs.Str.chars
+lengthened_stream = refl
+
+lengthened_place : place_at lengthened 23 ≡ Some (record { text = codes "Size"; count = 2 })
+unfolding Rattle.std.specs.Str.chars
+lengthened_place = refl
+
+columns_refused : map (answer_to filled) (
+    calls.add_column (codes "Numbers") (key (plain_column (codes "Size") Int32))
+    ∷ calls.add_column (codes "Numbers") (plain_column (codes "Size") Int32)
+    ∷ calls.add_column (codes "Numbers") (nullable (plain_column (codes "Size") coltype.Binary))
+    ∷ calls.add_column (codes "Numbers") (nullable (plain_column (codes "Word") Int32))
+    ∷ calls.add_column (codes "_Validation") (nullable (plain_column (codes "Size") Int32)) ∷ []) ≡ replicate 5 (Err InvalidInput)
+unfolding Rattle.std.specs.Str.chars
+columns_refused = refl

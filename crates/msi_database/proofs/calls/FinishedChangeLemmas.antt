@@ -1,5 +1,5 @@
 -- The parts that a change leaves, each as a call has it in hand, are those of the database that the change leaves, which is kept and sound.
-use Rattle.std.proofs.Common.{◌≡◌, ℕ, true, List, [], ◌∷◌, None, Ok, refl, sym, ap, subst, ◌∙◌, ◌⊎◌, inl, inr}
+use Rattle.std.proofs.Common.{◌≡◌, ℕ, true, List, [], ◌∷◌, None, Ok, refl, sym, ap, subst, ◌∙◌, ◌⊎◌, inl, inr, ◌++◌, Some}
 use Rattle.std.specs.FinMap.{entries, put}
 use Rattle.msi_container_format.specs.Streams as maps
 use Rattle.msi_base.specs.Lists.{list_cmp}
@@ -14,12 +14,20 @@ use Rattle.msi_database_changes.specs.Changes.{Change, no_change, with_stored}
 use Rattle.msi_database_changes.specs.Texts.{PoolInUse}
 use Rattle.msi_database_changes.specs.Create.{create_at_width, table_refusals}
 use Rattle.msi_database_changes.specs.Drop.{drop_table}
-use Rattle.msi_database_changes.proofs.steps.AtWidthLemmas.{IsChangeAtWidth, IsTableChangeAtWidth, created, dropped}
+use Rattle.msi_database_changes.specs.AddColumn.{add_column_at_width}
+use Rattle.msi_database_changes.proofs.steps.AtWidthLemmas.{IsChangeAtWidth, IsTableChangeAtWidth, created, dropped, column_added}
 use Rattle.msi_database_changes.proofs.steps.RefusedLemmas.{none_holds}
 use Rattle.msi_database_changes.proofs.describing.ShownTablesLemmas.{shown_created}
 use Rattle.msi_database_changes.proofs.describing.ShownTablesLemmas as steps
 use Rattle.msi_database_changes.proofs.describing.ShownChangesLemmas.{shown_changed, shown_dropped}
 use Rattle.msi_database_changes.proofs.table_changes.DroppedLemmas.{without}
+use Rattle.msi_database_changes.proofs.table_changes.ColumnAddedLemmas.{column_parts}
+use Rattle.msi_database_changes.proofs.table_changes.ColumnDescribedLemmas.{shown_now}
+use Rattle.msi_database_changes.specs.Database.{table_at}
+use Rattle.msi_table_cells.specs.TableCells.{TableCells}
+use Rattle.msi_pool.proofs.TakenLemmas.{taken_takes}
+use Rattle.msi_database.proofs.soundness.GivenBackLemmas.{given_back_gives}
+use Rattle.std.proofs.lemmas.Option.{same_Some}
 use Rattle.msi_database_storage.specs.Streams.{Streams, stream_of_rows, stored_streams}
 use Rattle.msi_database_changes.specs.declared.storing.Stored.{Stored}
 use Rattle.msi_database_changes.specs.Storing.{stored_all}
@@ -30,9 +38,9 @@ use Rattle.msi_database.proofs.keeping.StreamEntriesLemmas.{entries_stored}
 use Rattle.msi_database.proofs.soundness.SchemaLemmas.{shown_in_order}
 use Rattle.msi_database.proofs.keeping.KeptPartsLemmas.{parts_make, schema_kept}
 use Rattle.msi_database.proofs.keeping.TablesKeptLemmas.{has_table_kept}
-use Rattle.msi_database.proofs.table_changes.TableListLemmas.{put_listed, put_as_long, without_listed, without_as_long}
+use Rattle.msi_database.proofs.table_changes.TableListLemmas.{none_left, put_listed, put_as_long, put_without, without_listed, without_as_long}
 use Rattle.msi_database_storage.proofs.EditLemmas.{tables_stored_in, rows_stored_first}
-use Rattle.msi_database.proofs.keeping.AcceptedChangeLemmas.{Comes}
+use Rattle.msi_database.proofs.keeping.AcceptedChangeLemmas.{Comes, describes, kinds, regular}
 use Rattle.msi_database.proofs.keeping.KeepingLemmas.{change_comes, change_kept}
 
 module _ (pool : Pool) (tables : List TableDef) (streams : Streams) (kept : AreKept pool tables streams true) where
@@ -123,6 +131,24 @@ module _ (pool : Pool) (tables : List TableDef) (streams : Streams) (kept : AreK
       change_made c (inr (dropped name e)) (without_table_kept name tables) new es pool_is
       (without_listed name tables ∙ ap (without name) (sym shown_old) ∙ sym (shown_dropped d name c (shown_in_order streams d kept.kept.spelled.schema) e))
       (without_as_long name pool.long tables kept.as_long) edit
+
+  -- A COLUMN ADDED: the table is put in the place of what it was
+
+  pub column_kept : (name : List ℕ) (column : ColumnDef) (t : TableCells) (c : Change) → table_at name d ≡ Some t → add_column_at_width d name column ≡ Ok c → (new : Pool) (es : List Stored)
+      → new ≡ c.database.pool → es ≡ tables_stored c.database c.stored
+      → AreParts (with_change old c) new (with_table_kept (record { name = name; columns = t.columns ++ column ∷ []; long = pool.long }) (without_table_kept name tables)) (stored_in es streams)
+  column_kept name column t c at e new es pool_is edit =
+      let all : List ColumnDef = t.columns ++ column ∷ [] in
+      let u : TableDef = record { name = name; columns = all; long = pool.long } in
+      let others : List TableDef = without_table_kept name tables in
+      let r = column_parts d name column c e in
+      let same : r.table ≡ t = same_Some r.table t (sym r.at ∙ at) in
+      let shown_c = shown_now taken_takes given_back_gives d name column c (regular old kept.kept known_sound).well r (describes old kept.kept known_sound) (kinds old kept.kept known_sound)
+      ∙ ap (λ (v : TableCells). put list_cmp name (v.columns ++ column ∷ []) (steps.shown d)) same in
+      change_made c (inr (column_added name column e)) (with_table_kept u others) new es pool_is
+      (put_listed u others (none_left name tables) ∙ ap (put list_cmp name all) (without_listed name tables ∙ ap (without name) (sym shown_old))
+      ∙ put_without name all (steps.shown d) (shown_in_order streams d kept.kept.spelled.schema) ∙ sym shown_c)
+      (put_as_long u pool.long others refl (without_as_long name pool.long tables kept.as_long)) edit
 
 -- THE SAME OF MAPS OF STREAMS
 

@@ -11,7 +11,8 @@ use Rattle.msi_database_changes.specs.Database.{Database, table_at}
 use Rattle.msi_database_changes.specs.Changes.{Change}
 use Rattle.msi_database_changes.specs.Create.{create_at_width}
 use Rattle.msi_database_changes.specs.Drop.{drop_table}
-use Rattle.msi_database_changes.proofs.steps.AtWidthLemmas.{IsTableChangeAtWidth, created, dropped}
+use Rattle.msi_database_changes.specs.AddColumn.{add_column_at_width}
+use Rattle.msi_database_changes.proofs.steps.AtWidthLemmas.{IsTableChangeAtWidth, created, dropped, column_added}
 use Rattle.msi_database_changes.proofs.describing.ShownTablesLemmas.{shown}
 use Rattle.msi_database_changes.proofs.describing.ShownTablesLemmas as steps
 use Rattle.msi_database_changes.proofs.soundness.LawLemmas.{create_table_keeps, drop_table_keeps}
@@ -24,6 +25,8 @@ use Rattle.msi_database_changes.proofs.describing.ChangedDescriptionLemmas.{same
 use Rattle.msi_database_changes.proofs.table_changes.DropRowsLemmas.{drop_rows, drop_describes}
 use Rattle.msi_database_changes.proofs.table_changes.DropTracksLemmas.{drop_tracks, drop_unstored}
 use Rattle.msi_database_changes.proofs.soundness.RegularLemmas.{IsRegular}
+use Rattle.msi_database_changes.proofs.table_changes.ColumnAddedLemmas.{accepted, column_keeps, column_parts, column_tracks, column_unlisted}
+use Rattle.msi_database_changes.proofs.table_changes.ColumnDescribedLemmas as described
 use Rattle.msi_database_schema.proofs.KeyLemmas.{tables_accepted, columns_accepted, validation_accepted}
 use Rattle.msi_database.proofs.soundness.GivenBackLemmas.{given_back_gives}
 use Rattle.msi_database.proofs.keeping.AcceptedChangeLemmas.{Comes}
@@ -62,7 +65,23 @@ module _ (d : Database) (regular : IsRegular d) (before : schema_of (describing 
           unstored = λ none. drop_unstored taken_takes given_back_gives d name c regular.well p (none_there (table_at validation_name d) none);
         }
 
+  module _ (name : List ℕ) (column : ColumnDef) (c : Change) (e : add_column_at_width d name column ≡ Ok c) where
+    pub column_comes : Comes d c
+    column_comes =
+        let r = column_parts d name column c e in
+        let keeps = column_keeps taken_takes given_back_gives d name column c regular.well r in
+        let was = (accepted taken_takes given_back_gives d name column c regular.well r).validated in record {
+          tracks = column_tracks taken_takes given_back_gives d name column c regular.well r columns_accepted validation_accepted;
+          sound = keeps.sound;
+          well = keeps.well;
+          schema = described.column_describes taken_takes given_back_gives d name column c regular.well r before kinds;
+          unlisted = (column_unlisted taken_takes given_back_gives d name column c regular.well r).same;
+          listed = described.validated_now taken_takes given_back_gives d name column c regular.well r before kinds ∙ sym was;
+          unstored = λ none. absurd (true≢false (sym was ∙ none));
+        }
+
   -- so does each change of tables
   pub tables_come : (c : Change) → IsTableChangeAtWidth d c → Comes d c
   tables_come c (created name columns e) = create_comes name columns c e
   tables_come c (dropped name e) = drop_comes name c e
+  tables_come c (column_added name column e) = column_comes name column c e

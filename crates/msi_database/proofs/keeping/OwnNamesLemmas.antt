@@ -15,7 +15,8 @@ use Rattle.msi_database_changes.specs.Database.{Database, table_at, has_table, i
 use Rattle.msi_database_changes.specs.Changes.{Change, no_change}
 use Rattle.msi_database_changes.specs.Create.{create_at_width, table_refusals}
 use Rattle.msi_database_changes.specs.Drop.{drop_table, rows_forgotten, table_released}
-use Rattle.msi_database_changes.proofs.steps.AtWidthLemmas.{IsChangeAtWidth, IsTableChangeAtWidth, inserted, updated, deleted, created, dropped}
+use Rattle.msi_database_changes.specs.AddColumn.{add_column_at_width}
+use Rattle.msi_database_changes.proofs.steps.AtWidthLemmas.{IsChangeAtWidth, IsTableChangeAtWidth, inserted, updated, deleted, created, dropped, column_added}
 use Rattle.msi_database_changes.proofs.steps.RefusedLemmas.{none_holds}
 use Rattle.msi_database_changes.proofs.row_changes.InsertedLemmas.{Inserted, inserted_parts}
 use Rattle.msi_database_changes.proofs.row_changes.InsertLemmas.{insert_parts}
@@ -27,6 +28,7 @@ use Rattle.msi_database_changes.proofs.describing.ShownChangesLemmas.{dropped_pa
 use Rattle.msi_database_changes.proofs.describing.DescribingLemmas.{describing}
 use Rattle.msi_database_changes.proofs.describing.SchemaKeptLemmas.{shown_table}
 use Rattle.msi_database_changes.proofs.table_changes.DropTracksLemmas.{not_among}
+use Rattle.msi_database_changes.proofs.table_changes.ColumnAddedLemmas.{accepts, apart_from, column_parts, column_values, validation_values}
 use Rattle.msi_database_changes.specs.Storing.{HaveOwnNames}
 use Rattle.msi_database_storage.specs.Storing.{tables_stored}
 use Rattle.msi_database_storage.specs.Kept.{Kept}
@@ -107,6 +109,27 @@ module _ (d : Database) (name : List ℕ) (c : Change) (e : drop_table d name �
       subst (λ (x : Change). AreApart x.stored) p.last
       (forgotten_either AreApart name d.pool.places tables_name b₂ (table_at tables_name b₂.database) refl a₂ (apart_last b₂.stored tables_name a₂ t₂))
 
+-- A COLUMN ADDED
+
+module _ (d : Database) (name : List ℕ) (column : ColumnDef) (c : Change) (e : add_column_at_width d name column ≡ Ok c) where
+  column_names : c.stored ≡ columns_name ∷ validation_name ∷ name ∷ []
+  column_names =
+      let r = column_parts d name column c e in
+      let s1 = stored_behind (no_change d) columns_name (column_values name r.table column) r.first (inserted_parts (no_change d) columns_name (column_values name r.table column) r.first r.in_columns) in
+      let s2 = stored_behind r.first validation_name (validation_values name column) r.second (inserted_parts r.first validation_name (validation_values name column) r.second r.in_validation) in
+      ap (λ (x : Change). x.stored) (sym r.last)
+      ∙ ap (λ (ns : List (List ℕ)). ns ++ name ∷ []) (s2 ∙ ap (λ (ns : List (List ℕ)). ns ++ validation_name ∷ []) s1)
+
+  -- the name is none of the two system tables
+  pub column_apart : list_any (bytes_eq name) (columns_name ∷ validation_name ∷ []) ≡ false
+  column_apart =
+      let r = column_parts d name column c e in
+      let apart = apart_from name (accepts d name r.table column r.passed r.at).free in
+      or_from (bytes_eq name columns_name) _ apart.columns (or_from (bytes_eq name validation_name) false apart.validation refl)
+
+  pub column_names_apart : AreApart c.stored
+  column_names_apart = subst AreApart (sym column_names) (apart_last (columns_name ∷ validation_name ∷ []) name (refl, (refl, tt)) column_apart)
+
 -- ANY CHANGE
 
 alone_apart : (c : Change) (name : List ℕ) → c.stored ≡ name ∷ [] → AreApart c.stored
@@ -119,6 +142,7 @@ module _ (k : Kept) (c : Change) (h : IsKeptDatabase k) (sound : is_sound k.data
   change_apart (inl (deleted q e)) = alone_apart c q.table (ap (λ (x : Change). x.stored) (sym (delete_parts k.database q c e).stored))
   change_apart (inr (created name columns e)) = create_apart k.database (describes k h sound) name columns c e
   change_apart (inr (dropped name e)) = drop_apart k.database name c e
+  change_apart (inr (column_added name column e)) = column_names_apart k.database name column c e
 
   pub change_own_names : IsChangeAtWidth k.database c ⊎ IsTableChangeAtWidth k.database c → HaveOwnNames (tables_stored c.database c.stored)
   change_own_names change = own_names c.database c.stored (are_names c.stored (change_comes k c h sound change).tracks.names) (change_apart change)

@@ -1,16 +1,20 @@
 -- A table put in among those that are kept, and one taken out.
 use Rattle.std.proofs.Common.{◌≡◌, ℕ, Bool, true, false, not, List, [], ◌∷◌, Option, Some, None, refl, sym, ap, ◌∙◌, bytes_eq}
 use Rattle.std.specs.Prelude.{if◌then◌else◌}
-use Rattle.std.specs.FinMap.{put}
-use Rattle.std.specs.FinMap.Entries.{by_order}
-use Rattle.std.specs.Ordering.{is_lt, ordering_reverse}
+use Rattle.std.specs.FinMap.{find, put}
+use Rattle.std.specs.FinMap.Entries.{by_order, find-put, find-where_key, is_sorted, is_sorted-put, is_sorted-where_key, same_entries}
+use Rattle.std.specs.Prelude.{T}
+use Rattle.std.specs.Ordering.{eq_by_cmp, is_lt, ordering_reverse}
 use Rattle.std.specs.declared.cmp.Ordering.{Ordering}
 use Rattle.std.specs.declared.cmp.Ordering.TheVariants.{Less, Equal, Greater}
 use Rattle.std.proofs.lemmas.Bool.{true≢false}
 use Rattle.std.proofs.lemmas.Option.{none-some}
 use Rattle.std.proofs.lemmas.Slice.Eq.{bytes_eq-Decides}
 use Rattle.msi_base.specs.Lists.{list_cmp}
+use Rattle.msi_base.proofs.BoolLemmas.{by_test}
+use Rattle.msi_table_values.specs.Columns.{ColumnDef}
 use Rattle.msi_table.specs.Tables.{TableDef}
+use Rattle.msi_database_schema.proofs.FaultLemmas.{texts_flip}
 use Rattle.msi_database_schema.proofs.SchemaLemmas.{Described, names_tie, same_names}
 use Rattle.msi_database_schema.proofs.RowOrderLemmas.{names_total}
 use Rattle.msi_database_changes.proofs.table_changes.DroppedLemmas.{without}
@@ -71,3 +75,26 @@ module _ (name : List ℕ) where
     | true ↦ without_as_long long us h.1
     | false ↦ (h.0, without_as_long long us h.1)
   ]
+
+-- A TABLE PUT IN THE PLACE OF ONE
+
+pub none_left : (name : List ℕ) (tables : List TableDef) → table_kept_at name (without_table_kept name tables) ≡ None
+none_left name [] = refl
+none_left name (u ∷ us) = by_test (bytes_eq name u.name)
+    (λ t. ap (λ b. table_kept_at name (if not b then u ∷ without_table_kept name us else without_table_kept name us)) t ∙ none_left name us)
+    (λ t. ap (λ b. table_kept_at name (if not b then u ∷ without_table_kept name us else without_table_kept name us)) t
+    ∙ ap (λ b. if b then Some u else table_kept_at name (without_table_kept name us)) t ∙ none_left name us)
+
+module _ (name : List ℕ) (columns : List ColumnDef) (ts : Described) (up : T (is_sorted list_cmp ts)) where
+  abbrev stays : List ℕ → Bool
+  stays other = not (eq_by_cmp list_cmp name other)
+
+  put_at : (q : List ℕ) (b : Bool) → eq_by_cmp list_cmp q name ≡ b → (if b then Some columns else find list_cmp q (without name ts)) ≡ (if b then Some columns else find list_cmp q ts)
+  put_at q true e = refl
+  put_at q false e = find-where_key list_cmp stays q (λ x is. ap stays (sym (same_names q x is))) ts
+      ∙ ap (λ b. if not b then find list_cmp q ts else None) (names_tie name q ∙ texts_flip name q ∙ sym (names_tie q name) ∙ e)
+
+  pub put_without : put list_cmp name columns (without name ts) ≡ put list_cmp name columns ts
+  put_without = same_entries list_cmp names_total same_names (put list_cmp name columns (without name ts)) (put list_cmp name columns ts)
+      (is_sorted-put list_cmp names_total name columns (without name ts) (is_sorted-where_key list_cmp stays ts up)) (is_sorted-put list_cmp names_total name columns ts up)
+      (λ q. find-put list_cmp names_total q name columns (without name ts) ∙ put_at q (eq_by_cmp list_cmp q name) refl ∙ sym (find-put list_cmp names_total q name columns ts))

@@ -78,7 +78,7 @@ pub record Took (d : Database) (name : List ℕ) (values : List (List Value)) (p
   pub passed : first_refusal (row_refusals pool.places t values) ≡ None
   pub added : cells_added true t.columns pool (rows_of t) values ≡ Some r
 
-took : (d : Database) (name : List ℕ) (values : List (List Value)) (pool : PoolInUse) (r : List (List ValueRef) × PoolInUse) → rows_with d name values pool ≡ Ok r → Took d name values pool r
+pub took : (d : Database) (name : List ℕ) (values : List (List Value)) (pool : PoolInUse) (r : List (List ValueRef) × PoolInUse) → rows_with d name values pool ≡ Ok r → Took d name values pool r
 took d name values pool r e =
     bind_ok (or_refused NotFound (table_at name d)) (judged_rows values pool) r e (λ t t_is e.
     bind_ok (unless_refused (row_refusals pool.places t values) t) (last_rows values pool) r e (λ u u_is e.
@@ -90,20 +90,20 @@ took d name values pool r e =
       added = value_there InvalidInput (cells_added true t.columns pool (rows_of t) values) r (subst (λ (u : TableCells). last_rows values pool u ≡ Ok r) (sym ok.1) e);
     }))
 
-rows_fit_there : (o : Option (List (List ValueRef))) (P : List (List ValueRef) → Type 0) → IsSomeAnd o P → P (unwrap_or o [])
+pub rows_fit_there : (o : Option (List (List ValueRef))) (P : List (List ValueRef) → Type 0) → IsSomeAnd o P → P (unwrap_or o [])
 rows_fit_there None P h = absurd h
 rows_fit_there (Some rows) P h = h
 
 -- each table's rows fit it
-abbrev IsKeptHere : Database → Type 0
+abbrev pub IsKeptHere : Database → Type 0
 IsKeptHere d = (name : List ℕ) (t : TableCells) → table_at name d ≡ Some t → IsSomeAnd t.rows (FitsTable d.pool.long (types_of t.columns))
 
 module _ (d : Database) (name : List ℕ) (values : List (List Value)) (pool : PoolInUse) (r : List (List ValueRef) × PoolInUse) (s : Took d name values pool r) where
-  grew : length pool.places ≤ length r.1.places
+  pub grew : length pool.places ≤ length r.1.places
   grew = map_some (λ (x : List (List ValueRef) × PoolInUse). (in_key_order s.t.columns x.1.places (rows_of s.t ++ x.0), x.1)) (rows_put true pool values) r s.added
       (λ x put is. subst (λ (r : List (List ValueRef) × PoolInUse). length pool.places ≤ length r.1.places) is (rows_put_grows true pool values x put))
 
-  narrowed : length r.1.places ≤ most_places d.pool.long → cells_added d.pool.long s.t.columns pool (rows_of s.t) values ≡ Some r
+  pub narrowed : length r.1.places ≤ most_places d.pool.long → cells_added d.pool.long s.t.columns pool (rows_of s.t) values ≡ Some r
   narrowed few = cells_added_narrow d.pool.long s.t.columns pool (rows_of s.t) values r s.added few
 
   as_stream : length r.1.places ≤ most_places d.pool.long → stream_with d name values pool ≡ Ok (stream_for d name r.0, r.1)
@@ -117,12 +117,12 @@ module _ (d : Database) (name : List ℕ) (values : List (List Value)) (pool : P
   fits_here : IsKeptHere d → FitsTable d.pool.long (types_of s.t.columns) (rows_of s.t)
   fits_here k = rows_fit_there s.t.rows (FitsTable d.pool.long (types_of s.t.columns)) (k name s.t s.at)
 
-  stored_here : IsKeptHere d → length pool.places ≤ most_places d.pool.long → length r.1.places ≤ most_places d.pool.long → CanHold d name r.0
+  pub stored_here : IsKeptHere d → length pool.places ≤ most_places d.pool.long → length r.1.places ≤ most_places d.pool.long → CanHold d name r.0
   stored_here k within few = subst (λ (o : Option TableCells). IsSomeAnd o (λ t. FitsTable d.pool.long (types_of t.columns) r.0)) (sym s.at)
       (cells_can_store d.pool.long s.t.columns (rows_of s.t) pool values r.0 r.1 (fits_here k) within s.passed (narrowed few)).0
 
   -- with references of three bytes it keeps within what these can name
-  within_long : IsKeptHere d → d.pool.long ≡ true → length pool.places ≤ 16777215 → length r.1.places ≤ 16777215
+  pub within_long : IsKeptHere d → d.pool.long ≡ true → length pool.places ≤ 16777215 → length r.1.places ≤ 16777215
   within_long k long within = (cells_can_store true s.t.columns (rows_of s.t) pool values r.0 r.1
       (subst (λ l. FitsTable l (types_of s.t.columns) (rows_of s.t)) long (fits_here k)) within s.passed s.added).1
 
@@ -313,7 +313,7 @@ module _ (k : Kept) (kept : IsKeptDatabase k) (sound : is_sound k.database ≡ t
   fit_wide : IsKeptHere wide
   fit_wide = (regular (kept_widened k) (widened_kept k kept sound) (sound_widened k.database sound)).fit
 
-  one_err : (name : List ℕ) (values : List (List Value)) (pool : PoolInUse) → rows_with wide name values pool ≡ Err kind → stream_with wide name values pool ≡ Err kind
+  pub one_err : (name : List ℕ) (values : List (List Value)) (pool : PoolInUse) → rows_with wide name values pool ≡ Err kind → stream_with wide name values pool ≡ Err kind
   one_err name values pool e = found_err (table_at name wide) (store wide name) (λ t. first_refusal (row_refusals pool.places t values)) (λ t. cells_added true t.columns pool (rows_of t) values) kind e
 
   abbrev t_rows : List (List Value)

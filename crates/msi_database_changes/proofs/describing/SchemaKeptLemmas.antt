@@ -1,5 +1,5 @@
 -- The rows of a database describe its tables, also after one was created or dropped.
-use Rattle.std.proofs.Common.{◌≡◌, ℕ, Bool, true, List, [], ◌∷◌, map, Option, Some, None, Ok, is_some, option_map, refl, sym, ap, subst, ◌∙◌}
+use Rattle.std.proofs.Common.{◌≡◌, ℕ, Bool, true, List, [], ◌∷◌, map, Option, Some, None, Ok, ◌++◌, is_some, option_map, refl, sym, ap, subst, ◌∙◌}
 use Rattle.std.specs.Prelude.{IsSomeAnd, unwrap_or}
 use Rattle.std.specs.List.{AllByRecursion}
 use Rattle.msi_base.proofs.OptionLemmas.{map_some}
@@ -18,8 +18,9 @@ use Rattle.msi_database_schema.proofs.SchemaLemmas.{NoFault, describes_from, tab
 use Rattle.msi_database_changes.specs.Database.{Database, table_at, rows_of, are_alike, columns_by_name, is_well_formed}
 use Rattle.msi_database_changes.specs.Changes.{Change, sound_refusal}
 use Rattle.msi_database_changes.specs.Create.{create_at_width}
+use Rattle.msi_database_changes.specs.AddColumn.{add_column_at_width}
 use Rattle.msi_database_changes.specs.Widening.{widened}
-use Rattle.msi_database_changes.specs.Laws.{describing, RowsFit, TablesAreDescribed, CreatedTablesAreDescribed, DroppedTablesAreForgotten}
+use Rattle.msi_database_changes.specs.Laws.{AddedColumnsAreDescribed, describing, RowsFit, TablesAreDescribed, CreatedTablesAreDescribed, DroppedTablesAreForgotten}
 use Rattle.std.specs.FinMap.{put}
 use Rattle.msi_base.specs.Lists.{list_cmp}
 use Rattle.msi_database_changes.proofs.steps.AtWidthLemmas.{fits_widened, widening_made}
@@ -29,6 +30,9 @@ use Rattle.msi_database_changes.proofs.describing.ShownChangesLemmas.{dropped_pa
 use Rattle.msi_database_changes.proofs.describing.DescribingLemmas.{alike_shown, rows_at_is, standard, validation_at}
 use Rattle.msi_database_changes.proofs.table_changes.CreateRowsLemmas.{create_describes}
 use Rattle.msi_database_changes.proofs.table_changes.DropRowsLemmas.{drop_describes}
+use Rattle.msi_database_changes.proofs.table_changes.ColumnAddedLemmas.{accepted, column_parts}
+use Rattle.msi_database_changes.proofs.table_changes.ColumnDescribedLemmas.{column_describes, shown_now}
+use Rattle.std.proofs.lemmas.Option.{same_Some}
 use Rattle.msi_database_changes.proofs.soundness.LawLemmas.{well_formed_from}
 use Rattle.msi_database_changes.proofs.describing.ChangedDescriptionLemmas.{unlisted_at}
 
@@ -113,3 +117,19 @@ module _ (takes : TakenPlacesHoldTheirText) (gives : GivenBackTakesOne) where
       let kinds = kinds_there d fit before p.sound in
       (drop_describes takes gives d name c (well_formed_from d formed) p before kinds).0
       ∙ ap Some (shown_dropped d name c (describes_from (describing d) (shown d) before).in_order e)
+
+  added_described_at : (d : Database) (name : List ℕ) (column : ColumnDef) (t : TableCells) (c : Change) → is_well_formed d ≡ true → RowsFit d → TablesAreDescribed d → table_at name d ≡ Some t
+      → add_column_at_width d name column ≡ Ok c → schema_of (describing c.database) ≡ Some (put list_cmp name (t.columns ++ column ∷ []) (columns_by_name d))
+  added_described_at d name column t c formed fit before at e =
+      let well = well_formed_from d formed in
+      let p = column_parts d name column c e in
+      let sound = (accepted takes gives d name column c well p).sound in
+      let kinds = kinds_there d fit before (rw sound refl) in
+      let same : p.table ≡ t = same_Some p.table t (sym p.at ∙ at) in
+      column_describes takes gives d name column c well p before kinds
+      ∙ ap Some (shown_now takes gives d name column c well p before kinds ∙ ap (λ (u : TableCells). put list_cmp name (u.columns ++ column ∷ []) (columns_by_name d)) same)
+
+  pub added_described : AddedColumnsAreDescribed
+  added_described d name column t c formed fit before at e = widening_made (λ d. add_column_at_width d name column) d c e
+      (λ sound short is. added_described_at (widened d) name column t c formed (fits_widened d fit) before at is)
+      (λ is. added_described_at d name column t c formed fit before at is)

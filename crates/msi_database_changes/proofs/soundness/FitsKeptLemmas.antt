@@ -28,6 +28,7 @@ use Rattle.msi_database_changes.specs.Texts.{PoolInUse, rows_released}
 use Rattle.msi_database_changes.specs.Create.{create_at_width}
 use Rattle.msi_database_changes.specs.Delete.{rows_meeting}
 use Rattle.msi_database_changes.specs.Drop.{drop_table}
+use Rattle.msi_database_changes.specs.AddColumn.{add_column_at_width}
 use Rattle.msi_table_cells.specs.KeyOrder.{in_key_order}
 use Rattle.msi_database_changes.specs.Laws.{RowsFit, TableFits}
 use Rattle.msi_database_changes.proofs.steps.AtWidthLemmas.{IsChangeAtWidth, inserted, updated, deleted}
@@ -44,6 +45,7 @@ use Rattle.msi_database_changes.proofs.table_changes.CreateRowsLemmas.{create_un
 use Rattle.msi_database_changes.proofs.table_changes.DropRowsLemmas.{drop_rows}
 use Rattle.msi_database_changes.proofs.table_changes.CreateTracksLemmas.{create_tracks, few_rows}
 use Rattle.msi_database_changes.proofs.table_changes.DropTracksLemmas.{drop_tracks}
+use Rattle.msi_database_changes.proofs.table_changes.ColumnAddedLemmas.{column_parts, column_tracks, column_unlisted}
 use Rattle.msi_database_changes.proofs.describing.ShownTablesLemmas.{created}
 use Rattle.msi_database_changes.proofs.describing.ShownChangesLemmas.{dropped_parts}
 
@@ -137,3 +139,8 @@ module _ (takes : TakenPlacesHoldTheirText) (gives : GivenBackTakesOne) where
   drop_fits d name c well e =
       let p = dropped_parts d name c e in
       tracked_fits d c (drop_tracks takes gives d name c well p validation_named columns_named tables_named) (drop_rows takes gives d name c well p).unlisted
+
+  pub column_fits : (d : Database) (name : List ℕ) (column : ColumnDef) (c : Change) → WellFormed d → add_column_at_width d name column ≡ Ok c → RowsFit d → RowsFit c.database
+  column_fits d name column c well e =
+      let p = column_parts d name column c e in
+      tracked_fits d c (column_tracks takes gives d name column c well p columns_named validation_named) (column_unlisted takes gives d name column c well p)

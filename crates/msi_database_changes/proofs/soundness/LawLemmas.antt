@@ -16,9 +16,10 @@ use Rattle.msi_database_changes.specs.Update.{update_at_width, values_after}
 use Rattle.msi_database_changes.specs.Delete.{delete_rows}
 use Rattle.msi_database_changes.specs.Create.{create_at_width}
 use Rattle.msi_database_changes.specs.Drop.{drop_table}
-use Rattle.msi_database_changes.specs.Laws.{rows_at, OthersStay, KeysAreDistinct, Keeps, InsertAddsItsRows, UpdateSetsItsRows, DeleteRemovesItsRows, ChangesKeep, TableChangesKeep, CountsTellTexts, RowsFit}
+use Rattle.msi_database_changes.specs.AddColumn.{add_column_at_width}
+use Rattle.msi_database_changes.specs.Laws.{AddedColumnsAreNull, rows_at, OthersStay, KeysAreDistinct, Keeps, InsertAddsItsRows, UpdateSetsItsRows, DeleteRemovesItsRows, ChangesKeep, TableChangesKeep, CountsTellTexts, RowsFit}
 use Rattle.msi_database_changes.specs.Widening.{widened}
-use Rattle.msi_database_changes.proofs.steps.AtWidthLemmas.{IsTableChangeAtWidth, change_at, fits_widened, sound_widened, table_change_at, whole_inserted, widening_made, IsChangeAtWidth, inserted, updated, deleted, created, dropped}
+use Rattle.msi_database_changes.proofs.steps.AtWidthLemmas.{IsTableChangeAtWidth, change_at, fits_widened, sound_widened, table_change_at, whole_inserted, widening_made, IsChangeAtWidth, inserted, updated, deleted, created, dropped, column_added}
 use Rattle.msi_table_values.specs.Columns.{ColumnDef}
 use Rattle.msi_database_changes.proofs.row_keys.KeysLemmas.{inserted_distinct}
 use Rattle.msi_database_changes.proofs.row_keys.KeysKeptLemmas.{delete_distinct, update_distinct}
@@ -26,8 +27,9 @@ use Rattle.msi_database_changes.proofs.table_changes.CreateLemmas.{create_keeps}
 use Rattle.msi_database_changes.proofs.table_changes.DropLemmas.{drop_keeps}
 use Rattle.msi_database_changes.proofs.table_changes.DropLemmas as steps
 use Rattle.msi_database_changes.proofs.row_keys.TableKeysLemmas.{create_distinct, drop_distinct}
+use Rattle.msi_database_changes.proofs.table_changes.ColumnAddedLemmas.{column_distinct, column_keeps, column_nulls, column_others, column_parts}
 use Rattle.msi_database_changes.proofs.text_counts.TextCountLemmas.{counts_of_text}
-use Rattle.msi_database_changes.proofs.soundness.FitsKeptLemmas.{change_fits, create_fits, drop_fits}
+use Rattle.msi_database_changes.proofs.soundness.FitsKeptLemmas.{change_fits, column_fits, create_fits, drop_fits}
 use Rattle.msi_database_changes.proofs.soundness.SoundLemmas.{names_are_numbers}
 use Rattle.msi_database_changes.proofs.steps.StoredLemmas.{WellFormed, table_is_full}
 use Rattle.msi_database_changes.proofs.row_changes.InsertLemmas.{insert_parts, insert_sound, insert_well, insert_exact, insert_adds}
@@ -81,6 +83,9 @@ module _ (takes : TakenPlacesHoldTheirText) (gives : GivenBackTakesOne) where
 
   pub drop_table_keeps : (d : Database) (name : List ℕ) (c : Change) → WellFormed d → drop_table d name ≡ Ok c → steps.Keeps d c.database
   drop_table_keeps = drop_keeps takes gives
+
+  pub add_column_keeps : (d : Database) (name : List ℕ) (column : ColumnDef) (c : Change) → WellFormed d → add_column_at_width d name column ≡ Ok c → steps.Keeps d c.database
+  add_column_keeps d name column c well e = column_keeps takes gives d name column c well (column_parts d name column c e)
 
   -- an accepted insert adds exactly its rows
   pub insert_adds_its_rows : (d : Database) (q : InsertQuery) (c : Change) → WellFormed d → insert_at_width d q ≡ Ok c
@@ -146,10 +151,22 @@ module _ (takes : TakenPlacesHoldTheirText) (gives : GivenBackTakesOne) where
   table_changes_keep_at d c (dropped name e) formed sound =
       let well = well_formed_from d formed in keeps_by d c (drop_table_keeps d name c well e) (drop_fits takes gives d name c well e) (drop_distinct takes gives d name c well e)
 
+  table_changes_keep_at d c (column_added name column e) formed sound =
+      let well = well_formed_from d formed in
+      keeps_by d c (add_column_keeps d name column c well e) (column_fits takes gives d name column c well e) (column_distinct takes gives d name column c well (column_parts d name column c e))
+
   pub table_changes_keep : TableChangesKeep
   table_changes_keep d c change formed sound = table_change_at d c change
       (λ s short wide. keeps_widened d c.database (table_changes_keep_at (widened d) c wide formed (sound_widened d sound)))
       (λ same. table_changes_keep_at d c same formed sound)
+
+  -- an added column is null
+  pub added_null : AddedColumnsAreNull
+  added_null d name column c well e = widening_made (λ d. add_column_at_width d name column) d c e
+      (λ sound short is. let p = column_parts (widened d) name column c is in let w = well_formed_from (widened d) well in
+      (column_nulls takes gives (widened d) name column c w p, column_others takes gives (widened d) name column c w p))
+      (λ is. let p = column_parts d name column c is in let w = well_formed_from d well in
+      (column_nulls takes gives d name column c w p, column_others takes gives d name column c w p))
 
 pub counts_tell : CountsTellTexts
 counts_tell d text formed sound exact = counts_of_text d text sound (well_formed_from d formed) exact

@@ -20,6 +20,7 @@ use Rattle.msi_database_changes.specs.Update.{update_at_width}
 use Rattle.msi_database_changes.specs.Delete.{delete_rows}
 use Rattle.msi_database_changes.specs.Create.{create_at_width}
 use Rattle.msi_database_changes.specs.Drop.{drop_table}
+use Rattle.msi_database_changes.specs.AddColumn.{add_column_at_width}
 use Rattle.msi_database_changes.specs.Laws as laws
 use Rattle.msi_database_changes.specs.Laws.{IsChange, IsTableChange, RowsFit}
 use Rattle.msi_base.specs.Refusals.{first_refusal, unless_refused}
@@ -35,6 +36,7 @@ pub data IsChangeAtWidth (d : Database) (c : Change) : Type 0 where
 pub data IsTableChangeAtWidth (d : Database) (c : Change) : Type 0 where
   created : (name : List ℕ) (columns : List ColumnDef) → create_at_width d name columns ≡ Ok c → IsTableChangeAtWidth d c
   dropped : (name : List ℕ) → drop_table d name ≡ Ok c → IsTableChangeAtWidth d c
+  column_added : (name : List ℕ) (column : ColumnDef) → add_column_at_width d name column ≡ Ok c → IsTableChangeAtWidth d c
 
 -- WHICH OF THEM A CHANGE IS
 
@@ -69,6 +71,8 @@ pub table_change_at : {P : Type 0} (d : Database) (c : Change) → IsTableChange
 table_change_at d c (laws.created name columns e) wide same =
     widening_made (λ d. create_at_width d name columns) d c e (λ sound short is. wide sound short (created name columns is)) (λ is. same (created name columns is))
 table_change_at d c (laws.dropped name e) wide same = same (dropped name e)
+table_change_at d c (laws.column_added name column e) wide same =
+    widening_made (λ d. add_column_at_width d name column) d c e (λ sound short is. wide sound short (column_added name column is)) (λ is. same (column_added name column is))
 
 -- the same, and that two bytes don't suffice for what a change leaves that widens
 pub widening_many : {P : Type 0} (change : Database → Result Change ErrorKind) (d : Database) (c : Change) → widening change d ≡ Ok c
@@ -90,6 +94,8 @@ any_change_many d c (inl (laws.deleted q e)) wide same = same (inl (deleted q e)
 any_change_many d c (inr (laws.created name columns e)) wide same =
     widening_many (λ d. create_at_width d name columns) d c e (λ sound short many is. wide sound short many (inr (created name columns is))) (λ is. same (inr (created name columns is)))
 any_change_many d c (inr (laws.dropped name e)) wide same = same (inr (dropped name e))
+any_change_many d c (inr (laws.column_added name column e)) wide same =
+    widening_many (λ d. add_column_at_width d name column) d c e (λ sound short many is. wide sound short many (inr (column_added name column is))) (λ is. same (inr (column_added name column is)))
 
 -- A WIDENED DATABASE
 

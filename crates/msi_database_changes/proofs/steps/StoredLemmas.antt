@@ -84,7 +84,7 @@ module _ {K X : Type 0} (R : K → K → Ordering) (o : IsTotalOrder R) (p : K �
       let parts = and_parts (p x) (list_all p es) all in
       rw is (and_from (p x) (list_all p (put R k w es)) parts.0 (next (T_second _ _ sorted) (rw is at found) parts.1))
 
-  all-put : (es : List (K × X)) → T (is_sorted R es) → find R k es ≡ Some v → list_all p es ≡ true → list_all p (put R k w es) ≡ true
+  pub all-put : (es : List (K × X)) → T (is_sorted R es) → find R k es ≡ Some v → list_all p es ≡ true → list_all p (put R k w es) ≡ true
   all-put [] sorted found all = absurd (none-some v found)
   all-put (x ∷ es) sorted found all = all_put_over x es (R k x.0) refl sorted found all (all-put es)
 

@@ -44,14 +44,14 @@ pub record Tracks (d : Database) (b : Change) : Type 0 where
   pub long : b.database.pool.long ≡ d.pool.long
   pub fits : AllFit d → AllFit b.database
 
-not_last : (other system : List ℕ) (names : List (List ℕ)) → list_any (bytes_eq other) (names ++ system ∷ []) ≡ false → (list_any (bytes_eq other) names ≡ false) × (bytes_eq other system ≡ false)
+pub not_last : (other system : List ℕ) (names : List (List ℕ)) → list_any (bytes_eq other) (names ++ system ∷ []) ≡ false → (list_any (bytes_eq other) names ≡ false) × (bytes_eq other system ≡ false)
 not_last other system [] e = (refl, (or_parts (bytes_eq other system) false e).0)
 not_last other system (n ∷ ns) e =
     let g = or_parts (bytes_eq other n) (list_any (bytes_eq other) (ns ++ system ∷ [])) e in
     let h = not_last other system ns g.1 in
     (rw (g.0, h.0) refl, h.1)
 
-last_named : (system : List ℕ) (names : List (List ℕ)) → is_table_name system ≡ true → list_all is_table_name names ≡ true → list_all is_table_name (names ++ system ∷ []) ≡ true
+pub last_named : (system : List ℕ) (names : List (List ℕ)) → is_table_name system ≡ true → list_all is_table_name names ≡ true → list_all is_table_name (names ++ system ∷ []) ≡ true
 last_named system [] is h = and_from (is_table_name system) true is refl
 last_named system (n ∷ ns) is h =
     let p = and_parts (is_table_name n) (list_all is_table_name ns) h in

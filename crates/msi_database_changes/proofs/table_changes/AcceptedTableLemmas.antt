@@ -74,17 +74,17 @@ flags_alike (c ∷ cs) (d ∷ ds) e = let f = and_parts _ (are_alike cs ds) e in
     same false b e = sym (not-true b e)
 
 -- the parts at flags
-abbrev parts_at : List Bool → List Value → List Value
+abbrev pub parts_at : List Bool → List Value → List Value
 parts_at [] vs = []
 parts_at (b ∷ bs) [] = []
 parts_at (b ∷ bs) (v ∷ vs) = if b then v ∷ parts_at bs vs else parts_at bs vs
 
-key_by_flags : (columns : List ColumnDef) (row : List Value) → key_of columns row ≡ parts_at (map (λ c. c.is_primary_key) columns) row
+pub key_by_flags : (columns : List ColumnDef) (row : List Value) → key_of columns row ≡ parts_at (map (λ c. c.is_primary_key) columns) row
 key_by_flags [] vs = refl
 key_by_flags (c ∷ cs) [] = refl
 key_by_flags (c ∷ cs) (v ∷ vs) = λ i. if c.is_primary_key then v ∷ key_by_flags cs vs i else key_by_flags cs vs i
 
-no_parts : (bs : List Bool) (vs : List Value) → AllByRecursion (λ b. b ≡ false) bs → parts_at bs vs ≡ []
+pub no_parts : (bs : List Bool) (vs : List Value) → AllByRecursion (λ b. b ≡ false) bs → parts_at bs vs ≡ []
 no_parts [] vs a = refl
 no_parts (b ∷ bs) [] a = refl
 no_parts (b ∷ bs) (v ∷ vs) a = rw (a.0) (no_parts bs vs (a.1))
@@ -93,7 +93,7 @@ validation_key : (columns : List ColumnDef) (v w : Value) (row : List Value) →
 validation_key columns v w row e = key_by_flags columns (v ∷ w ∷ row) ∙ ap (λ (bs : List Bool). parts_at bs (v ∷ w ∷ row)) (flags_alike columns validation_columns e)
     ∙ ap (λ (l : List Value). v ∷ w ∷ l) (no_parts (false ∷ false ∷ false ∷ false ∷ false ∷ false ∷ false ∷ false ∷ []) row (refl, (refl, (refl, (refl, (refl, (refl, (refl, (refl, tt)))))))))
 
-key_itself : (k : List Value) → same_key k k ≡ true
+pub key_itself : (k : List Value) → same_key k k ≡ true
 key_itself k = ap is_eq (tied_itself (lists_total value_cmp-total) k)
 
 -- rows that share the first two values have one key

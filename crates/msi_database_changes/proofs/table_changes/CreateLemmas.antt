@@ -119,7 +119,7 @@ inserted_missing b system values c name well s missing = subst (λ (c : Change).
     (still_missing b.database system s.table s.found well.in_order (in_stored_order s.table.columns (in_key_order s.table.columns s.put.1.places (rows_of s.table ++ s.put.0))) s.put.1.places name missing)
 
 module _ (takes : TakenPlacesHoldTheirText) (gives : GivenBackTakesOne) where
-  inserted_keeps : (b : Change) (system : List ℕ) (values : List (List Value)) (c : Change) → is_sound b.database ≡ true → WellFormed b.database → Inserted b system values c → Keeps b.database c.database
+  pub inserted_keeps : (b : Change) (system : List ℕ) (values : List (List Value)) (c : Change) → is_sound b.database ≡ true → WellFormed b.database → Inserted b system values c → Keeps b.database c.database
   inserted_keeps b system values c sound well s = record {
     sound = inserted_sound takes gives b system values c sound well s;
     well = inserted_well takes gives b system values c sound well s;

@@ -2,6 +2,7 @@ use Rattle.std.proofs.Common.{◌≡◌, ◌∙◌, ℕ, List, Result, ap, refl,
 use Rattle.msi.specs.Text.ErrorKind.{ErrorKind}
 use Rattle.msi.specs.Table.Columns.{ColumnDef}
 use Rattle.msi.specs.Database.Changes.{Change, sound_refusal}
+use Rattle.msi.specs.Database.AddColumn as adds
 use Rattle.msi.specs.Database.Create as creates
 use Rattle.msi.specs.Database.Delete as deletes
 use Rattle.msi.specs.Database.Drop as drops
@@ -24,6 +25,9 @@ made s name columns = changing (parts_of s) (λ d. creates.create_table d name c
 
 dropped : State → List ℕ → Result Change ErrorKind
 dropped s name = changing (parts_of s) (λ d. drops.drop_table d name)
+
+lengthened : State → ColumnDef → List ℕ → Result Change ErrorKind
+lengthened s column name = changing (parts_of s) (λ d. adds.add_column d name column)
 
 pub returns-in-CreateTable : goal.returns-in-CreateTable
 unfolding made
@@ -67,6 +71,17 @@ returns-in-DropTable c =
     (dropped s c.as_str.result.now) (λ n. ap (λ (x : List ℕ). changed s (dropped s x)) name) c.drop_table.result
     c.drop_table.ensures.ok c.drop_table.ensures.same c.drop_table.ensures.kind
     (subst (λ (x : List ℕ). AnswersWith (refused_early s (calls.drop_table x)) c.drop_table.result) (sym name) c.drop_table.ensures.early))
+
+pub returns-in-AddColumn : goal.returns-in-AddColumn
+unfolding lengthened
+returns-in-AddColumn c =
+    let s = c.args.target.now.state in
+    let column = c.in-AddColumn.column in
+    let name : c.in-AddColumn.name ≡ c.as_str-in-AddColumn.result.now = sym c.as_str-in-AddColumn.ensures in
+    rw c.in-AddColumn.is (change_takes c.args.target.now c.add_column.new.self (calls.add_column c.in-AddColumn.name column) refl refl
+    (lengthened s column c.as_str-in-AddColumn.result.now) (λ n. ap (λ (x : List ℕ). changed s (lengthened s column x)) name) c.add_column.result
+    c.add_column.ensures.ok c.add_column.ensures.same c.add_column.ensures.kind
+    (subst (λ (x : List ℕ). AnswersWith (refused_early s (calls.add_column x column)) c.add_column.result) (sym name) c.add_column.ensures.early))
 
 pub returns-in-SetDatabaseCodepage : goal.returns-in-SetDatabaseCodepage
 returns-in-SetDatabaseCodepage c =
