@@ -109,9 +109,11 @@ fn check_held(
 /// Returns the name of the first column of `_Validation` in which a row differs from the one that is stored.
 fn lost_cell<'a>(package: &'a Package<Opened>, row: &[Value], stored: &Row) -> Option<&'a str> {
     let columns = columns_of(package, VALIDATION);
-    for i in 0..row.len().min(stored.len()).min(columns.len()) {
-        if !is_held(columns[i].name(), &row[i], &stored[i]) {
-            return Some(columns[i].name());
+    for i in 0..stored.len() {
+        if let (Some(column), Some(value)) = (columns.get(i), row.get(i))
+            && !is_held(column.name(), value, &stored[i])
+        {
+            return Some(column.name());
         }
     }
     None
