@@ -36,11 +36,7 @@ use msi_table_values::column::Column;
 use std::alloc::Global;
 
 /// Returns copies of columns, and one more behind them.
-fn columns_with(
-    alloc: Global,
-    columns: &[Column],
-    column: Column,
-) -> Result<Items<Column>, Error>
+fn columns_with(alloc: Global, columns: &[Column], column: Column) -> Result<Items<Column>, Error>
     ensures ok { IfOk result (λ all. all ≡ columns.now ++ column ∷ []) }
     ensures kind { OnlyMemory result }
 {

@@ -150,7 +150,6 @@ module _ (takes : TakenPlacesHoldTheirText) (gives : GivenBackTakesOne) where
       let well = well_formed_from d formed in keeps_by d c (create_table_keeps d name columns c well e) (create_fits takes gives d name columns c well e) (create_distinct takes gives d name columns c well e)
   table_changes_keep_at d c (dropped name e) formed sound =
       let well = well_formed_from d formed in keeps_by d c (drop_table_keeps d name c well e) (drop_fits takes gives d name c well e) (drop_distinct takes gives d name c well e)
-
   table_changes_keep_at d c (column_added name column e) formed sound =
       let well = well_formed_from d formed in
       keeps_by d c (add_column_keeps d name column c well e) (column_fits takes gives d name column c well e) (column_distinct takes gives d name column c well (column_parts d name column c e))
