@@ -11,7 +11,7 @@ use msipkg_cli::{matches_of, verb_named};
 use msipkg_diff::compare_files;
 use msipkg_format::{Failure, Output, Shown, Style, System};
 use msipkg_packages::Purpose;
-use msipkg_queries::{GivenWords, MarkValue, mark_values};
+use msipkg_queries::{MarkValue, mark_values};
 use std::alloc::{AllocError, Global};
 
 /// The exit status where the reader of the output has gone away: that of a program which the signal for it ended.
@@ -80,21 +80,13 @@ fn given_values(alloc: Global, matches: &ArgMatches<'_>) -> Result<Vec<MarkValue
         Some((_, given)) => {
             mark_values(
                 alloc,
-                given_words(given, "value"),
-                given_words(given, "value-file"),
+                given.get_strs("value").unwrap_or(&[]),
+                given.indices_of("value").unwrap_or(&[]),
+                given.get_strs("value-file").unwrap_or(&[]),
+                given.indices_of("value-file").unwrap_or(&[]),
             )
         }
         None => Ok(Vec::new(alloc)),
-    }
-}
-
-fn given_words<'a, 'b>(given: &'b ArgMatches<'a>, id: &str) -> GivenWords<'a, 'b> {
-    match (given.get_strs(id), given.indices_of(id)) {
-        (Some(words), Some(places)) => GivenWords { words, places },
-        (_, _) => GivenWords {
-            words: &[],
-            places: &[],
-        },
     }
 }
 

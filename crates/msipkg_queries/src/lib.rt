@@ -25,7 +25,7 @@ pub mod written;
 pub use caret::refused_at;
 pub use fitting::{Fitted, fitted_statement, moved_statement};
 pub use literals::SelectedLiteral;
-pub use marks::{GivenWords, MarkValue, check_marks, mark_values};
+pub use marks::{MarkValue, check_marks, mark_values};
 pub use mistakes::session_sentence;
 pub use near::near_text;
 pub use reading::{Selection, read_select, read_statement};

@@ -37,9 +37,9 @@ impl MarkValue {
 
 /// Words of the command line with the places where they were given, in order.
 #[derive(Clone, Copy)]
-pub struct GivenWords<'a, 'b> {
-    pub words: &'b [&'a str],
-    pub places: &'b [usize],
+struct GivenWords<'a, 'b> {
+    words: &'b [&'a str],
+    places: &'b [usize],
 }
 
 impl<'a> GivenWords<'a, '_> {
@@ -55,17 +55,27 @@ impl<'a> GivenWords<'a, '_> {
     }
 }
 
-/// Returns the values for marks, in the order in which they were given: of texts `NULL`, a number as it prints, and a
-/// text for anything else, and of files streams.
+/// Returns the values for marks, in the order of the places where they were given: of texts `NULL`, a number as it
+/// prints, and a text for anything else, and of files streams.
 ///
 /// # Errors
 /// Fails if memory is refused.
 pub fn mark_values(
     alloc: Global,
-    mut texts: GivenWords<'_, '_>,
-    mut files: GivenWords<'_, '_>,
+    texts: &[&str],
+    text_places: &[usize],
+    files: &[&str],
+    file_places: &[usize],
 ) -> Result<Vec<MarkValue>, AllocError> {
     let mut values = Vec::new(alloc);
+    let mut texts = GivenWords {
+        words: texts,
+        places: text_places,
+    };
+    let mut files = GivenWords {
+        words: files,
+        places: file_places,
+    };
     for _ in 0..texts.words.len().saturating_add(files.words.len()) {
         let next = if is_before(texts.place(), files.place()) {
             text_value(alloc, texts.take())?
