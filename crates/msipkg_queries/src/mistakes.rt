@@ -122,7 +122,24 @@ pub(crate) fn sentence_at(pieces: &[Piece<'_>], place: usize, expected: Expected
             continued(pieces, place).unwrap_or(expected.description())
         }
         Expected::Operand if has_double(pieces, place, Kind::Eq) => "write = for equals",
-        _ => comment(pieces, place).unwrap_or(expected.description()),
+        Expected::Insert
+        | Expected::Update
+        | Expected::Delete
+        | Expected::Into
+        | Expected::JoinKind
+        | Expected::Equals
+        | Expected::Name
+        | Expected::Columns
+        | Expected::Side
+        | Expected::Operand
+        | Expected::Value
+        | Expected::OpenBracket
+        | Expected::By
+        | Expected::Null
+        | Expected::Number
+        | Expected::ClosingQuote
+        | Expected::Escape
+        | Expected::FewerLevels => comment(pieces, place).unwrap_or(expected.description()),
     }
 }
 
@@ -212,6 +229,6 @@ fn has_double(pieces: &[Piece<'_>], place: usize, kind: Kind) -> bool {
     }
     match (pieces.get(before), pieces.get(place)) {
         (Some(first), Some(second)) => first.place.saturating_add(1) == second.place,
-        _ => false,
+        (Some(_) | None, _) => false,
     }
 }

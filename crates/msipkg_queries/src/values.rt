@@ -57,7 +57,7 @@ pub(crate) fn value_fault(
             let is_spelled = is_at(pieces, place, Kind::Null);
             Ok(Some(refused_value(alloc, table, column, &value, is_spelled)?))
         }
-        _ => Ok(None),
+        Some(_) | None => Ok(None),
     }
 }
 
