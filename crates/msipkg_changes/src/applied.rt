@@ -1,14 +1,16 @@
 //! Statements carried out on a package.
 
-use crate::definition::Definition;
+use crate::describing::change_validation;
 use crate::outcome::Carried;
-use crate::stream_changes::{fill_streams, streams_met};
 use msipkg_format::Shown;
-use msipkg_import::{VALIDATION, change_validation};
+use msipkg_import::VALIDATION;
 use msipkg_packages::msi::parts::{deleted_rows, row_count, updated_rows};
 use msipkg_packages::msi::{Error, Package, Statement};
 use msipkg_packages::output::{Failure, Opened, System};
-use msipkg_queries::{Fitted, Written, explained, fitted_statement, said, stream_files};
+use msipkg_queries::{Written, said, stream_files};
+use msipkg_statements::definition::Definition;
+use msipkg_statements::stream_changes::{fill_streams, streams_met};
+use msipkg_statements::{Fitted, explained, fitted_statement};
 use std::alloc::Global;
 
 /// Carries out a change of rows and of their streams, and returns what it did. The rows are counted first, but why that

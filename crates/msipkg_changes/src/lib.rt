@@ -5,7 +5,7 @@
 mod applied;
 pub mod change;
 pub mod create;
-mod definition;
+mod describing;
 mod emptying;
 mod lost_texts;
 mod outcome;
@@ -14,10 +14,8 @@ pub mod recounting;
 pub mod script;
 pub mod statements;
 mod storing;
-mod stream_changes;
 mod stream_rows;
 mod streams;
-mod tokens;
 
 pub use change::{Change, Import, Manner, change_file};
 pub use create::create_file;

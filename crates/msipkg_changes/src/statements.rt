@@ -1,16 +1,16 @@
 //! `exec FILE TEXT..`: changes of a package's rows and tables as text.
 
 use crate::applied::{apply_columns, apply_definition, apply_rows};
-use crate::definition::{Definition, definition_of, is_definition};
 use crate::outcome::{Carried, Outcome};
 use crate::stream_rows::apply_streams;
 use msipkg_import::{VALIDATION, add_validation};
 use msipkg_packages::msi::{Package, Statement};
 use msipkg_packages::output::{Failure, Opened, System};
 use msipkg_queries::{
-    MarkValue, STORAGES, STREAMS, Written, changes_table, check_marks, mark_count, read_statement,
-    sets_only,
+    MarkValue, Written, changes_table, check_marks, mark_count, read_statement, sets_only,
 };
+use msipkg_statements::definition::{Definition, definition_of, is_definition};
+use msipkg_statements::{STORAGES, STREAMS};
 use std::alloc::{AllocError, Global};
 
 /// How many characters of a statement a message has at most.

@@ -2,12 +2,12 @@
 
 use crate::applied::{apply_rows, apply_statement, counted};
 use crate::outcome::Carried;
-use crate::stream_changes::{fill_from, streams_met};
 use msipkg_packages::msi::{Package, Statement};
 use msipkg_packages::output::{Failure, Opened, System};
-use msipkg_queries::{
-    Fitted, RowStream, STREAMS, Written, explained, fitted_statement, listed_names, stream_files,
-    with_stream_lists,
+use msipkg_queries::{Written, stream_files};
+use msipkg_statements::stream_changes::{fill_from, streams_met};
+use msipkg_statements::{
+    Fitted, RowStream, STREAMS, explained, fitted_statement, listed_names, with_stream_lists,
 };
 use std::alloc::{AllocError, Global};
 use std::collections::BTreeSet;

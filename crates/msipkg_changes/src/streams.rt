@@ -1,8 +1,8 @@
 //! `add FILE NAME=PATH..` and `remove FILE NAME..`: streams of a package.
 
-use crate::stream_changes::fill_from;
 use msipkg_packages::msi::Package;
 use msipkg_packages::output::{Failure, Opened, System};
+use msipkg_statements::stream_changes::fill_from;
 use std::alloc::Global;
 
 /// Stores files as streams, each written as `NAME=PATH`. Fails at the first word that has no `=`, whose file can't be

@@ -16,7 +16,7 @@ const LOSSY: &str =
     "_Validation can't hold all that the files say of columns; --lossy imports the rest";
 
 /// The rows of a package's `_Validation`, by their tables and columns.
-pub(crate) struct Descriptions {
+pub struct Descriptions {
     alloc: Global,
     rows: BTreeMap<String, Row>,
 }
@@ -29,7 +29,11 @@ impl Drop for Descriptions {
 }
 
 impl Descriptions {
-    pub(crate) fn of(alloc: Global, package: &Package<Opened>) -> Result<Descriptions, Failure> {
+    /// Reads the rows.
+    ///
+    /// # Errors
+    /// Fails if a row can't be read, and if memory is refused.
+    pub fn of(alloc: Global, package: &Package<Opened>) -> Result<Descriptions, Failure> {
         let mut rows = BTreeMap::new(alloc);
         for row in rows_of(alloc, package, VALIDATION)? {
             add_row(alloc, row?, &mut rows)?;
@@ -37,7 +41,11 @@ impl Descriptions {
         Ok(Descriptions { alloc, rows })
     }
 
-    pub(crate) fn about(&self, table: &str, column: &str) -> Result<Option<&Row>, AllocError> {
+    /// Returns the row about a column, if there is one.
+    ///
+    /// # Errors
+    /// Fails if memory is refused.
+    pub fn about(&self, table: &str, column: &str) -> Result<Option<&Row>, AllocError> {
         let key = key_of(self.alloc, table, column)?;
         Ok(self.rows.get(key.as_str()))
     }
@@ -196,7 +204,7 @@ fn note_cells(
 }
 
 /// Returns whether a value is stored, or says the same as the stored one: a category may be spelled in two ways.
-pub(crate) fn is_held(cell: &str, value: &Value, stored: &Value) -> bool {
+pub fn is_held(cell: &str, value: &Value, stored: &Value) -> bool {
     value == stored || (has_category(cell, value) && category_of(value) == category_of(stored))
 }
 

@@ -8,7 +8,8 @@ use msipkg_packages::output::{Failure, Opened};
 use msipkg_queries::{near_text, said, shown_value};
 use std::alloc::{AllocError, Global};
 
-pub(crate) fn columns_of<'a>(package: &'a Package<Opened>, name: &str) -> &'a [Column] {
+/// Returns the columns of a package's table, or none if it has no such table.
+pub fn columns_of<'a>(package: &'a Package<Opened>, name: &str) -> &'a [Column] {
     match package.get_table(name) {
         Some(table) => table.columns(),
         None => &[],

@@ -56,7 +56,8 @@ pub(crate) fn has_category(column: &str, value: &Value) -> bool {
     }
 }
 
-pub(crate) fn rule_about<'a>(rules: &'a [Vec<Value>], table: &str, column: &str) -> &'a [Value] {
+/// Returns the row that is about a column, or an empty one where none is.
+pub fn rule_about<'a>(rules: &'a [Vec<Value>], table: &str, column: &str) -> &'a [Value] {
     for rule in rules {
         if is_about(rule.as_slice(), table, column) {
             return rule.as_slice();

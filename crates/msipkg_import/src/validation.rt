@@ -104,7 +104,10 @@ pub fn add_validation(alloc: Global, package: &mut Package<Opened>) -> Result<()
 }
 
 /// Makes a package anew, with columns as these rows of `_Validation` describe them.
-pub(crate) fn make_anew(
+///
+/// # Errors
+/// Fails as `add_validation` does.
+pub fn make_anew(
     alloc: Global,
     package: &mut Package<Opened>,
     rules: &[Vec<Value>],
@@ -194,6 +197,10 @@ fn copy_table(
     Ok(made.insert_rows(Insert::into(alloc, table)?.rows(rows)?)?)
 }
 
+/// Returns copies of the rows of a table.
+///
+/// # Errors
+/// Fails if a row can't be read, and if memory is refused.
 pub fn copied_rows(
     alloc: Global,
     package: &Package<Opened>,

@@ -1,8 +1,7 @@
 //! Where a text is refused, drawn for people: its line, and a caret under the place.
 
 use crate::showing::said;
-use msipkg_format::Shown;
-use msipkg_packages::output::Failure;
+use msipkg_format::{Failure, Shown};
 use std::alloc::{AllocError, Global};
 
 /// How many characters of a line are shown in front of the place at most.

@@ -2,9 +2,9 @@
 //! and is put in its place when the rows are printed.
 
 use crate::pieces::{Piece, has_kind, is_at};
-use crate::values::value_at;
+use crate::spelled_values::value_at;
 use msi_query_tokens::token::Kind;
-use msipkg_packages::msi::Value;
+use msi_table::Value;
 use std::alloc::{AllocError, Global};
 
 /// What a query selects without columns is refused with `DISTINCT`, since its rows aren't told apart.

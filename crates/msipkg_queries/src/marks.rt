@@ -1,7 +1,7 @@
 //! The values that take the places of marks.
 
 use crate::showing::said;
-use msipkg_packages::output::Failure;
+use msipkg_format::Failure;
 use std::alloc::{AllocError, Global};
 
 /// The value that takes the place of a mark.

@@ -9,17 +9,17 @@ const UNKNOWN: &str = "#";
 
 /// A piece of a text.
 #[derive(Clone, Copy)]
-pub(crate) struct Piece<'a> {
-    pub(crate) kind: Kind,
+pub struct Piece<'a> {
+    pub kind: Kind,
     /// The byte at which it begins.
-    pub(crate) place: usize,
+    pub place: usize,
     /// How it is spelled. A name in backquotes may lack them.
-    pub(crate) text: &'a str,
+    pub text: &'a str,
 }
 
 impl<'a> Piece<'a> {
     /// Returns the name that it is, without its backquotes, if it is one.
-    pub(crate) fn name(self) -> Option<&'a str> {
+    pub fn name(self) -> Option<&'a str> {
         match self.kind {
             Kind::Name => Some(self.text),
             Kind::QuotedName => Some(without_quotes(self.text)),
@@ -66,19 +66,21 @@ fn piece_of<'a>(text: &'a str, tokens: &Tokens<'_>) -> Piece<'a> {
     }
 }
 
-pub(crate) fn is_at(pieces: &[Piece<'_>], place: usize, kind: Kind) -> bool {
+/// Returns whether there is a piece of a kind at a place.
+pub fn is_at(pieces: &[Piece<'_>], place: usize, kind: Kind) -> bool {
     match pieces.get(place) {
         Some(piece) => piece.kind == kind,
         None => false,
     }
 }
 
-pub(crate) fn has_kind(pieces: &[Piece<'_>], kind: Kind) -> bool {
+/// Returns whether a piece is of a kind.
+pub fn has_kind(pieces: &[Piece<'_>], kind: Kind) -> bool {
     pieces.iter().any(|piece| piece.kind == kind)
 }
 
 /// Returns the name of a table at a place behind `FROM`, `JOIN`, `INTO` or `UPDATE`, or in the list behind `FROM`.
-pub(crate) fn table_at<'a>(pieces: &[Piece<'a>], place: usize) -> Option<&'a str> {
+pub fn table_at<'a>(pieces: &[Piece<'a>], place: usize) -> Option<&'a str> {
     let before = pieces.get(list_start(pieces, place).checked_sub(1)?)?;
     match before.kind {
         Kind::From | Kind::Join | Kind::Into | Kind::Update => pieces.get(place)?.name(),
@@ -123,7 +125,7 @@ fn is_name_at(pieces: &[Piece<'_>], place: usize) -> bool {
 }
 
 /// Returns the name of its own that the table at a place has behind its name, in a list of tables.
-pub(crate) fn own_name_at<'a>(pieces: &[Piece<'a>], place: usize) -> Option<&'a str> {
+pub fn own_name_at<'a>(pieces: &[Piece<'a>], place: usize) -> Option<&'a str> {
     let before = list_start(pieces, place).checked_sub(1)?;
     if is_at(pieces, before, Kind::From) {
         pieces.get(place.saturating_add(1))?.name()

@@ -9,9 +9,10 @@ use crate::mistakes::sentence_at;
 use crate::pieces::{Piece, is_at};
 use crate::rules::{check_pieces, check_quotes};
 use crate::written::{Written, pieces_of};
+use msi_query::Select;
+use msi_query_parse::{Parse, ParseError, Refused, Statement};
 use msi_query_tokens::token::Kind;
-use msipkg_packages::msi::{Parse, ParseError, Refused, Select, Statement};
-use msipkg_packages::output::Failure;
+use msipkg_format::Failure;
 use std::alloc::{AllocError, Global};
 
 /// A query for rows as it was read.

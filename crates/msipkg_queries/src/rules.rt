@@ -5,8 +5,7 @@ use crate::comparing::{is_operator, operand_end};
 use crate::pieces::{Piece, has_kind, own_name_at, table_at};
 use crate::showing::said;
 use msi_query_tokens::token::Kind;
-use msipkg_format::Shown;
-use msipkg_packages::output::Failure;
+use msipkg_format::{Failure, Shown};
 use std::alloc::Global;
 
 /// The error of a text in double quotes with a backslash.

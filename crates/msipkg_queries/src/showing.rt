@@ -1,8 +1,7 @@
 //! What messages say of values.
 
-use msipkg_format::Shown;
-use msipkg_packages::msi::Value;
-use msipkg_packages::output::{Cause, Failure};
+use msi_table::Value;
+use msipkg_format::{Cause, Failure, Shown};
 use std::alloc::{AllocError, Global};
 
 /// How many characters of a text are shown at most.

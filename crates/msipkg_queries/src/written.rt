@@ -16,10 +16,10 @@ pub struct Written<'a> {
 
 /// Returns the pieces that a text stands for: values in place of its marks, no semicolon at its end, and columns
 /// without the name of the table in front, where there is one table.
-pub(crate) fn pieces_of<'a>(
-    alloc: Global,
-    written: Written<'a>,
-) -> Result<Vec<Piece<'a>>, AllocError> {
+///
+/// # Errors
+/// Fails if memory is refused.
+pub fn pieces_of<'a>(alloc: Global, written: Written<'a>) -> Result<Vec<Piece<'a>>, AllocError> {
     let cut = cut_pieces(alloc, written.text)?;
     let mut pieces = with_values(alloc, cut.as_slice(), written.values)?;
     if let Some(last) = pieces.as_slice().last()

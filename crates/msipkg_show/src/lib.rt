@@ -13,6 +13,7 @@ mod product;
 pub mod query;
 pub mod schema;
 mod schema_json;
+mod selected;
 mod streams;
 mod summary;
 mod tables;

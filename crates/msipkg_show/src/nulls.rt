@@ -1,9 +1,9 @@
 //! The null cells of the columns of streams that a query selects.
 
+use crate::selected::{selected_tables, wide_select};
 use msipkg_packages::msi::{Column, Package, Select, Table};
 use msipkg_packages::output::{Failure, NullCells, Opened};
 use msipkg_packages::{StreamColumn, has_null_streams, null_cells_in};
-use msipkg_queries::{selected_tables, wide_select};
 use std::alloc::{AllocError, Global};
 
 /// Returns the null cells of the rows that a query selects, which have these columns. The rows are gone over, with all

@@ -8,9 +8,8 @@ use msipkg_packages::output::{
     Failure, NullCells, Opened, Output, RowFormat, RowPrinting, System, write_rows,
 };
 use msipkg_packages::{PackageFile, open_to_look};
-use msipkg_queries::{
-    Selection, Written, check_marks, explained, lists_for, mark_count, read_select,
-};
+use msipkg_queries::{Selection, Written, check_marks, mark_count, read_select};
+use msipkg_statements::{explained, lists_for};
 use std::alloc::{AllocError, Global};
 
 /// How the rows of a query are printed.

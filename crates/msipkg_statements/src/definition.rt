@@ -38,7 +38,7 @@ const TYPES: [(&str, Kind); 6] = [
 
 /// A change of a package's tables.
 #[derive(Drop)]
-pub(crate) enum Definition<'a> {
+pub enum Definition<'a> {
     Create {
         table: &'a str,
         columns: Vec<Column>,
@@ -72,14 +72,18 @@ enum Kind {
 }
 
 /// Returns whether the first word of a text is `CREATE`, `ALTER` or `DROP`.
-pub(crate) fn is_definition(alloc: Global, text: &str) -> bool {
+pub fn is_definition(alloc: Global, text: &str) -> bool {
     let mut tokens = Tokens::new(alloc, text);
     tokens.takes_word("CREATE") || tokens.takes_word("ALTER") || tokens.takes_word("DROP")
 }
 
 /// Reads a definition, such as ``CREATE TABLE `T` (`A` CHAR(72) NOT NULL, `B` LONG PRIMARY KEY `A`)``, ``ALTER TABLE
 /// `T` ADD `C` SHORT`` or ``DROP TABLE `T` ``.
-pub(crate) fn definition_of<'a>(alloc: Global, text: &'a str) -> Result<Definition<'a>, Failure> {
+///
+/// # Errors
+/// Fails at the first word that is no part of one, if a table or a column can't have its name or is there twice, and if
+/// memory is refused.
+pub fn definition_of<'a>(alloc: Global, text: &'a str) -> Result<Definition<'a>, Failure> {
     let mut tokens = Tokens::new(alloc, text);
     if tokens.takes_word("CREATE") {
         return creation(alloc, &mut tokens);

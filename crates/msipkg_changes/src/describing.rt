@@ -1,15 +1,17 @@
 //! Changes of the rows of `_Validation`, which the library bars: they are made in a table beside the package, and then
 //! the package is made anew with columns as the rows describe them.
 
-use crate::losses::{Descriptions, is_held};
-use crate::rows::columns_of;
-use crate::rules::rule_about;
-use crate::validation::{VALIDATION, copied_rows, make_anew};
 use msipkg_format::Shown;
+use msipkg_import::VALIDATION;
+use msipkg_import::losses::{Descriptions, is_held};
+use msipkg_import::rows::columns_of;
+use msipkg_import::rules::rule_about;
+use msipkg_import::validation::{copied_rows, make_anew};
 use msipkg_packages::msi::{Column, Error, Insert, Package, Row, Statement, Value};
 use msipkg_packages::new_package;
 use msipkg_packages::output::{Failure, Opened};
-use msipkg_queries::{moved_statement, said};
+use msipkg_queries::said;
+use msipkg_statements::moved_statement;
 use std::alloc::{AllocError, Global};
 
 /// The table in which the rows are changed.
@@ -20,7 +22,7 @@ const RULES: &str = "Rules";
 /// # Errors
 /// Fails as the statement and making the package anew do, if the package is signed, at a row that the columns don't
 /// agree with, and at a row that is deleted although its column is there. Then the package is to be dropped.
-pub fn change_validation(
+pub(crate) fn change_validation(
     alloc: Global,
     package: &mut Package<Opened>,
     statement: Statement,

@@ -11,7 +11,7 @@ use std::alloc::{AllocError, Global};
 ///
 /// # Errors
 /// Fails if memory is refused.
-pub fn wide_select(alloc: Global, query: &Select) -> Result<Option<Select>, Error> {
+pub(crate) fn wide_select(alloc: Global, query: &Select) -> Result<Option<Select>, Error> {
     if is_distinct(select_tree(query)) {
         return Ok(None);
     }
@@ -30,7 +30,7 @@ fn is_distinct(tree: &SelectTree) -> bool {
 ///
 /// # Errors
 /// Fails if memory is refused.
-pub fn selected_tables<'a>(
+pub(crate) fn selected_tables<'a>(
     alloc: Global,
     package: &'a Package<Opened>,
     query: &Select,

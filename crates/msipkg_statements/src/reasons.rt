@@ -2,13 +2,13 @@
 
 use crate::inserting::insert_fault;
 use crate::naming::{NamedTable, column_fault, table_fault, tables_in};
-use crate::pieces::Piece;
-use crate::showing::said;
 use crate::values::update_fault;
-use crate::written::{Written, pieces_of};
 use msi_query_tokens::token::Kind;
 use msipkg_packages::msi::Package;
 use msipkg_packages::output::{Failure, Opened};
+use msipkg_queries::pieces::Piece;
+use msipkg_queries::said;
+use msipkg_queries::written::{Written, pieces_of};
 use std::alloc::{AllocError, Global};
 
 /// Returns the failure of a query or a statement that a package refused, with the table, the column and the value that

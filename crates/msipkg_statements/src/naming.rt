@@ -1,11 +1,11 @@
 //! The tables and columns that a text names, and the first of them that a package lacks.
 
-use crate::near::near_text;
-use crate::pieces::{Piece, has_kind, is_at, own_name_at, table_at};
 use msi_query_tokens::token::Kind;
 use msipkg_format::Shown;
 use msipkg_packages::msi::{Package, Table};
 use msipkg_packages::output::Opened;
+use msipkg_queries::near_text;
+use msipkg_queries::pieces::{Piece, has_kind, is_at, own_name_at, table_at};
 use std::alloc::{AllocError, Global};
 
 /// A table that a text names, and the name that its columns go by there.

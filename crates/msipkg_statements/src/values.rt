@@ -1,13 +1,12 @@
 //! The values that a text gives to columns, and the first that its column doesn't take.
 
 use crate::fitting::fitted_value;
-use crate::pieces::{Piece, is_at};
-use crate::showing::shown_value;
-use msi_query_tokens::texts;
 use msi_query_tokens::token::Kind;
-use msi_query_tokens::tokens::Tokens;
 use msipkg_format::Shown;
-use msipkg_packages::msi::{Column, ParseError, Table, Value};
+use msipkg_packages::msi::{Column, Table, Value};
+use msipkg_queries::pieces::{Piece, is_at};
+use msipkg_queries::shown_value;
+use msipkg_queries::spelled_values::value_at;
 use std::alloc::{AllocError, Global};
 
 pub(crate) fn update_fault(
@@ -79,10 +78,6 @@ fn refused_value(
     format!(in alloc; "{table}: column {column} doesn't take {shown}{null}")
 }
 
-fn is_negative(pieces: &[Piece<'_>], place: usize) -> bool {
-    place > 0 && is_at(pieces, place.saturating_sub(1), Kind::Sub)
-}
-
 /// Returns the value at a place as its column takes it.
 fn fitting_value(
     alloc: Global,
@@ -93,41 +88,5 @@ fn fitting_value(
     match value_at(alloc, pieces, place)? {
         Some(value) => Ok(Some(fitted_value(alloc, column, value)?)),
         None => Ok(None),
-    }
-}
-
-pub(crate) fn value_at(
-    alloc: Global,
-    pieces: &[Piece<'_>],
-    place: usize,
-) -> Result<Option<Value>, AllocError> {
-    let Some(piece) = pieces.get(place) else {
-        return Ok(None);
-    };
-    match piece.kind {
-        Kind::Null => Ok(Some(Value::Null)),
-        Kind::BinaryStream => Ok(Some(Value::Binary)),
-        Kind::Number => Ok(number_in(piece.text, is_negative(pieces, place))),
-        Kind::SingleQuoted | Kind::DoubleQuoted => text_in(alloc, piece.text),
-        _ => Ok(None),
-    }
-}
-
-fn number_in(digits: &str, is_negative: bool) -> Option<Value> {
-    let number = digits.parse::<i64>().ok()?;
-    let number = if is_negative {
-        number.checked_neg()?
-    } else {
-        number
-    };
-    Some(Value::Int(i32::try_from(number).ok()?))
-}
-
-fn text_in(alloc: Global, quoted: &str) -> Result<Option<Value>, AllocError> {
-    match texts::text(alloc, &mut Tokens::new(quoted.as_bytes())) {
-        Ok(text) if text.as_str().is_empty() => Ok(Some(Value::Null)),
-        Ok(text) => Ok(Some(Value::Str(text))),
-        Err(ParseError::OutOfMemory) => Err(AllocError),
-        Err(ParseError::Refused(_)) => Ok(None),
     }
 }

@@ -1,11 +1,11 @@
 //! What is wrong with the columns and the rows of an insert.
 
 use crate::naming::{NamedTable, known_columns, missing_column};
-use crate::pieces::{Piece, is_at};
 use crate::values::value_fault;
 use msi_query_tokens::token::Kind;
 use msipkg_format::Shown;
 use msipkg_packages::msi::{Column, Table};
+use msipkg_queries::pieces::{Piece, is_at};
 use std::alloc::{AllocError, Global};
 
 /// Returns what is wrong with an insert, if that shows: with the columns that it names first, and then with its rows.

@@ -1,15 +1,18 @@
 //! Streams of rows that statements change.
 
+use crate::row_streams::{RowStream, StatementStreams, UpdatedStreams};
 use msipkg_packages::fill_stream;
 use msipkg_packages::msi::parts::updated_rows;
 use msipkg_packages::msi::{Package, Rows, Statement};
 use msipkg_packages::output::{Failure, Opened, System, stream_name};
-use msipkg_queries::{RowStream, StatementStreams, UpdatedStreams};
 use std::alloc::{AllocError, Global};
 
 /// Returns the streams that a statement changes: an update those of the rows that meet its condition, before it is
 /// carried out.
-pub(crate) fn streams_met<'a>(
+///
+/// # Errors
+/// Fails at an update that sets a key beside a stream, and if its rows can't be selected.
+pub fn streams_met<'a>(
     alloc: Global,
     package: &Package<Opened>,
     statement: &Statement,
@@ -46,7 +49,10 @@ fn streams_of<'a>(
 }
 
 /// Gives streams the bytes of their files, and removes those without one.
-pub(crate) fn fill_streams(
+///
+/// # Errors
+/// Fails at the first file that can't be read or stored. The streams in front of it are changed.
+pub fn fill_streams(
     rt: &System,
     package: &mut Package<Opened>,
     streams: &[RowStream<'_>],
@@ -61,7 +67,10 @@ pub(crate) fn fill_streams(
 }
 
 /// Stores a file as the stream of a name.
-pub(crate) fn fill_from(
+///
+/// # Errors
+/// Fails if the file can't be read, or the name is none that a stream may have.
+pub fn fill_from(
     rt: &System,
     package: &mut Package<Opened>,
     name: &str,
