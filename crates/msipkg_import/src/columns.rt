@@ -1,7 +1,7 @@
 //! The columns of tables that are created.
 
-use crate::given::{GivenColumn, GivenTable};
 use crate::rules::rule_about;
+use msipkg_import_files::{GivenColumn, GivenTable};
 use msipkg_packages::msi::{Category, Column, ColumnBuilder, ColumnType, Error, Table, Value};
 use std::alloc::Global;
 

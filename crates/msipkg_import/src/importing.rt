@@ -1,9 +1,9 @@
 //! Giving a package what files have.
 
-use crate::given::{Given, GivenStream};
 use crate::null_streams::remove_null_streams;
 use crate::summary::apply_summary;
 use crate::tables::apply_tables;
+use msipkg_import_files::{Given, GivenStream};
 use msipkg_packages::fill_stream;
 use msipkg_packages::msi::Package;
 use msipkg_packages::output::{Failure, Opened};

@@ -1,10 +1,10 @@
 //! What files say of columns in `_Validation`, and a package doesn't hold.
 
-use crate::given::GivenTable;
 use crate::rows::{columns_of, package_rows};
 use crate::rules::has_category;
 use crate::validation::VALIDATION;
 use msipkg_format::Shown;
+use msipkg_import_files::GivenTable;
 use msipkg_packages::msi::{Category, Column, Package, Row, Value};
 use msipkg_packages::output::{Failure, Opened, Output};
 use msipkg_packages::rows_of;

@@ -1,8 +1,8 @@
 //! Rows that files give among those that a table has.
 
-use crate::given::GivenTable;
 use crate::importing::Merging;
 use crate::rows::check_row;
+use msipkg_import_files::GivenTable;
 use msipkg_packages::msi::{Column, Error, Value};
 use msipkg_packages::output::Failure;
 use std::alloc::Global;

@@ -1,8 +1,8 @@
 //! Streams of rows for which files give null. A cell of a column of streams doesn't record it, so that it is null means
 //! that the package has no such stream.
 
-use crate::given::GivenTable;
 use crate::rows::{columns_of, package_row};
+use msipkg_import_files::GivenTable;
 use msipkg_packages::has_null_streams;
 use msipkg_packages::msi::{Column, ColumnType, Error, Package, Value, ValueView};
 use msipkg_packages::output::{Failure, Opened, push_key};

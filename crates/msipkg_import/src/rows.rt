@@ -1,7 +1,7 @@
 //! Rows that files give, as a package's table has them.
 
-use crate::given::GivenTable;
 use msi_exchange::csv_value;
+use msipkg_import_files::GivenTable;
 use msipkg_packages::has_null_streams;
 use msipkg_packages::msi::{Column, Error, Package, Value};
 use msipkg_packages::output::{Failure, Opened};

@@ -1,8 +1,8 @@
 //! Rows of `_Validation`, which say more of columns.
 
-use crate::given::GivenTable;
 use crate::rows::package_rows;
 use crate::validation::VALIDATION;
+use msipkg_import_files::GivenTable;
 use msipkg_packages::msi::{Category, Column, Value};
 use msipkg_packages::output::Failure;
 use std::alloc::Global;

@@ -1,6 +1,6 @@
 //! Giving a package a summary.
 
-use crate::given::GivenProperty;
+use msipkg_import_files::GivenProperty;
 use msipkg_packages::msi::{Error, Package, SummaryInfo, SummaryProperty};
 use msipkg_packages::output::{Failure, Opened};
 use msipkg_packages::set_property_text;

@@ -2,12 +2,12 @@
 
 use crate::columns::built_columns;
 use crate::descriptions::describe;
-use crate::given::GivenTable;
 use crate::importing::Merging;
 use crate::merger::merged_rows;
 use crate::rows::{check_rows, columns_of, package_rows};
 use crate::rules::rules_of;
 use crate::validation::{VALIDATION, add_validation, copied_rows};
+use msipkg_import_files::GivenTable;
 use msipkg_packages::check_reserved;
 use msipkg_packages::msi::{Delete, Error, Insert, Package, Value};
 use msipkg_packages::output::{Failure, Opened};

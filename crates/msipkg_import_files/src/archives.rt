@@ -3,9 +3,10 @@
 use crate::archive_streams::{STREAMS, row_with_streams};
 use crate::given::{Given, GivenColumn, GivenTable, page_of};
 use crate::places::at_part;
+use msi_base::CodePage;
 use msi_exchange::{Archive, ArchiveColumn, ArchiveError, read};
+use msi_table::Value;
 use msipkg_format::{Failure, StoredProperty, System};
-use msipkg_packages::msi::{CodePage, Value};
 use std::alloc::{AllocError, Global};
 use std::str;
 

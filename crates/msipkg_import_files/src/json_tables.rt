@@ -3,8 +3,8 @@
 use crate::given::{GivenColumn, GivenTable};
 use crate::json_packages::{items_in, text_in};
 use msi_exchange::json_value;
+use msi_table::{ColumnType, Value};
 use msipkg_format::Failure;
-use msipkg_packages::msi::{ColumnType, Value};
 use serde_json::Value as Json;
 use std::alloc::Global;
 

@@ -2,9 +2,10 @@
 
 use crate::given::{Given, GivenColumn, GivenTable};
 use csv::{ReaderBuilder, StringRecord};
+use msi_base::Error;
 use msi_exchange::csv_value;
+use msi_table::{ColumnType, Value};
 use msipkg_format::Failure;
-use msipkg_packages::msi::{ColumnType, Error, Value};
 use std::alloc::{AllocError, Global};
 
 /// How long the texts of a key are at most, where the table is created.

@@ -5,8 +5,9 @@ use crate::json_tables::table_of;
 use crate::places::at_part;
 use base64::DecodeAllocError;
 use base64::engine::general_purpose::STANDARD;
+use msi_base::CodePage;
+use msi_summary::SummaryProperty;
 use msipkg_format::{Failure, StoredProperty};
-use msipkg_packages::msi::{CodePage, SummaryProperty};
 use serde_json::Value;
 use std::alloc::{AllocError, Global};
 

@@ -1,8 +1,9 @@
 //! What files give, before a package takes it.
 
 use crate::places::{at_part, part_of};
+use msi_base::CodePage;
+use msi_table::{ColumnType, Value};
 use msipkg_format::{Failure, StoredProperty};
-use msipkg_packages::msi::{CodePage, ColumnType, Value};
 use std::alloc::{AllocError, Global};
 
 /// A column.

@@ -2,8 +2,9 @@
 
 use crate::given::{Given, GivenStream, GivenTable};
 use crate::places::at_part;
+use msi_base::Error;
+use msi_table::{ColumnType, Value, ValueView};
 use msipkg_format::{Failure, System, path_in, push_key};
-use msipkg_packages::msi::{ColumnType, Error, Value, ValueView};
 use std::alloc::{AllocError, Global};
 use std::fs;
 use std::path::Path;
