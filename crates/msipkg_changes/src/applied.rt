@@ -2,12 +2,12 @@
 
 use crate::describing::change_validation;
 use crate::outcome::Carried;
-use msipkg_format::Shown;
+use msipkg_format::{Shown, said};
 use msipkg_import::VALIDATION;
 use msipkg_packages::msi::parts::{deleted_rows, row_count, updated_rows};
 use msipkg_packages::msi::{Error, Package, Statement};
 use msipkg_packages::output::{Failure, Opened, System};
-use msipkg_queries::{Written, said, stream_files};
+use msipkg_queries::{Written, stream_files};
 use msipkg_statements::definition::Definition;
 use msipkg_statements::stream_changes::{fill_streams, streams_met};
 use msipkg_statements::{Fitted, explained, fitted_statement};

@@ -1,7 +1,7 @@
 //! Changes of the rows of `_Validation`, which the library bars: they are made in a table beside the package, and then
 //! the package is made anew with columns as the rows describe them.
 
-use msipkg_format::Shown;
+use msipkg_format::{Shown, said};
 use msipkg_import::VALIDATION;
 use msipkg_import::losses::{Descriptions, is_held};
 use msipkg_import::rows::columns_of;
@@ -10,7 +10,6 @@ use msipkg_import::validation::{copied_rows, make_anew};
 use msipkg_packages::msi::{Column, Error, Insert, Package, Row, Statement, Value};
 use msipkg_packages::new_package;
 use msipkg_packages::output::{Failure, Opened};
-use msipkg_queries::said;
 use msipkg_statements::moved_statement;
 use std::alloc::{AllocError, Global};
 

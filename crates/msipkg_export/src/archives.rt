@@ -7,10 +7,10 @@ use crate::other_archives::{
     PAGE, STREAMS, SUMMARY, page_archive, stream_files, streams_archive, summary_archive,
 };
 use crate::table_archives::{StreamFile, TableArchive};
-use msipkg_format::{Ending, SafeName, SafeNames, safe_name};
 use msipkg_packages::msi::{Package, Table};
 use msipkg_packages::output::{Failure, Opened, Output, System, at_file};
 use msipkg_packages::{Folder, chosen_tables, open_new};
+use msipkg_safe_names::{Ending, SafeName, SafeNames, safe_name};
 use std::alloc::{AllocError, Global};
 use std::collections::BTreeSet;
 

@@ -1,12 +1,12 @@
 //! Tables as comma-separated values: the names of the columns, and then a line for each row.
 
 use crate::folders::make_folder;
-use msipkg_format::{Ending, SafeName, SafeNames};
 use msipkg_packages::msi::{Package, Rows, Table};
 use msipkg_packages::output::{
     Failure, NullCells, Opened, Output, RowPrinting, System, at_file, write_rows,
 };
 use msipkg_packages::{Folder, chosen_tables, null_cells_of, open_new, rows_of};
+use msipkg_safe_names::{Ending, SafeName, SafeNames};
 use std::alloc::{AllocError, Global};
 
 /// Writes each table to a file of a folder, which is made if it doesn't exist. Nothing is written if a table doesn't

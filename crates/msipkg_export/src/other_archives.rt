@@ -3,12 +3,12 @@
 use crate::archive_parts::text_value;
 use crate::archive_texts::{StoredText, text_of_rows};
 use crate::table_archives::StreamFile;
-use msipkg_format::SafeNames;
 use msipkg_packages::msi::{
     CodePage, Column, Error, Items, Package, SummaryInfo, SummaryProperty, Value,
 };
 use msipkg_packages::output::{Failure, Opened, StoredProperty};
 use msipkg_packages::property_text;
+use msipkg_safe_names::SafeNames;
 use std::alloc::{AllocError, Global};
 use std::collections::BTreeSet;
 

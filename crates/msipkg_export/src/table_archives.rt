@@ -3,10 +3,11 @@
 use crate::archive_pages::ArchivePage;
 use crate::archive_parts::text_value;
 use crate::archive_texts::ArchiveText;
-use msipkg_format::{SafeName, SafeNames, Style};
+use msipkg_format::Style;
 use msipkg_packages::msi::{CodePage, Column, ColumnType, Package, Rows, Table, Value, ValueView};
 use msipkg_packages::output::{Failure, Opened, Output, stream_name};
 use msipkg_packages::{cell_text, has_null_streams, rows_of};
+use msipkg_safe_names::{SafeName, SafeNames};
 use std::alloc::{AllocError, Global};
 
 /// The refusal of a row whose stream doesn't exist.

@@ -4,8 +4,7 @@ use msi_exchange::csv_value;
 use msipkg_import_files::GivenTable;
 use msipkg_packages::has_null_streams;
 use msipkg_packages::msi::{Column, Error, Package, Value};
-use msipkg_packages::output::{Failure, Opened};
-use msipkg_queries::{near_text, said, shown_value};
+use msipkg_packages::output::{Failure, Opened, near_text, said, shown_value};
 use std::alloc::{AllocError, Global};
 
 /// Returns the columns of a package's table, or none if it has no such table.

@@ -2,7 +2,8 @@
 
 use crate::kinds::check_way;
 use crate::making::write_new;
-use msipkg_format::{Failure, SafeName, System, at_file, path_in};
+use msipkg_format::{Failure, System, at_file, path_in};
+use msipkg_safe_names::SafeName;
 use std::alloc::{AllocError, Global};
 
 /// Where files go.

@@ -1,7 +1,6 @@
 //! Where a text is refused, drawn for people: its line, and a caret under the place.
 
-use crate::showing::said;
-use msipkg_format::{Failure, Shown};
+use msipkg_format::{Failure, Shown, said};
 use std::alloc::{AllocError, Global};
 
 /// How many characters of a line are shown in front of the place at most.

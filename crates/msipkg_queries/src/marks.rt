@@ -1,7 +1,6 @@
 //! The values that take the places of marks.
 
-use crate::showing::said;
-use msipkg_format::Failure;
+use msipkg_format::{Failure, said};
 use std::alloc::{AllocError, Global};
 
 /// The value that takes the place of a mark.

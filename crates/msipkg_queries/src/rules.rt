@@ -3,9 +3,8 @@
 use crate::caret::refused_at;
 use crate::comparing::{is_operator, operand_end};
 use crate::pieces::{Piece, has_kind, own_name_at, table_at};
-use crate::showing::said;
 use msi_query_tokens::token::Kind;
-use msipkg_format::{Failure, Shown};
+use msipkg_format::{Failure, Shown, said};
 use std::alloc::Global;
 
 /// The error of a text in double quotes with a backslash.

@@ -2,9 +2,8 @@
 
 use crate::cells::row_key;
 use msipkg_packages::msi::{Package, Rows, Table, ValueView};
-use msipkg_packages::output::{Failure, Opened, Shown, push_key};
+use msipkg_packages::output::{Failure, Opened, Shown, near_text, push_key, said};
 use msipkg_packages::rows_of;
-use msipkg_queries::{near_text, said};
 use std::alloc::{AllocError, Global};
 use std::collections::BTreeSet;
 

@@ -1,10 +1,11 @@
 //! `extract FILE [NAME..] -o DIR`: the streams of a package as files of a folder. Whatever a stream's name is, nothing
 //! is written outside the folder.
 
-use msipkg_format::{SafeNames, Shown, Style};
+use msipkg_format::{Shown, Style};
 use msipkg_packages::msi::Package;
 use msipkg_packages::output::{Failure, Opened, Output, System};
 use msipkg_packages::{Folder, StoredStreams, stored_streams, stream_bytes};
+use msipkg_safe_names::SafeNames;
 use std::collections::BTreeSet;
 use std::fs;
 

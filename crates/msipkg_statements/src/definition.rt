@@ -1,11 +1,10 @@
 //! `CREATE TABLE`, `ALTER TABLE` and `DROP TABLE` as text, in the installer's form.
 
 use crate::tokens::Tokens;
-use msipkg_format::Shown;
+use msipkg_format::{Shown, near_text, said};
 use msipkg_packages::check_reserved;
 use msipkg_packages::msi::{Column, Error};
 use msipkg_packages::output::Failure;
-use msipkg_queries::{near_text, said};
 use std::alloc::{AllocError, Global};
 
 /// How many columns a table has at most.

@@ -1,10 +1,9 @@
 //! The tables and columns that a text names, and the first of them that a package lacks.
 
 use msi_query_tokens::token::Kind;
-use msipkg_format::Shown;
+use msipkg_format::{Shown, near_text};
 use msipkg_packages::msi::{Package, Table};
 use msipkg_packages::output::Opened;
-use msipkg_queries::near_text;
 use msipkg_queries::pieces::{Piece, has_kind, is_at, own_name_at, table_at};
 use std::alloc::{AllocError, Global};
 

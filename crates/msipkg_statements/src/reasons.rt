@@ -5,9 +5,8 @@ use crate::naming::{NamedTable, column_fault, table_fault, tables_in};
 use crate::values::update_fault;
 use msi_query_tokens::token::Kind;
 use msipkg_packages::msi::Package;
-use msipkg_packages::output::{Failure, Opened};
+use msipkg_packages::output::{Failure, Opened, said};
 use msipkg_queries::pieces::Piece;
-use msipkg_queries::said;
 use msipkg_queries::written::{Written, pieces_of};
 use std::alloc::{AllocError, Global};
 

@@ -2,10 +2,9 @@
 
 use crate::fitting::fitted_value;
 use msi_query_tokens::token::Kind;
-use msipkg_format::Shown;
+use msipkg_format::{Shown, shown_value};
 use msipkg_packages::msi::{Column, Table, Value};
 use msipkg_queries::pieces::{Piece, is_at};
-use msipkg_queries::shown_value;
 use msipkg_queries::spelled_values::value_at;
 use std::alloc::{AllocError, Global};
 
