@@ -1,0 +1,6 @@
+-- The words of this crate.
+pub mod Actions
+pub mod Cells
+pub mod Records
+pub mod RecordCells
+pub mod Laws
