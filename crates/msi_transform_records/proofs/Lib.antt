@@ -1,2 +1,5 @@
 -- The lemmas of this crate.
+pub mod BitLemmas
+pub mod ToldLemmas
+pub mod CellsLemmas
 pub mod WorkedRows

@@ -11,7 +11,7 @@ use Rattle.msi_transform_records.specs.declared.records.Record.{Record}
 use Rattle.msi_transform_records.specs.declared.shape.Shape.{Shape}
 use Rattle.msi_transform_records.specs.Cells.{cell_at}
 use Rattle.msi_transform_records.specs.RecordCells.{added_cells, changes_of_record, key_of_record}
-use Rattle.msi_transform_records.specs.Records.{leading, record_at, record_bytes, record_with, records_in}
+use Rattle.msi_transform_records.specs.Records.{head_at, leading, record_at, record_bytes, record_with, records_in}
 
 abbrev of_key : ColumnType → Shape
 of_key type = record { coltype = type; is_key = true }
@@ -52,7 +52,7 @@ bytes_of_three = 0 ∷ 0 ∷ 1 ∷ 0
     ∷ 1 ∷ 4 ∷ 4 ∷ 0 ∷ 0 ∷ 0 ∷ 7 ∷ 0x80 ∷ 5 ∷ 0 ∷ 0 ∷ 0x80 ∷ []
 
 three_are_read : records_in columns pool bytes_of_three ≡ Some three
-unfolding record_at cell_at
+unfolding record_at head_at cell_at
 three_are_read = refl
 
 three_are_spelled : flat_map (record_bytes false columns) three ≡ bytes_of_three
@@ -71,15 +71,10 @@ key_of_add = refl
 short_row : added_cells columns (record_with (action.Add 2) (cell.Str 4 ∷ cell.Str 3 ∷ [])) ≡ cell.Str 4 ∷ cell.Str 3 ∷ cell.Null ∷ cell.Null ∷ []
 short_row = refl
 
--- the bit of the key's column means nothing
-key_bit : records_in columns pool (0x03 ∷ 0 ∷ []) ≡ None
-unfolding record_at cell_at
-key_bit = refl
-
 -- references of 3 bytes
 long_reference : records_in columns (pool_with true (place (codes "a") 1 ∷ place (codes "z") 1 ∷ [])) (2 ∷ 0 ∷ 1 ∷ 0 ∷ 0 ∷ 2 ∷ 0 ∷ 0 ∷ [])
     ≡ Some (record_with (action.Change 2) (cell.Str 1 ∷ cell.Str 2 ∷ []) ∷ [])
-unfolding record_at cell_at
+unfolding record_at head_at cell_at
 long_reference = refl
 
 -- ---- a key of a number and a text, and a text
@@ -97,7 +92,7 @@ two_keys_are_read : records_in two_keys pool_of_two (
     ≡ Some (record_with action.Remove (cell.Int (pos 1) ∷ cell.Str 1 ∷ [])
     ∷ record_with (action.Change 4) (cell.Int (pos 2) ∷ cell.Str 1 ∷ cell.Str 2 ∷ [])
     ∷ record_with (action.Add 3) (cell.Int (pos 3) ∷ cell.Str 1 ∷ cell.Str 3 ∷ []) ∷ [])
-unfolding record_at cell_at
+unfolding record_at head_at cell_at
 two_keys_are_read = refl
 
 -- the bit of the second column, which is of the key, means nothing
@@ -108,28 +103,32 @@ bit_of_key = refl
 
 -- the second record has a text that is past the pool: the first stands in front of it
 text_past_pool : leading columns pool (0 ∷ 0 ∷ 1 ∷ 0 ∷ 0 ∷ 0 ∷ 5 ∷ 0 ∷ []) ≡ (removes_b ∷ [], 0 ∷ 0 ∷ 5 ∷ 0 ∷ [])
-unfolding record_at cell_at
+unfolding record_at head_at cell_at
 text_past_pool = refl
 
--- a place that no cell names, a bit past the columns, a cell too many, a key left out, a cut cell
+-- a place that no cell names, a mask that says nothing, a bit past the columns, a cell too many, a key left out, a cut cell
 free_place : records_in columns (pool_with false (place (codes "b") 0 ∷ [])) (0 ∷ 0 ∷ 1 ∷ 0 ∷ []) ≡ None
-unfolding record_at cell_at
+unfolding record_at head_at cell_at
 free_place = refl
 
+odd_mask : records_in columns pool (0x03 ∷ 0 ∷ 1 ∷ 0 ∷ []) ≡ None
+unfolding record_at head_at cell_at
+odd_mask = refl
+
 bit_past_columns : records_in columns pool (0x10 ∷ 0 ∷ 1 ∷ 0 ∷ []) ≡ None
-unfolding record_at cell_at
+unfolding record_at head_at cell_at
 bit_past_columns = refl
 
 column_past_columns : records_in columns pool (1 ∷ 5 ∷ 4 ∷ 0 ∷ 0 ∷ 0 ∷ 7 ∷ 0x80 ∷ 5 ∷ 0 ∷ 0 ∷ 0x80 ∷ 0 ∷ 0 ∷ []) ≡ None
-unfolding record_at cell_at
+unfolding record_at head_at cell_at
 column_past_columns = refl
 
 key_left_out : records_in two_keys pool_of_two (1 ∷ 1 ∷ 3 ∷ 0x80 ∷ []) ≡ None
-unfolding record_at cell_at
+unfolding record_at head_at cell_at
 key_left_out = refl
 
 cut_cell : records_in columns pool (0 ∷ 0 ∷ 1 ∷ []) ≡ None
-unfolding record_at cell_at
+unfolding record_at head_at cell_at
 cut_cell = refl
 
 -- ---- a column of streams: null, a stream, and nothing else
@@ -139,9 +138,9 @@ with_stream = of_key (coltype.Str 72) ∷ beside coltype.Binary ∷ []
 
 streams_are_read : records_in with_stream pool (1 ∷ 2 ∷ 1 ∷ 0 ∷ 1 ∷ 0 ∷ 2 ∷ 0 ∷ 2 ∷ 0 ∷ 0 ∷ 0 ∷ [])
     ≡ Some (record_with (action.Add 2) (cell.Str 1 ∷ cell.Binary ∷ []) ∷ record_with (action.Change 2) (cell.Str 2 ∷ cell.Null ∷ []) ∷ [])
-unfolding record_at cell_at
+unfolding record_at head_at cell_at
 streams_are_read = refl
 
 other_stream_cell : records_in with_stream pool (1 ∷ 2 ∷ 1 ∷ 0 ∷ 2 ∷ 0 ∷ []) ≡ None
-unfolding record_at cell_at
+unfolding record_at head_at cell_at
 other_stream_cell = refl

@@ -45,14 +45,20 @@ pub record SpellsRecords (shapes : List Shape) (pool : Pool) (bytes : List ℕ) 
 abbrev pub record_with : Action → List ValueRef → Record
 record_with action cells = record { action = action; cells = cells }
 
--- the record that stands in front, and the bytes after it
-unfoldable pub record_at : List Shape → Pool → List ℕ → Option (Record × List ℕ)
-record_at shapes pool bytes = do
+-- the action of the mask that stands in front, the columns whose cells follow, and the bytes after it
+unfoldable pub head_at : List Shape → List ℕ → Option (Action × List (ℕ × Shape) × List ℕ)
+head_at shapes bytes = do
   mask ← number_at w16 bytes
   action ← action_of_mask mask.0
   columns ← told_columns shapes action
-  cells ← cells_at pool columns mask.1
-  Some (record_with action cells.0, cells.1)
+  Some (action, columns, mask.1)
+
+-- the record that stands in front, and the bytes after it
+unfoldable pub record_at : List Shape → Pool → List ℕ → Option (Record × List ℕ)
+record_at shapes pool bytes = do
+  head ← head_at shapes bytes
+  cells ← cells_at pool head.1 head.2
+  Some (record_with head.0 cells.0, cells.1)
 
 -- the records that stand in front, n at most, and the bytes after them
 abbrev pub at_most_leading : ℕ → List Shape → Pool → List ℕ → List Record × List ℕ
