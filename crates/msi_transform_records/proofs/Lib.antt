@@ -2,4 +2,5 @@
 pub mod BitLemmas
 pub mod ToldLemmas
 pub mod CellsLemmas
+pub mod LeadingLemmas
 pub mod WorkedRows

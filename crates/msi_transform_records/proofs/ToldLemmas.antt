@@ -12,10 +12,10 @@ told_after i shapes action = told_from i (drop i shapes) action
 
 module _ (shapes : List Shape) (action : Action) (i : ℕ) (s : Shape) (within : i < length shapes) (is : s ≡ get_or shapes i s) where
   pub told_yes : tells action i s ≡ true → told_after i shapes action ≡ (i, s) ∷ told_after (i + 1) shapes action
-  told_yes yes = ap (λ (l : List Shape). told_from i l action) (drop_next shapes i s within is) ∙ rw yes refl
+  told_yes t = ap (λ (l : List Shape). told_from i l action) (drop_next shapes i s within is) ∙ rw t refl
 
   pub told_no : tells action i s ≡ false → told_after i shapes action ≡ told_after (i + 1) shapes action
-  told_no no = ap (λ (l : List Shape). told_from i l action) (drop_next shapes i s within is) ∙ rw no refl
+  told_no t = ap (λ (l : List Shape). told_from i l action) (drop_next shapes i s within is) ∙ rw t refl
 
 pub told_none : (shapes : List Shape) (action : Action) (i : ℕ) → length shapes ≤ i → told_after i shapes action ≡ []
 told_none shapes action i past = ap (λ (l : List Shape). told_from i l action) (drop_all i shapes past)

@@ -13,6 +13,6 @@ pub mod shape;
 mod telling;
 
 pub use action::Action;
-pub use reading::Fault;
+pub use reading::{Fault, read_records};
 pub use records::Record;
 pub use shape::Shape;

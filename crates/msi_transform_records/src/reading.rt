@@ -1,7 +1,7 @@
 //! Reads the records of a stream.
 
 ghost use Rattle.std.specs.Prelude.{◌≡◌, IfErr, IfOk, None, Some, if◌then◌else◌, is_some, length, option_map};
-ghost use Rattle.msi_base.specs.Results.{Gives};
+ghost use Rattle.msi_base.specs.Results.{Gives, OnlyMemory};
 ghost use Rattle.msi_base.specs.declared.errors.ErrorKind.TheVariants.{InvalidData, OutOfMemory};
 ghost use Rattle.msi_transform_records.specs.Actions.{told};
 ghost use Rattle.msi_transform_records.specs.Cells.{cells_at};
@@ -143,4 +143,54 @@ fn count_records(shapes: &[Shape], pool: &StringPool, bytes: &[u8]) -> Result<us
         }
     }
     Ok(count)
+}
+
+/// Returns the records that the bytes are, of which there are so many.
+fn read_all(
+    alloc: Global,
+    shapes: &[Shape],
+    pool: &StringPool,
+    bytes: &[u8],
+    count: usize,
+) -> Result<Vec<Record>, Error>
+    requires { option_map (λ records. length records) (records_in shapes.now pool.now bytes.now) ≡ Some count }
+    ensures ok { IfOk result (λ records. records_in shapes.now pool.now bytes.now ≡ Some records.items) }
+    ensures kind { OnlyMemory result }
+{
+    let mut records = Vec::with_capacity(alloc, count)?;
+    let mut rest = bytes;
+    for _ in 0..count {
+        let (record, after) = read_record(alloc, shapes, pool, rest)?;
+        records.push(record)?;
+        rest = after;
+    }
+    Ok(records)
+}
+
+/// Returns the records of a table's stream in a transform (the format of transforms, as FORMATS has it), one behind
+/// another without padding. The shapes are those of all columns that the table has when the transform is applied, and
+/// the pool is the transform's own. The bytes are checked before memory is taken, which is in proportion to them.
+///
+/// # Errors
+/// Fails with `InvalidData` if a record is malformed: it is cut, its mask says nothing, it names columns that the table
+/// hasn't, it adds a row without a cell for each key column, it refers to a text that is past the pool's end or whose
+/// place is free, or it has a cell of a stream that is neither 0 nor 1. The fault says how many records stand before.
+/// Otherwise fails with `OutOfMemory`.
+pub fn read_records(
+    alloc: Global,
+    shapes: &[Shape],
+    pool: &StringPool,
+    bytes: &[u8],
+) -> Result<Vec<Record>, Fault>
+    ensures ok { IfOk result (λ records. records_in shapes.now pool.now bytes.now ≡ Some records.items) }
+    ensures kind { let readable = is_some (records_in shapes.now pool.now bytes.now) in
+        IfErr result (λ fault. fault.error ≡ (if readable then OutOfMemory else InvalidData)) }
+    ensures place { let before = length (leading shapes.now pool.now bytes.now).0 in
+        IfErr result (λ fault. fault.error ≡ InvalidData → fault.before ≡ before) }
+{
+    let count = count_records(shapes, pool, bytes)?;
+    match read_all(alloc, shapes, pool, bytes, count) {
+        Ok(records) => Ok(records),
+        Err(error) => Err(Fault { error, before: 0 }),
+    }
 }
