@@ -1,12 +1,15 @@
 -- The records that stand in front, one after the other.
-use Rattle.std.proofs.Common.{◌≡◌, ℕ, zero, suc, ◌+◌, ◌<◌, ◌≤◌, Bool, true, false, List, [], ◌∷◌, ◌++◌, length, drop, Option, Some, None, refl, sym, ap, ◌∙◌, arith, ltb, subst, length-drop}
+use Rattle.std.proofs.Common.{◌≡◌, ℕ, zero, suc, ◌+◌, ◌<◌, ◌≤◌, Bool, true, false, List, [], ◌∷◌, ◌++◌, length, drop, Option, Some, None, refl, sym, ap, ◌∙◌, arith, ltb, subst, append_assoc, append-nil, length-append, length-drop}
 use Rattle.std.specs.Prelude.{option_map, ◌==◌, if◌then◌else◌}
 use Rattle.std.specs.Int.{w16}
 use Rattle.std.specs.Option.{option_map_or}
 use Rattle.std.proofs.lemmas.Bool.{eqb-true, ltb-false}
 use Rattle.std.proofs.lemmas.Bool.Decides.{nat_tests}
 use Rattle.msi_base.specs.Numbers.{bytes_at, number_at}
-use Rattle.msi_base.proofs.OptionLemmas.{bind_some, guard_passed, map_some, some_is}
+use Rattle.msi_base.proofs.OptionLemmas.{bind_some, guard_held, guard_passed, map_some, some_is}
+use Rattle.msi_base.specs.Results.{FailsAs}
+use Rattle.msi_base.specs.declared.errors.ErrorKind.{ErrorKind}
+use Rattle.msi_base.specs.declared.errors.ErrorKind.TheVariants as kinds
 use Rattle.msi_pool.specs.Pool.{Pool}
 use Rattle.msi_table.specs.Cells.{width}
 use Rattle.msi_table_values.specs.declared.column.ColumnType.{ColumnType}
@@ -175,3 +178,52 @@ walked_stuck shapes pool bytes count rest w more e =
       unread = not_read shapes pool bytes rest (sym w.left ∙ ap (λ (found : List Record × List ℕ). found.1) none) some;
       place = omega (arith, w.many, ap (λ (found : List Record × List ℕ). length found.0) none);
     }
+
+-- ---- where it is known how many records the bytes are
+
+pub record Counted (shapes : List Shape) (pool : Pool) (bytes : List ℕ) (count : ℕ) : Type 0 where
+  pub all : records_in shapes pool bytes ≡ Some (leading shapes pool bytes).0
+  pub many : length (leading shapes pool bytes).0 ≡ count
+
+pub counted : (shapes : List Shape) (pool : Pool) (bytes : List ℕ) (count : ℕ) → option_map (λ (records : List Record). length records) (records_in shapes pool bytes) ≡ Some count → Counted shapes pool bytes count
+counted shapes pool bytes count e =
+    let m = map_some (records_in shapes pool bytes) (λ (records : List Record). length records) count e in
+    let g = guard_held (length (leading shapes pool bytes).1 == 0) (Some (leading shapes pool bytes).0) m.0 m.1 in
+    let same : (leading shapes pool bytes).0 ≡ m.0 = some_is (leading shapes pool bytes).0 m.0 g.1 in
+    record { all = m.1 ∙ ap Some (sym same); many = ap length same ∙ m.2 }
+
+-- these records were read, so many, and these bytes are behind them
+pub record Gathered (shapes : List Shape) (pool : Pool) (bytes : List ℕ) (records : List Record) (i : ℕ) (rest : List ℕ) : Type 0 where
+  pub found : records ++ (leading shapes pool rest).0 ≡ (leading shapes pool bytes).0
+  pub many : length records ≡ i
+
+pub gathered_on : (shapes : List Shape) (pool : Pool) (bytes : List ℕ) (records : List Record) (i : ℕ) (old : List ℕ) (r : Record) (rest : List ℕ) → Gathered shapes pool bytes records i old
+    → record_at shapes pool old ≡ Some (r, rest) → Gathered shapes pool bytes (records ++ r ∷ []) (i + 1) rest
+gathered_on shapes pool bytes records i old r rest w e =
+    let next : (leading shapes pool old).0 ≡ r ∷ (leading shapes pool rest).0 = ap (λ (found : List Record × List ℕ). found.0) (leading_next shapes pool old r rest e) in
+    record {
+      found = append_assoc records (r ∷ []) (leading shapes pool rest).0 ∙ ap (λ (l : List Record). records ++ l) (sym next) ∙ w.found;
+      many = omega (arith, length-append records (r ∷ []), w.many);
+    }
+
+pub gathered_all : (shapes : List Shape) (pool : Pool) (bytes : List ℕ) (records : List Record) (count : ℕ) (rest : List ℕ) → Gathered shapes pool bytes records count rest → Counted shapes pool bytes count
+    → records_in shapes pool bytes ≡ Some records
+gathered_all shapes pool bytes records count rest w known =
+    let none : length (leading shapes pool rest).0 ≡ 0 = omega (arith, w.many, known.many, ap length w.found, length-append records (leading shapes pool rest).0) in
+    known.all ∙ ap Some (sym w.found ∙ ap (λ (l : List Record). records ++ l) (no_elements (leading shapes pool rest).0 none) ∙ append-nil records)
+  where
+    no_elements : (l : List Record) → length l ≡ 0 → l ≡ []
+    no_elements [] e = refl
+    no_elements (r ∷ rs) e = absurd (omega arith)
+
+-- a record stands there, so only memory is missing
+pub gathered_stop : (kind : ErrorKind) (shapes : List Shape) (pool : Pool) (bytes : List ℕ) (records : List Record) (i count : ℕ) (rest : List ℕ) → Gathered shapes pool bytes records i rest
+    → Counted shapes pool bytes count → i < count → FailsAs kind (record_at shapes pool rest) → kind ≡ kinds.OutOfMemory
+gathered_stop kinds.AlreadyExists shapes pool bytes records i count rest w known less fails = absurd fails
+gathered_stop kinds.InvalidData shapes pool bytes records i count rest w known less fails =
+    let none : (leading shapes pool rest).0 ≡ [] = ap (λ (found : List Record × List ℕ). found.0) (leading_none shapes pool rest fails) in
+    absurd (omega (arith, w.many, known.many, ap length w.found, length-append records (leading shapes pool rest).0, ap length none))
+gathered_stop kinds.InvalidInput shapes pool bytes records i count rest w known less fails = absurd fails
+gathered_stop kinds.NotFound shapes pool bytes records i count rest w known less fails = absurd fails
+gathered_stop kinds.Io shapes pool bytes records i count rest w known less fails = absurd fails
+gathered_stop kinds.OutOfMemory shapes pool bytes records i count rest w known less fails = refl

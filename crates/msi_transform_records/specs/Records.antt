@@ -32,10 +32,13 @@ pub record IsRecord (shapes : List Shape) (pool : Pool) (r : Record) : Type 0 wh
   pub fits : FitsRecord pool.long shapes r
   pub texts : AllByRecursion (NamesPlaceInUse pool.places) r.cells
 
+-- the bytes of the cells of columns
+abbrev pub told_bytes : Bool → List (ℕ × Shape) → List ValueRef → List ℕ
+told_bytes long columns cells = flat_map (λ (told : (ℕ × Shape) × ValueRef). bytes_of_cell long told.0.1.coltype told.1)
+    (zip columns cells)
+
 abbrev pub record_bytes : Bool → List Shape → Record → List ℕ
-record_bytes long shapes r = to_le_bytes w16 (mask_of r.action)
-    ++ flat_map (λ (told : (ℕ × Shape) × ValueRef). bytes_of_cell long told.0.1.coltype told.1)
-    (zip (told shapes r.action) r.cells)
+record_bytes long shapes r = to_le_bytes w16 (mask_of r.action) ++ told_bytes long (told shapes r.action) r.cells
 
 -- the bytes are those of the records, and no others
 pub record SpellsRecords (shapes : List Shape) (pool : Pool) (bytes : List ℕ) (records : List Record) : Type 0 where

@@ -11,6 +11,7 @@ mod reasons;
 mod row_cells;
 pub mod shape;
 mod telling;
+mod writing;
 
 pub use action::Action;
 pub use reading::{Fault, read_records};

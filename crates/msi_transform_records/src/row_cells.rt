@@ -6,10 +6,67 @@ ghost use Rattle.msi_transform_records.specs.RecordCells.{added_cells as row_add
 
 use crate::records::Record;
 use crate::shape::Shape;
+use crate::telling::tells;
 use msi_base::errors::Error;
 use msi_base::text::Items;
 use msi_table_cells::cell::ValueRef;
 use std::alloc::Global;
+
+/// Returns the cells of the key that a record tells, in the order of the key's columns: all of them, if the record is one
+/// of a table with such columns.
+///
+/// # Errors
+/// Fails with `OutOfMemory`.
+pub fn key_cells(
+    alloc: Global,
+    shapes: &[Shape],
+    record: &Record,
+) -> Result<Items<ValueRef>, Error>
+    ensures ok { IfOk result (λ key. key ≡ key_of_record shapes.now «record».now) }
+    ensures kind { OnlyMemory result }
+{
+    let mut key = Vec::new(alloc);
+    let mut rest = record.cells.as_slice();
+    for i in 0..shapes.len() {
+        if tells(record.action, i, shapes[i])
+            && let Some((cell, others)) = rest.split_first()
+        {
+            if shapes[i].is_key {
+                key.push(*cell)?;
+            }
+            rest = others;
+        }
+    }
+    Ok(Items::from_vec(key))
+}
+
+/// Returns the cells that a record tells of columns that aren't of the key, each behind the index of its column: those
+/// that a change sets. A bit of a key column means nothing.
+///
+/// # Errors
+/// Fails with `OutOfMemory`.
+pub fn changed_cells(
+    alloc: Global,
+    shapes: &[Shape],
+    record: &Record,
+) -> Result<Vec<(usize, ValueRef)>, Error>
+    ensures ok { IfOk result (λ changes. changes.items ≡ changes_of_record shapes.now «record».now) }
+    ensures kind { OnlyMemory result }
+{
+    let mut changes = Vec::new(alloc);
+    let mut rest = record.cells.as_slice();
+    for i in 0..shapes.len() {
+        if tells(record.action, i, shapes[i])
+            && let Some((cell, others)) = rest.split_first()
+        {
+            if !shapes[i].is_key {
+                changes.push((i, *cell))?;
+            }
+            rest = others;
+        }
+    }
+    Ok(changes)
+}
 
 /// Returns the row that a record adds to a table of such columns: null in the columns that it doesn't tell.
 ///
