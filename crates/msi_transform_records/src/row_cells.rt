@@ -2,6 +2,7 @@
 
 ghost use Rattle.std.specs.Prelude.{◌≡◌, IfOk};
 ghost use Rattle.msi_base.specs.Results.{OnlyMemory};
+ghost use Rattle.msi_table_cells.specs.Fitting.{cell_of};
 ghost use Rattle.msi_transform_records.specs.RecordCells.{added_cells as row_added, changes_of_record, key_of_record};
 
 use crate::records::Record;
@@ -11,6 +12,12 @@ use msi_base::errors::Error;
 use msi_base::text::Items;
 use msi_table_cells::cell::ValueRef;
 use std::alloc::Global;
+
+fn cell_in_row(row: &[ValueRef], column: usize) -> ValueRef
+    ensures { result ≡ cell_of row.now column }
+{
+    row.get(column).copied().unwrap_or(ValueRef::Null)
+}
 
 /// Returns the cells of the key that a record tells, in the order of the key's columns: all of them, if the record is one
 /// of a table with such columns.
@@ -83,7 +90,7 @@ pub fn added_cells(
     let cells = record.cells.as_slice();
     let mut row = Vec::with_capacity(alloc, shapes.len())?;
     for i in 0..shapes.len() {
-        row.push(cells.get(i).copied().unwrap_or(ValueRef::Null))?;
+        row.push(cell_in_row(cells, i))?;
     }
     Ok(Items::from_vec(row))
 }
