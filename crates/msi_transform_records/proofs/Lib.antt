@@ -3,4 +3,6 @@ pub mod BitLemmas
 pub mod ToldLemmas
 pub mod CellsLemmas
 pub mod LeadingLemmas
+pub mod MaskLemmas
+pub mod ReadBackLemmas
 pub mod WorkedRows
