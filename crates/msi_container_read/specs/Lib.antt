@@ -7,3 +7,4 @@ pub mod Reading
 pub mod Steps
 pub mod Listings
 pub mod Runs
+pub mod Storages

@@ -9,6 +9,7 @@ ghost use Rattle.msi_container_format.specs.Chains.{AreBelow, AreDistinct};
 ghost use Rattle.msi_container_read.specs.Outcomes.{ViewIsUnlessMemory, FailsByData};
 ghost use Rattle.msi_container_format.specs.Container as container;
 ghost use Rattle.msi_container_read.specs.Reading as spec;
+ghost use Rattle.msi_container_read.specs.Storages.{storage_clsid};
 ghost use Rattle.msi_container_format.specs.Trees.{Tree, members};
 
 use crate::claims::{Claimed, Claims};
@@ -79,11 +80,11 @@ impl<'a> Directory<'a> {
         number32(self.bytes, self.field(entry, CHILD_AT))
     }
 
-    pub(crate) fn clsid(&self) -> [u8; 16]
-        requires { 0 < container.entry_count self.now.bytes.now self.now.sectors.now }
-        ensures { result ≡ container.clsid self.now.bytes.now self.now.sectors.now }
+    pub(crate) fn clsid(&self, entry: u32) -> [u8; 16]
+        requires { entry < container.entry_count self.now.bytes.now self.now.sectors.now }
+        ensures { result ≡ storage_clsid self.now.bytes.now self.now.sectors.now entry }
     {
-        let from = self.field(0, CLSID_AT);
+        let from = self.field(entry, CLSID_AT);
         let mut clsid = [0; 16];
         for i in 0..16 {
             clsid[i] = byte(self.bytes, from + i);
@@ -187,4 +188,25 @@ pub(crate) fn check_kinds(directory: &Directory, entries: &[u32]) -> Result<(), 
         }
     }
     Ok(())
+}
+
+/// Lists the entries that lie directly in a storage: storages and streams, whose names aren't looked at yet.
+pub(crate) fn read_listing(
+    alloc: Global,
+    directory: &Directory,
+    storage: u32,
+) -> Result<Vec<u32>, Error>
+    requires { storage < container.entry_count directory.now.bytes.now directory.now.sectors.now }
+    ensures found { IfOk result
+        (λ entries. (tree : Tree) × spec.IsNamelessListing directory.now.bytes.now directory.now.sectors.now storage tree
+        × (members tree ≡ entries.items)) }
+    ensures only { (tree : Tree) → spec.IsNamelessListing directory.now.bytes.now directory.now.sectors.now storage tree
+        → ViewIsUnlessMemory (λ v. v.items) result (members tree) }
+    ensures below { IfOk result
+        (λ entries. AreBelow (container.entry_count directory.now.bytes.now directory.now.sectors.now) entries.items) }
+    ensures kinds { FailsByData result }
+{
+    let entries = reach(alloc, directory, directory.child(storage))?;
+    check_kinds(directory, &entries)?;
+    Ok(entries)
 }

@@ -7,6 +7,7 @@ mod fat;
 mod header;
 mod listing;
 mod names;
+mod paths;
 mod reading;
 mod reasons;
 mod runs;
@@ -16,6 +17,6 @@ mod table;
 mod walks;
 
 pub use listing::list;
-pub use reading::{read, read_counted, read_shared};
+pub use reading::{read, read_counted, read_shared, read_storage};
 pub use sizes::{Listing, Sizes};
 pub use table::Steps;

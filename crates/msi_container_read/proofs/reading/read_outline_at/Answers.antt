@@ -3,12 +3,12 @@ use Rattle.std.proofs.lemmas.Result.{IfOk-from_err, err_from_is_err_and}
 use Rattle.msi_base.specs.declared.errors.ErrorKind.TheVariants.{OutOfMemory}
 use Rattle.msi_container_read.specs.Reading.{views}
 use Rattle.msi_container_read.proofs.plans.ListingLemmas.{some_size, covered}
-use Rattle.msi_container_read.proofs.plans.PlanPartsLemmas.{plan_of, start_of, memory_left, few_claimed}
+use Rattle.msi_container_read.proofs.plans.PlanPartsLemmas.{plan_of, start_of, start_of_directory, directory_of_start, memory_left, few_claimed}
 use Rattle.msi_container_read.proofs.plans.OutlineLemmas.{grown, grown_twice, steps_twice, few_of, regular_of, room_of, started_late}
-use Rattle.msi_container_read.proofs.plans.OutlineLemmas.{limits_are, entries_seen, started, listing_seen, mini_seen, chained_seen, sorted_seen}
+use Rattle.msi_container_read.proofs.plans.OutlineLemmas.{limits_are, entries_seen, started, path_seen, listing_seen, mini_seen, chained_seen, sorted_seen}
 use Rattle.msi_container_read.proofs.plans.OutlineLemmas.{found_plan, found_outline, found_steps, below_seen, within_claims, within_all}
-use Rattle.msi_container_read.proofs.plans.PassedLemmas.{kind_passed, memory_viewed}
-use Rattle.msi_container_read.proofs.reading.read_outline.Goals as goal
+use Rattle.msi_container_read.proofs.plans.PassedLemmas.{kind_passed, kind_passed_along, missing_passed, not_found_passed, memory_viewed}
+use Rattle.msi_container_read.proofs.reading.read_outline_at.Goals as goal
 
 -- MEMORY IS REFUSED
 
@@ -16,7 +16,7 @@ pub returns-in_err-claims-clause-found : goal.returns-in_err-claims-clause-found
 returns-in_err-claims-clause-found c = IfOk-from_err c.from_residual.result _ c.from_residual.ensures.0
 
 pub returns-in_err-claims-clause-only : goal.returns-in_err-claims-clause-only
-returns-in_err-claims-clause-only c = λ plan h. memory_viewed _ c.from_residual.result _ OutOfMemory c.from_residual.ensures.1 refl
+returns-in_err-claims-clause-only c = λ storage plan h. memory_viewed _ c.from_residual.result _ OutOfMemory c.from_residual.ensures.1 refl
 
 pub returns-in_err-claims-clause-storages : goal.returns-in_err-claims-clause-storages
 returns-in_err-claims-clause-storages c = IfOk-from_err c.from_residual.result _ c.from_residual.ensures.0
@@ -28,7 +28,7 @@ pub returns-in_err-claims-clause-covered : goal.returns-in_err-claims-clause-cov
 returns-in_err-claims-clause-covered c = IfOk-from_err c.from_residual.result _ c.from_residual.ensures.0
 
 pub returns-in_err-claims-clause-kinds : goal.returns-in_err-claims-clause-kinds
-returns-in_err-claims-clause-kinds c = kind_passed c.from_residual.result OutOfMemory c.from_residual.ensures.1 (inr refl)
+returns-in_err-claims-clause-kinds c = kind_passed_along _ c.from_residual.result OutOfMemory c.from_residual.ensures.1 (inr refl)
 
 -- THE START
 
@@ -45,10 +45,10 @@ pub returns-in_err-start-clause-covered : goal.returns-in_err-start-clause-cover
 returns-in_err-start-clause-covered c = IfOk-from_err c.from_residual-in_err-start.result _ c.from_residual-in_err-start.ensures.0
 
 pub returns-in_err-start-clause-kinds : goal.returns-in_err-start-clause-kinds
-returns-in_err-start-clause-kinds c = kind_passed c.from_residual-in_err-start.result c.in_err-start.field-0.0 c.from_residual-in_err-start.ensures.1 c.in_err-start.ensures.kinds
+returns-in_err-start-clause-kinds c = kind_passed_along _ c.from_residual-in_err-start.result c.in_err-start.field-0.0 c.from_residual-in_err-start.ensures.1 c.in_err-start.ensures.kinds
 
 pub returns-in_err-start-clause-only : goal.returns-in_err-start-clause-only
-returns-in_err-start-clause-only c = λ plan h.
+returns-in_err-start-clause-only c = λ storage plan h.
     let p = err_from_is_err_and c.from_residual-in_err-start.result c.from_residual-in_err-start.ensures.1 in
     let limits = limits_are c.args.bytes.now _ _ c.in_ok-claims.ensures.limit c.sector_count.ensures.within c.sector_count.ensures.all in
     rw (p.1, p.2) (c.in_err-start.ensures.only plan.difat plan.fat plan.directory (start_of c.args.bytes.now _ plan limits h))
@@ -73,13 +73,13 @@ pub returns-in_err-entries-clause-covered : goal.returns-in_err-entries-clause-c
 returns-in_err-entries-clause-covered c = IfOk-from_err c.from_residual-in_err-entries.result _ c.from_residual-in_err-entries.ensures.0
 
 pub returns-in_err-entries-clause-kinds : goal.returns-in_err-entries-clause-kinds
-returns-in_err-entries-clause-kinds c = kind_passed c.from_residual-in_err-entries.result c.in_err-entries.field-0.0 c.from_residual-in_err-entries.ensures.1 c.in_err-entries.ensures.kinds
+returns-in_err-entries-clause-kinds c = kind_passed_along _ c.from_residual-in_err-entries.result c.in_err-entries.field-0.0 c.from_residual-in_err-entries.ensures.1 c.in_err-entries.ensures.kinds
 
 pub read_entries-requires : goal.read_entries-requires
 read_entries-requires c = entries_seen c.args.bytes.now _ _ c.deref-2.ensures.value c.in_ok-start.ensures.found.0.chain.filled
 
 pub returns-in_err-entries-clause-only : goal.returns-in_err-entries-clause-only
-returns-in_err-entries-clause-only c = λ plan h.
+returns-in_err-entries-clause-only c = λ storage plan h.
     let p = err_from_is_err_and c.from_residual-in_err-entries.result c.from_residual-in_err-entries.ensures.1 in
     let limits = limits_are c.args.bytes.now _ _ c.in_ok-claims.ensures.limit c.sector_count.ensures.within c.sector_count.ensures.all in
     let same = c.in_ok-start.ensures.only plan.difat plan.fat plan.directory (start_of c.args.bytes.now _ plan limits h) in
@@ -106,7 +106,7 @@ pub returns-in_err-mini-clause-covered : goal.returns-in_err-mini-clause-covered
 returns-in_err-mini-clause-covered c = IfOk-from_err c.from_residual-in_err-mini.result _ c.from_residual-in_err-mini.ensures.0
 
 pub returns-in_err-mini-clause-kinds : goal.returns-in_err-mini-clause-kinds
-returns-in_err-mini-clause-kinds c = kind_passed c.from_residual-in_err-mini.result c.in_err-mini.field-0.0 c.from_residual-in_err-mini.ensures.1 c.in_err-mini.ensures.kinds
+returns-in_err-mini-clause-kinds c = kind_passed_along _ c.from_residual-in_err-mini.result c.in_err-mini.field-0.0 c.from_residual-in_err-mini.ensures.1 c.in_err-mini.ensures.kinds
 
 pub read_mini-requires-clause-root : goal.read_mini-requires-clause-root
 read_mini-requires-clause-root c = entries_seen c.args.bytes.now _ _ c.deref-2.ensures.value c.in_ok-start.ensures.found.0.chain.filled
@@ -120,7 +120,7 @@ read_mini-requires-clause-steps c =
     room_of _ _ _ _ _ _ _ c.requires c.in_ok-start.ensures.bounded (few_claimed claims.marks claims.list claims.counted) c.in_ok-start.ensures.limit c.in_ok-claims.ensures.limit c.sector_count.ensures.regular
 
 pub returns-in_err-mini-clause-only : goal.returns-in_err-mini-clause-only
-returns-in_err-mini-clause-only c = λ plan h.
+returns-in_err-mini-clause-only c = λ storage plan h.
     let p = err_from_is_err_and c.from_residual-in_err-mini.result c.from_residual-in_err-mini.ensures.1 in
     let bytes = c.args.bytes.now in
     let limits = limits_are bytes _ _ c.in_ok-claims.ensures.limit c.sector_count.ensures.within c.sector_count.ensures.all in
@@ -151,7 +151,7 @@ pub returns-in_err-chains-clause-covered : goal.returns-in_err-chains-clause-cov
 returns-in_err-chains-clause-covered c = IfOk-from_err c.from_residual-in_err-chains.result _ c.from_residual-in_err-chains.ensures.0
 
 pub returns-in_err-chains-clause-kinds : goal.returns-in_err-chains-clause-kinds
-returns-in_err-chains-clause-kinds c = kind_passed c.from_residual-in_err-chains.result c.in_err-chains.field-0.0 c.from_residual-in_err-chains.ensures.1 c.in_err-chains.ensures.kinds
+returns-in_err-chains-clause-kinds c = kind_passed_along _ c.from_residual-in_err-chains.result c.in_err-chains.field-0.0 c.from_residual-in_err-chains.ensures.1 c.in_err-chains.ensures.kinds
 
 pub read_chains-requires-clause-same : goal.read_chains-requires-clause-same
 read_chains-requires-clause-same c = c.new-fat.ensures.bytes
@@ -169,7 +169,7 @@ pub read_chains-requires-clause-steps : goal.read_chains-requires-clause-steps
 read_chains-requires-clause-steps c = started_late _ _ _ _ _ _ c.requires c.in_ok-start.ensures.bounded c.in_ok-mini.ensures.bounded
 
 pub returns-in_err-chains-clause-only : goal.returns-in_err-chains-clause-only
-returns-in_err-chains-clause-only c = λ plan h.
+returns-in_err-chains-clause-only c = λ storage plan h.
     let p = err_from_is_err_and c.from_residual-in_err-chains.result c.from_residual-in_err-chains.ensures.1 in
     let bytes = c.args.bytes.now in
     let limits = limits_are bytes _ _ c.in_ok-claims.ensures.limit c.sector_count.ensures.within c.sector_count.ensures.all in
@@ -218,7 +218,7 @@ returns-clause-found c =
     )
 
 pub returns-clause-only : goal.returns-clause-only
-returns-clause-only c = λ plan h.
+returns-clause-only c = λ storage plan h.
     let bytes = c.args.bytes.now in
     let limits = limits_are bytes _ _ c.in_ok-claims.ensures.limit c.sector_count.ensures.within c.sector_count.ensures.all in
     let same = c.in_ok-start.ensures.only plan.difat plan.fat plan.directory (start_of bytes _ plan limits h) in
