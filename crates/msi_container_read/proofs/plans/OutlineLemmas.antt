@@ -1,16 +1,16 @@
 -- What the parts of a file say of its plan, where the code has sectors and entries under other names: behind a slice, or
 -- as they stood before a call. Over plain lists and numbers, since a function that owns all parts has long goals.
-use Rattle.std.proofs.Common.{◌≡◌, ℕ, ◌+◌, ◌-◌, ◌<◌, ◌≤◌, ◌^◌, Bool, List, ◌++◌, length, sum_by, inl, sym, ◌∙◌, ap, arith, refl, Option, Some}
+use Rattle.std.proofs.Common.{◌≡◌, ℕ, ◌+◌, ◌-◌, ◌<◌, ◌≤◌, ◌^◌, Bool, List, ◌++◌, length, sum_by, inl, sym, ◌∙◌, ap, arith, refl, Option, Some, None}
 use Rattle.msi_container_format.specs.Chains.{AreBelow, AreDistinct}
 use Rattle.msi_container_format.specs.Format.{MAX_REGULAR_SECTOR}
 use Rattle.msi_container_format.specs.Trees.{Tree, members}
-use Rattle.msi_container_format.specs.Container.{Plan, IsSector, IsDirectoryTree, child, entry_count, has_storage, streams_among, stream_entries}
+use Rattle.msi_container_format.specs.Container.{Plan, IsSector, fat_of, IsDirectoryTree, child, entry_count, has_storage, streams_among, stream_entries}
 use Rattle.msi_container_read.specs.Counts.{links, sectors_inside}
 use Rattle.msi_container_read.specs.Reading.{AreOfKinds, IsStart, IsNamelessListing, IsMini, AreChained, IsOutline, HaveNamesApart, storages_among, mini_limit}
 use Rattle.msi_container_read.specs.Steps.{steps_of, IsWithinSectors}
-use Rattle.msi_container_read.specs.Storages.{IsPath, IsPlanAt, storage_clsid}
+use Rattle.msi_container_read.specs.Storages.{IsPath, IsPlanAt, IsMissing, storage_clsid}
 use Rattle.msi_container_read.proofs.plans.ListingLemmas.{some_entries}
-use Rattle.msi_container_read.proofs.plans.PlanPartsLemmas.{Limits, starts, befores, plan_of, to_plan, mini_of, chained_of}
+use Rattle.msi_container_read.proofs.plans.PlanPartsLemmas.{Limits, starts, befores, plan_of, to_plan, start_of_directory, directory_of_start, mini_of, chained_of}
 use Rattle.msi_container_read.proofs.entry_names.SharedNamesLemmas.{nameless, with_names}
 use Rattle.msi_container_read.proofs.chains.StepLemmas.{has_mini_stream, within_both}
 
@@ -72,6 +72,26 @@ listing_seen bytes directory seen storage plan h d s = rw (d, s) (nameless bytes
 -- the path is that of the directory that was read
 pub path_seen : (bytes directory found : List ℕ) (path : List (List ℕ)) (storage : Option ℕ) → directory ≡ found → IsPath bytes found path storage → IsPath bytes directory path storage
 path_seen bytes directory found path storage d h = rw d h
+
+-- what is missing by any directory is so by the one that was read, and the other way round
+pub missing_seen : (bytes : List ℕ) (limit : ℕ) (difat fat directory seen : List ℕ) (path : List (List ℕ))
+    → Limits bytes limit
+    → ((d f e : List ℕ) → IsStart bytes limit d f e → ◌≡◌ {A = List ℕ × List ℕ × List ℕ} (difat, fat, directory) (d, f, e))
+    → seen ≡ directory
+    → IsMissing bytes path
+    → IsPath bytes seen path None
+missing_seen bytes limit difat fat directory seen path limits only d (other, listed, h, lost) =
+    let same = only other (fat_of bytes other) listed (start_of_directory bytes limit other listed limits h) in
+    path_seen bytes seen listed path None (d ∙ ap (λ (q : List ℕ × List ℕ × List ℕ). q.2) same) lost
+
+pub missing_found : (bytes : List ℕ) (limit : ℕ) (difat fat directory seen : List ℕ) (path : List (List ℕ))
+    → Limits bytes limit
+    → IsStart bytes limit difat fat directory
+    → seen ≡ directory
+    → IsPath bytes seen path None
+    → IsMissing bytes path
+missing_found bytes limit difat fat directory seen path limits start d lost =
+    (difat, directory, directory_of_start bytes limit difat fat directory limits start, path_seen bytes directory seen path None (sym d) lost)
 
 pub mini_seen : {path : List (List ℕ)} {storage : ℕ} (bytes : List ℕ) (limit marks : ℕ) (plan : Plan) (used fat directory : List ℕ)
     → Limits bytes limit

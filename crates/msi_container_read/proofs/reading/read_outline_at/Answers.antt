@@ -3,9 +3,9 @@ use Rattle.std.proofs.lemmas.Result.{IfOk-from_err, err_from_is_err_and}
 use Rattle.msi_base.specs.declared.errors.ErrorKind.TheVariants.{OutOfMemory}
 use Rattle.msi_container_read.specs.Reading.{views}
 use Rattle.msi_container_read.proofs.plans.ListingLemmas.{some_size, covered}
-use Rattle.msi_container_read.proofs.plans.PlanPartsLemmas.{plan_of, start_of, start_of_directory, directory_of_start, memory_left, few_claimed}
+use Rattle.msi_container_read.proofs.plans.PlanPartsLemmas.{plan_of, start_of, memory_left, few_claimed}
 use Rattle.msi_container_read.proofs.plans.OutlineLemmas.{grown, grown_twice, steps_twice, few_of, regular_of, room_of, started_late}
-use Rattle.msi_container_read.proofs.plans.OutlineLemmas.{limits_are, entries_seen, started, path_seen, listing_seen, mini_seen, chained_seen, sorted_seen}
+use Rattle.msi_container_read.proofs.plans.OutlineLemmas.{limits_are, entries_seen, started, path_seen, missing_seen, missing_found, listing_seen, mini_seen, chained_seen, sorted_seen}
 use Rattle.msi_container_read.proofs.plans.OutlineLemmas.{found_plan, found_outline, found_steps, below_seen, within_claims, within_all}
 use Rattle.msi_container_read.proofs.plans.PassedLemmas.{kind_passed, kind_passed_along, missing_passed, not_found_passed, memory_viewed}
 use Rattle.msi_container_read.proofs.reading.read_outline_at.Goals as goal
@@ -58,6 +58,48 @@ returns-in_err-start-clause-bounded c =
     let claims = c.read_start.new.claims in
     within_claims _ _ _ _ (vec_len claims.list) (vec_len claims.marks) _ _ c.in_err-start.ensures.bounded (few_claimed claims.marks claims.list claims.counted) c.in_err-start.ensures.limit c.in_ok-claims.ensures.limit c.sector_count.ensures.inside
 
+-- THE STORAGE
+
+pub find_storage-requires : goal.find_storage-requires
+find_storage-requires c = entries_seen c.args.bytes.now _ _ c.deref-2.ensures.value c.in_ok-start.ensures.found.0.chain.filled
+
+pub returns-in_err-storage-clause-found : goal.returns-in_err-storage-clause-found
+returns-in_err-storage-clause-found c = IfOk-from_err c.from_residual-in_err-storage.result _ c.from_residual-in_err-storage.ensures.0
+
+pub returns-in_err-storage-clause-storages : goal.returns-in_err-storage-clause-storages
+returns-in_err-storage-clause-storages c = IfOk-from_err c.from_residual-in_err-storage.result _ c.from_residual-in_err-storage.ensures.0
+
+pub returns-in_err-storage-clause-below : goal.returns-in_err-storage-clause-below
+returns-in_err-storage-clause-below c = IfOk-from_err c.from_residual-in_err-storage.result _ c.from_residual-in_err-storage.ensures.0
+
+pub returns-in_err-storage-clause-covered : goal.returns-in_err-storage-clause-covered
+returns-in_err-storage-clause-covered c = IfOk-from_err c.from_residual-in_err-storage.result _ c.from_residual-in_err-storage.ensures.0
+
+pub returns-in_err-storage-clause-kinds : goal.returns-in_err-storage-clause-kinds
+returns-in_err-storage-clause-kinds c =
+    let limits = limits_are c.args.bytes.now _ _ c.in_ok-claims.ensures.limit c.sector_count.ensures.within c.sector_count.ensures.all in
+    let missing = missing_found c.args.bytes.now _ _ _ _ _ c.args.path.now limits c.in_ok-start.ensures.found.0 c.deref-2.ensures.value in
+    missing_passed _ _ c.from_residual-in_err-storage.result c.in_err-storage.field-0.0 c.from_residual-in_err-storage.ensures.1 missing c.in_err-storage.ensures.kinds
+
+pub returns-in_err-storage-clause-missing : goal.returns-in_err-storage-clause-missing
+returns-in_err-storage-clause-missing c = λ missing.
+    let limits = limits_are c.args.bytes.now _ _ c.in_ok-claims.ensures.limit c.sector_count.ensures.within c.sector_count.ensures.all in
+    let lost = missing_seen c.args.bytes.now _ _ _ _ _ c.args.path.now limits c.in_ok-start.ensures.only c.deref-2.ensures.value missing in
+    not_found_passed c.from_residual-in_err-storage.result c.in_err-storage.field-0.0 c.from_residual-in_err-storage.ensures.1 (c.in_err-storage.ensures.missing lost)
+
+pub returns-in_err-storage-clause-only : goal.returns-in_err-storage-clause-only
+returns-in_err-storage-clause-only c = λ storage plan h.
+    let p = err_from_is_err_and c.from_residual-in_err-storage.result c.from_residual-in_err-storage.ensures.1 in
+    let limits = limits_are c.args.bytes.now _ _ c.in_ok-claims.ensures.limit c.sector_count.ensures.within c.sector_count.ensures.all in
+    let same = c.in_ok-start.ensures.only plan.difat plan.fat plan.directory (start_of c.args.bytes.now _ plan limits h) in
+    let directories : c.deref-2.result.now ≡ plan.directory = c.deref-2.ensures.value ∙ ap (λ (q : List ℕ × List ℕ × List ℕ). q.2) same in
+    rw (p.1, p.2) (c.in_err-storage.ensures.only storage (path_seen c.args.bytes.now _ plan.directory c.args.path.now _ directories h.reached))
+
+pub returns-in_err-storage-clause-bounded : goal.returns-in_err-storage-clause-bounded
+returns-in_err-storage-clause-bounded c =
+    let claims = c.read_start.new.claims in
+    within_claims _ _ _ _ (vec_len claims.list) (vec_len claims.marks) _ _ c.in_ok-start.ensures.bounded (few_claimed claims.marks claims.list claims.counted) c.in_ok-start.ensures.limit c.in_ok-claims.ensures.limit c.sector_count.ensures.inside
+
 -- THE ENTRIES
 
 pub returns-in_err-entries-clause-found : goal.returns-in_err-entries-clause-found
@@ -76,7 +118,12 @@ pub returns-in_err-entries-clause-kinds : goal.returns-in_err-entries-clause-kin
 returns-in_err-entries-clause-kinds c = kind_passed_along _ c.from_residual-in_err-entries.result c.in_err-entries.field-0.0 c.from_residual-in_err-entries.ensures.1 c.in_err-entries.ensures.kinds
 
 pub read_entries-requires : goal.read_entries-requires
-read_entries-requires c = entries_seen c.args.bytes.now _ _ c.deref-2.ensures.value c.in_ok-start.ensures.found.0.chain.filled
+read_entries-requires c = c.in_ok-storage.ensures.below
+
+pub returns-in_err-entries-clause-missing : goal.returns-in_err-entries-clause-missing
+returns-in_err-entries-clause-missing c = λ missing.
+    let limits = limits_are c.args.bytes.now _ _ c.in_ok-claims.ensures.limit c.sector_count.ensures.within c.sector_count.ensures.all in
+    absurd (c.in_ok-storage.ensures.missing (missing_seen c.args.bytes.now _ _ _ _ _ c.args.path.now limits c.in_ok-start.ensures.only c.deref-2.ensures.value missing))
 
 pub returns-in_err-entries-clause-only : goal.returns-in_err-entries-clause-only
 returns-in_err-entries-clause-only c = λ storage plan h.
@@ -84,7 +131,8 @@ returns-in_err-entries-clause-only c = λ storage plan h.
     let limits = limits_are c.args.bytes.now _ _ c.in_ok-claims.ensures.limit c.sector_count.ensures.within c.sector_count.ensures.all in
     let same = c.in_ok-start.ensures.only plan.difat plan.fat plan.directory (start_of c.args.bytes.now _ plan limits h) in
     let directories : c.deref-2.result.now ≡ plan.directory = c.deref-2.ensures.value ∙ ap (λ (q : List ℕ × List ℕ × List ℕ). q.2) same in
-    rw (p.1, p.2) (c.in_err-entries.ensures.only plan.tree (listing_seen c.args.bytes.now _ plan h directories))
+    let stored = c.in_ok-storage.ensures.only storage (path_seen c.args.bytes.now _ plan.directory c.args.path.now _ directories h.reached) in
+    rw (p.1, p.2) (c.in_err-entries.ensures.only plan.tree (listing_seen c.args.bytes.now _ _ storage plan h directories stored))
 
 pub returns-in_err-entries-clause-bounded : goal.returns-in_err-entries-clause-bounded
 returns-in_err-entries-clause-bounded c =
@@ -118,6 +166,11 @@ pub read_mini-requires-clause-steps : goal.read_mini-requires-clause-steps
 read_mini-requires-clause-steps c =
     let claims = c.read_start.new.claims in
     room_of _ _ _ _ _ _ _ c.requires c.in_ok-start.ensures.bounded (few_claimed claims.marks claims.list claims.counted) c.in_ok-start.ensures.limit c.in_ok-claims.ensures.limit c.sector_count.ensures.regular
+
+pub returns-in_err-mini-clause-missing : goal.returns-in_err-mini-clause-missing
+returns-in_err-mini-clause-missing c = λ missing.
+    let limits = limits_are c.args.bytes.now _ _ c.in_ok-claims.ensures.limit c.sector_count.ensures.within c.sector_count.ensures.all in
+    absurd (c.in_ok-storage.ensures.missing (missing_seen c.args.bytes.now _ _ _ _ _ c.args.path.now limits c.in_ok-start.ensures.only c.deref-2.ensures.value missing))
 
 pub returns-in_err-mini-clause-only : goal.returns-in_err-mini-clause-only
 returns-in_err-mini-clause-only c = λ storage plan h.
@@ -168,6 +221,11 @@ read_chains-requires-clause-regular c = regular_of _ _ _ (c.in_ok-mini.ensures.l
 pub read_chains-requires-clause-steps : goal.read_chains-requires-clause-steps
 read_chains-requires-clause-steps c = started_late _ _ _ _ _ _ c.requires c.in_ok-start.ensures.bounded c.in_ok-mini.ensures.bounded
 
+pub returns-in_err-chains-clause-missing : goal.returns-in_err-chains-clause-missing
+returns-in_err-chains-clause-missing c = λ missing.
+    let limits = limits_are c.args.bytes.now _ _ c.in_ok-claims.ensures.limit c.sector_count.ensures.within c.sector_count.ensures.all in
+    absurd (c.in_ok-storage.ensures.missing (missing_seen c.args.bytes.now _ _ _ _ _ c.args.path.now limits c.in_ok-start.ensures.only c.deref-2.ensures.value missing))
+
 pub returns-in_err-chains-clause-only : goal.returns-in_err-chains-clause-only
 returns-in_err-chains-clause-only c = λ storage plan h.
     let p = err_from_is_err_and c.from_residual-in_err-chains.result c.from_residual-in_err-chains.ensures.1 in
@@ -176,7 +234,8 @@ returns-in_err-chains-clause-only c = λ storage plan h.
     let same = c.in_ok-start.ensures.only plan.difat plan.fat plan.directory (start_of bytes _ plan limits h) in
     let start = started plan _ _ _ _ _ _ same c.in_ok-start.ensures.found.1 (c.new-fat.ensures.sectors ∙ c.deref.ensures.value) c.deref-2.ensures.value in
     let minis = c.in_ok-mini.ensures.only plan.mini_fat plan.mini_stream (mini_seen bytes _ _ plan _ _ _ limits h c.in_ok-start.ensures.limit start) in
-    let sorted = c.in_ok-entries.ensures.only plan.tree (listing_seen bytes _ plan h start.directories) in
+    let stored = c.in_ok-storage.ensures.only storage (path_seen bytes _ plan.directory c.args.path.now _ start.directories h.reached) in
+    let sorted = c.in_ok-entries.ensures.only plan.tree (listing_seen bytes _ _ storage plan h start.directories stored) in
     let among = c.deref-3.ensures.value ∙ ap (λ (q : List ℕ × List ℕ). q.1) sorted in
     let chained = chained_seen bytes _ _ _ plan _ _ _ _ _ _ _ limits h c.in_ok-start.ensures.limit c.in_ok-mini.ensures.limit start minis c.in_ok-mini.ensures.found.1 among in
     rw (p.1, p.2) (memory_left _ c.in_err-chains.ensures.kinds (λ d. c.in_err-chains.ensures.invalid d plan.chains chained))
@@ -194,7 +253,7 @@ returns-in_err-chains-clause-bounded c =
 -- THE WHOLE
 
 pub clsid-clsid-requires : goal.clsid-clsid-requires
-clsid-clsid-requires c = entries_seen c.args.bytes.now _ _ c.deref-2.ensures.value c.in_ok-start.ensures.found.0.chain.filled
+clsid-clsid-requires c = c.in_ok-storage.ensures.below
 
 pub returns-clause-found : goal.returns-clause-found
 returns-clause-found c =
@@ -208,14 +267,20 @@ returns-clause-found c =
     let limits = limits_are bytes _ _ c.in_ok-claims.ensures.limit c.sector_count.ensures.within c.sector_count.ensures.all in
     let long = start.directory.ok.0 in
     let mini_long = mini.fat.ok.0 in (
+      c.in_ok-storage.storage,
       plan_of start.difat.items start.fat.items start.directory.items mini.fat.items mini.stream.items found.0 (views c.in_ok-chains.chains.items),
-      found_plan bytes _ _ _ start.difat.items start.fat.items start.directory.items _ _ _ mini.fat.items mini.stream.items _ _ found.0 (views c.in_ok-chains.chains.items)
-          limits begun.0 begun.1 fats c.deref-2.ensures.value found.1 c.in_ok-start.ensures.limit minis.0 minis.1 c.in_ok-mini.ensures.limit (c.deref-3.ensures.value ∙ found.4) c.in_ok-chains.ensures.found,
+      found_plan c.args.path.now c.in_ok-storage.storage bytes _ _ _ start.difat.items start.fat.items start.directory.items _ _ _ mini.fat.items mini.stream.items _ _ found.0 (views c.in_ok-chains.chains.items)
+          limits begun.0 begun.1 fats c.deref-2.ensures.value c.in_ok-storage.ensures.found found.1 c.in_ok-start.ensures.limit minis.0 minis.1 c.in_ok-mini.ensures.limit (c.deref-3.ensures.value ∙ found.4) c.in_ok-chains.ensures.found,
       found_steps _ _ _ _ _ _ start.difat.items start.fat.items start.directory.items mini.fat.items mini.stream.items found.0 (views c.in_ok-chains.chains.items)
           long mini_long c.in_ok-start.ensures.exact c.in_ok-mini.ensures.exact c.in_ok-chains.ensures.exact,
-      found_outline bytes _ _ start.difat.items start.fat.items start.directory.items _ mini.fat.items mini.stream.items _ _ found.0 (views c.in_ok-chains.chains.items)
+      found_outline c.in_ok-storage.storage bytes _ _ start.difat.items start.fat.items start.directory.items _ mini.fat.items mini.stream.items _ _ found.0 (views c.in_ok-chains.chains.items)
           c.deref-2.ensures.value c.clsid-clsid.ensures found.2 found.3 found.4,
     )
+
+pub returns-clause-missing : goal.returns-clause-missing
+returns-clause-missing c = λ missing.
+    let limits = limits_are c.args.bytes.now _ _ c.in_ok-claims.ensures.limit c.sector_count.ensures.within c.sector_count.ensures.all in
+    absurd (c.in_ok-storage.ensures.missing (missing_seen c.args.bytes.now _ _ _ _ _ c.args.path.now limits c.in_ok-start.ensures.only c.deref-2.ensures.value missing))
 
 pub returns-clause-only : goal.returns-clause-only
 returns-clause-only c = λ storage plan h.
@@ -223,7 +288,8 @@ returns-clause-only c = λ storage plan h.
     let limits = limits_are bytes _ _ c.in_ok-claims.ensures.limit c.sector_count.ensures.within c.sector_count.ensures.all in
     let same = c.in_ok-start.ensures.only plan.difat plan.fat plan.directory (start_of bytes _ plan limits h) in
     let directories : c.deref-2.result.now ≡ plan.directory = c.deref-2.ensures.value ∙ ap (λ (q : List ℕ × List ℕ × List ℕ). q.2) same in
-    let sorted = c.in_ok-entries.ensures.only plan.tree (listing_seen bytes _ plan h directories) in
+    let stored = c.in_ok-storage.ensures.only storage (path_seen bytes _ plan.directory c.args.path.now _ directories h.reached) in
+    let sorted = c.in_ok-entries.ensures.only plan.tree (listing_seen bytes _ _ storage plan h directories stored) in
     sorted_seen bytes _ _ _ _ plan directories c.deref-2.ensures.value sorted
 
 pub returns-clause-storages : goal.returns-clause-storages
