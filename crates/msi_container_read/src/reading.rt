@@ -1,7 +1,7 @@
 //! Reading a compound file.
 
 ghost use Rattle.std.specs.Prelude.{◌≡◌, ℕ, List, [], ◌+◌, ◌-◌, ◌<◌, ◌≤◌, ◌^◌, ◌++◌, length, sum_by, vec_len, IfOk};
-ghost use Rattle.std.specs.Prelude.{IfSome, OnOk, OnErr, IsErrOf};
+ghost use Rattle.std.specs.Prelude.{IfSome, OnOk, OnErr, IsErrOf, Some};
 ghost use Rattle.msi_base.specs.Results.{IsUnlessMemory};
 ghost use Rattle.msi_base.specs.declared.errors.ErrorKind.TheVariants.{InvalidData};
 ghost use Rattle.std.specs.List.{AllZip};
@@ -245,6 +245,7 @@ fn read_outline_at(
 ) -> Result<Outline, Error>
     requires { steps.old ≤ 2 ^ 63 }
     ensures found { IfOk result (λ o. (storage : ℕ) × (plan : container.Plan)
+        × storages.IsPath bytes.now plan.directory path.now (Some storage)
         × (HaveNamesApart bytes.now plan.directory
         (storages_among bytes.now plan.directory (members plan.tree)) (container.stream_entries bytes.now plan)
         → storages.IsPlanAt bytes.now path.now storage plan)

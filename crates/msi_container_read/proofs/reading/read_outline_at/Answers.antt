@@ -1,4 +1,4 @@
-use Rattle.std.proofs.Common.{◌≡◌, ℕ, List, vec_len, ◌∙◌, ap, refl, inr}
+use Rattle.std.proofs.Common.{◌≡◌, ℕ, List, vec_len, sym, ◌∙◌, ap, refl, inr}
 use Rattle.std.proofs.lemmas.Result.{IfOk-from_err, err_from_is_err_and}
 use Rattle.msi_base.specs.declared.errors.ErrorKind.TheVariants.{OutOfMemory}
 use Rattle.msi_container_read.specs.Reading.{views}
@@ -269,6 +269,7 @@ returns-clause-found c =
     let mini_long = mini.fat.ok.0 in (
       c.in_ok-storage.storage,
       plan_of start.difat.items start.fat.items start.directory.items mini.fat.items mini.stream.items found.0 (views c.in_ok-chains.chains.items),
+      path_seen bytes start.directory.items _ c.args.path.now _ (sym c.deref-2.ensures.value) c.in_ok-storage.ensures.found,
       found_plan c.args.path.now c.in_ok-storage.storage bytes _ _ _ start.difat.items start.fat.items start.directory.items _ _ _ mini.fat.items mini.stream.items _ _ found.0 (views c.in_ok-chains.chains.items)
           limits begun.0 begun.1 fats c.deref-2.ensures.value c.in_ok-storage.ensures.found found.1 c.in_ok-start.ensures.limit minis.0 minis.1 c.in_ok-mini.ensures.limit (c.deref-3.ensures.value ∙ found.4) c.in_ok-chains.ensures.found,
       found_steps _ _ _ _ _ _ start.difat.items start.fat.items start.directory.items mini.fat.items mini.stream.items found.0 (views c.in_ok-chains.chains.items)
