@@ -108,6 +108,11 @@ OneContentsAt = (bytes : List ℕ) (path : List (List ℕ)) (a b : Contents)
 abbrev pub EmptyPathIsRoot : Type 0
 EmptyPathIsRoot = (bytes : List ℕ) (contents : Contents) → HoldsAt bytes [] contents ↔ Holds bytes contents
 
+-- What is found under a name is one of the entries, a storage, and has this name.
+abbrev pub FoundStoragesAreNamed : Type 0
+FoundStoragesAreNamed = (bytes directory q ks : List ℕ) (k : ℕ) → storage_named bytes directory q ks ≡ Some k
+    → ((i : ℕ) × (i < length ks) × (slice_index ks i ≡ k)) × (kind bytes directory k ≡ 1) × (name bytes directory k ≡ q)
+
 -- No storage is both there and missing.
 abbrev pub HeldIsNotMissing : Type 0
 HeldIsNotMissing = (bytes : List ℕ) (path : List (List ℕ)) (contents : Contents)

@@ -5,6 +5,7 @@ mod claims;
 mod directory;
 mod fat;
 mod header;
+pub mod laws;
 mod listing;
 mod names;
 mod paths;

@@ -1,13 +1,18 @@
 -- The plan at a path: there is at most one, and that at the empty path is the file's.
-use Rattle.std.proofs.Common.{◌≡◌, ℕ, ◌+◌, ◌<◌, ◌≤◌, ◌↔◌, List, [], ◌∷◌, ◌++◌, length, get_or, Option, Some, None, MatchOption, inl, inr, sym, ◌∙◌, ap, subst, arith, refl}
+use Rattle.std.proofs.Common.{◌≡◌, ℕ, suc, ◌+◌, ◌<◌, ◌≤◌, ◌↔◌, Bool, true, false, cond, eqb, ◌&&◌, List, [], ◌∷◌, ◌++◌, length, get_or, Option, Some, None, MatchOption, inl, inr, sym, ◌∙◌, ap, subst, arith, refl}
 use Rattle.std.proofs.lemmas.Option.{same_Some}
+use Rattle.std.proofs.lemmas.Bool.{cases_Bool, eqb-true}
+use Rattle.std.proofs.lemmas.Map.Views.{tells_apart}
+use Rattle.std.specs.BTreeMap.{is_at}
+use Rattle.msi_container_format.specs.Names.{name_cmp}
+use Rattle.msi_container_format.proofs.NamesLemmas.{exact_names}
 use Rattle.msi_container_format.specs.declared.contents.Contents.{Contents}
 use Rattle.msi_container_format.specs.Chains.{AreBelow}
 use Rattle.msi_container_format.specs.Format.{MAX_REGULAR_SECTOR}
 use Rattle.msi_container_format.specs.Trees.{Tree, members}
-use Rattle.msi_container_format.specs.Container.{Plan, IsPlan, Holds, contents_of, fat_of, left, right, entry_count, sectors_used, sectors_of_streams, stream_entries}
+use Rattle.msi_container_format.specs.Container.{Plan, IsPlan, Holds, contents_of, fat_of, kind, name, left, right, entry_count, sectors_used, sectors_of_streams, stream_entries}
 use Rattle.msi_container_format.proofs.PlanOnceLemmas.{chain_once, whole_once, tree_once, chains_once, same_plan}
-use Rattle.msi_container_read.specs.Storages.{storage_named, IsStorageTree, Leads, IsPath, HasDirectory, IsMissing, IsPlanAt, contents_at, HoldsAt}
+use Rattle.msi_container_read.specs.Storages.{is_storage_named, storage_named, IsStorageTree, Leads, IsPath, HasDirectory, IsMissing, IsPlanAt, contents_at, HoldsAt}
 use Rattle.msi_container_read.proofs.plans.PlanPartsLemmas.{below_front, below_back}
 
 -- AT MOST ONE
@@ -82,6 +87,40 @@ directory_once bytes difat other directory second h k =
     let one : AreRegular directory = below_back limit (difat ++ fat_of bytes difat) directory (λ i l. omega (arith, (h.sectors i l).0)) in
     let two : AreRegular second = below_back limit (other ++ fat_of bytes other) second (λ i l. omega (arith, (k.sectors i l).0)) in
     whole_once _ _ _ _ h.chain (rw (← e) at k.chain) (λ i l. omega (arith, one i l)) (λ i l. omega (arith, two i l))
+
+-- what is held isn't missing
+pub held_not_missing : (bytes : List ℕ) (path : List (List ℕ)) (contents : Contents) → HoldsAt bytes path contents → IsMissing bytes path → ⊥
+held_not_missing bytes path contents (s, p, h, e) (difat, directory, k, lost) =
+    let d : p.difat ≡ difat = chain_once _ _ _ p.difat difat h.difat k.difats in
+    let fat : p.fat ≡ fat_of bytes difat = h.fat ∙ ap (fat_of bytes) d in
+    let one = (directory_regular bytes p h).0 in
+    let two : AreRegular directory = below_back (MAX_REGULAR_SECTOR + 1) (difat ++ fat_of bytes difat) directory (λ i l. omega (arith, (k.sectors i l).0)) in
+    let same : p.directory ≡ directory = whole_once _ _ _ _ h.directory (rw (← fat) at k.chain) (λ i l. omega (arith, one i l)) (λ i l. omega (arith, two i l)) in
+    let nowhere : IsPath bytes p.directory path None = rw (← same) at lost in
+    absurd (told (leads_once bytes p.directory path 0 (Some s) None h.reached.leads nowhere.leads))
+  where
+    told : ◌≡◌ {A = Option ℕ} (Some s) None → ⊥
+    told e = cc
+
+-- the storage of a name is one of the entries
+both_parts : (a b : Bool) → (a && b) ≡ true → (a ≡ true) × (b ≡ true)
+both_parts true true h = (refl, refl)
+both_parts true false h = absurd cc
+both_parts false b h = absurd cc
+
+pub found_named : (bytes directory q ks : List ℕ) (k : ℕ) → storage_named bytes directory q ks ≡ Some k → ((i : ℕ) × (i < length ks) × (get_or ks i 0 ≡ k)) × (kind bytes directory k ≡ 1) × (name bytes directory k ≡ q)
+found_named bytes directory q [] k h = absurd cc
+found_named bytes directory q (x ∷ ks) k h =
+    elim (cases_Bool (is_storage_named bytes directory q x)) [
+      | inl e ↦
+          let same : x ≡ k = same_Some x k (sym (ap (λ b. cond b (Some x) (storage_named bytes directory q ks)) e) ∙ h) in
+          let both = both_parts (eqb (kind bytes directory x) 1) (is_at (name_cmp q) (name bytes directory x)) e in
+          let named : q ≡ name bytes directory x = tells_apart exact_names q (name bytes directory x) both.1 in
+          ((0, omega arith, same), sym (ap (kind bytes directory) same) ∙ eqb-true _ _ both.0, sym (ap (name bytes directory) same) ∙ sym named)
+      | inr e ↦
+          let rest = found_named bytes directory q ks k (sym (ap (λ b. cond b (Some x) (storage_named bytes directory q ks)) e) ∙ h) in
+          ((suc rest.0.0, omega (arith, rest.0.1), rest.0.2), rest.1, rest.2)
+    ]
 
 -- THE ROOT
 
