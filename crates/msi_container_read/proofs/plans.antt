@@ -7,5 +7,4 @@ pub mod ListingLemmas
 pub mod ListLemmas
 pub mod KeptBytesLemmas
 pub mod PassedLemmas
-pub mod PathLemmas
 pub mod StorageLemmas

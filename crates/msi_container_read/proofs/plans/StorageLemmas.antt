@@ -1,5 +1,5 @@
 -- The plan at a path: there is at most one, and that at the empty path is the file's.
-use Rattle.std.proofs.Common.{◌≡◌, ℕ, suc, ◌+◌, ◌<◌, ◌≤◌, ◌↔◌, Bool, true, false, cond, eqb, ◌&&◌, List, [], ◌∷◌, ◌++◌, length, get_or, Option, Some, None, MatchOption, inl, inr, sym, ◌∙◌, ap, subst, arith, refl}
+use Rattle.std.proofs.Common.{◌≡◌, ℕ, suc, ◌+◌, ◌<◌, Bool, true, false, cond, eqb, ◌&&◌, List, [], ◌∷◌, ◌++◌, length, get_or, Option, Some, None, MatchOption, inl, inr, sym, ◌∙◌, ap, subst, arith, refl}
 use Rattle.std.proofs.lemmas.Option.{same_Some}
 use Rattle.std.proofs.lemmas.Bool.{cases_Bool, eqb-true}
 use Rattle.std.proofs.lemmas.Map.Views.{tells_apart}
@@ -10,7 +10,7 @@ use Rattle.msi_container_format.specs.declared.contents.Contents.{Contents}
 use Rattle.msi_container_format.specs.Chains.{AreBelow}
 use Rattle.msi_container_format.specs.Format.{MAX_REGULAR_SECTOR}
 use Rattle.msi_container_format.specs.Trees.{Tree, members}
-use Rattle.msi_container_format.specs.Container.{Plan, IsPlan, Holds, contents_of, fat_of, kind, name, left, right, entry_count, sectors_used, sectors_of_streams, stream_entries}
+use Rattle.msi_container_format.specs.Container.{Plan, IsPlan, Holds, fat_of, kind, name, left, right, entry_count, sectors_used, sectors_of_streams, stream_entries}
 use Rattle.msi_container_format.proofs.PlanOnceLemmas.{chain_once, whole_once, tree_once, chains_once, same_plan}
 use Rattle.msi_container_read.specs.Storages.{is_storage_named, storage_named, IsStorageTree, Leads, IsPath, HasDirectory, IsMissing, IsPlanAt, contents_at, HoldsAt}
 use Rattle.msi_container_read.proofs.plans.PlanPartsLemmas.{below_front, below_back}

@@ -7,7 +7,7 @@ use Rattle.msi_container_read.proofs.plans.PlanPartsLemmas.{plan_of, start_of, m
 use Rattle.msi_container_read.proofs.plans.OutlineLemmas.{grown, grown_twice, steps_twice, few_of, regular_of, room_of, started_late}
 use Rattle.msi_container_read.proofs.plans.OutlineLemmas.{limits_are, entries_seen, started, path_seen, missing_seen, missing_found, listing_seen, mini_seen, chained_seen, sorted_seen}
 use Rattle.msi_container_read.proofs.plans.OutlineLemmas.{found_plan, found_outline, found_steps, below_seen, within_claims, within_all}
-use Rattle.msi_container_read.proofs.plans.PassedLemmas.{kind_passed, kind_passed_along, missing_passed, not_found_passed, memory_viewed}
+use Rattle.msi_container_read.proofs.plans.PassedLemmas.{kind_passed_along, missing_passed, not_found_passed, memory_viewed}
 use Rattle.msi_container_read.proofs.reading.read_outline_at.Goals as goal
 
 -- MEMORY IS REFUSED

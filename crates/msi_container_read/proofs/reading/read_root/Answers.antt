@@ -1,4 +1,3 @@
-use Rattle.std.proofs.Common.{ℕ, List}
 use Rattle.std.proofs.lemmas.Result.{IfOk-weaker, on_ok_weaker}
 use Rattle.msi_container_read.proofs.plans.StorageLemmas.{at_root, held_at_root, held_of_root}
 use Rattle.msi_container_read.proofs.reading.read_root.Goals as goal
