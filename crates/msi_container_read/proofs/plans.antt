@@ -8,3 +8,4 @@ pub mod ListLemmas
 pub mod KeptBytesLemmas
 pub mod PassedLemmas
 pub mod StorageLemmas
+pub mod StorageListLemmas

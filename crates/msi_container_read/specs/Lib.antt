@@ -8,3 +8,4 @@ pub mod Steps
 pub mod Listings
 pub mod Runs
 pub mod Storages
+pub mod StorageLists

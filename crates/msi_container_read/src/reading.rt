@@ -304,7 +304,7 @@ fn read_outline_at(
 
 /// The sectors of the DIFAT, the FAT and the directory.
 pub(crate) struct Start {
-    difat: Vec<u32>,
+    pub(crate) difat: Vec<u32>,
     fat: Vec<u32>,
     pub(crate) directory: Vec<u32>,
 }
@@ -348,7 +348,7 @@ impl Drop for Mini {
     }
 }
 
-fn read_start(
+pub(crate) fn read_start(
     alloc: Global,
     bytes: &[u8],
     claims: &mut Claims,

@@ -34,6 +34,11 @@ pub memory_viewed : {X Y : Type 0} (view : X → Y) (r : Result X ErrorKind) (y 
 memory_viewed view (Ok x) y kind d k = absurd d
 memory_viewed view (Err e) y kind d k = d ∙ k
 
+-- less of what is viewed
+pub view_weaker : {X Y Z : Type 0} (f : Y → Z) (view : X → Y) (r : Result X ErrorKind) (y : Y) → ViewIsUnlessMemory view r y → ViewIsUnlessMemory (λ x. f (view x)) r (f y)
+view_weaker f view (Ok x) y h = ap f h
+view_weaker f view (Err e) y h = h
+
 -- so it is, said of the result itself
 pub refused_memory : {X : Type 0} (r : Result X ErrorKind) (kind : ErrorKind) → IsErrAnd r (λ e. e ≡ kind) → kind ≡ OutOfMemory → r ≡ Err OutOfMemory
 refused_memory (Ok x) kind d k = absurd d

@@ -38,6 +38,10 @@ below_both limit xs ys a b i l =
 pub distinct_front : (xs ys : List ℕ) → AreDistinct (xs ++ ys) → AreDistinct xs
 distinct_front xs ys d i j l h e = d i j l (omega (arith, length-append xs ys)) (get_or_append_left xs ys 0 i (omega arith) ∙ e ∙ sym (get_or_append_left xs ys 0 j h))
 
+pub distinct_back : (xs ys : List ℕ) → AreDistinct (xs ++ ys) → AreDistinct ys
+distinct_back xs ys d i j l h e =
+    d (length xs + i) (length xs + j) (omega arith) (omega (arith, length-append xs ys)) (get_or-append-add xs ys i 0 ∙ e ∙ sym (get_or-append-add xs ys j 0))
+
 -- a front that can be claimed, and the rest behind it
 pub claim_front : (limit : ℕ) (used xs ys : List ℕ) → CanClaim limit used (xs ++ ys) → CanClaim limit used xs
 claim_front limit used xs ys can = record {

@@ -7,13 +7,37 @@ use Rattle.std.specs.BTreeMap.{is_at}
 use Rattle.msi_container_format.specs.Names.{name_cmp}
 use Rattle.msi_container_format.proofs.NamesLemmas.{exact_names}
 use Rattle.msi_container_format.specs.declared.contents.Contents.{Contents}
-use Rattle.msi_container_format.specs.Chains.{AreBelow}
+use Rattle.msi_container_format.specs.Chains.{AreBelow, AreDistinct}
 use Rattle.msi_container_format.specs.Format.{MAX_REGULAR_SECTOR}
 use Rattle.msi_container_format.specs.Trees.{Tree, members}
-use Rattle.msi_container_format.specs.Container.{Plan, IsPlan, Holds, fat_of, kind, name, left, right, entry_count, sectors_used, sectors_of_streams, stream_entries}
+use Rattle.msi_container_format.specs.Container.{Plan, IsPlan, Holds, fat_of, kind, name, child, IsDirectoryTree, left, right, entry_count, sectors_used, sectors_of_streams, stream_entries}
 use Rattle.msi_container_format.proofs.PlanOnceLemmas.{chain_once, whole_once, tree_once, chains_once, same_plan}
 use Rattle.msi_container_read.specs.Storages.{is_storage_named, storage_named, IsStorageTree, Leads, IsPath, HasDirectory, IsMissing, IsPlanAt, contents_at, HoldsAt}
-use Rattle.msi_container_read.proofs.plans.PlanPartsLemmas.{below_front, below_back}
+use Rattle.msi_container_read.specs.Reading.{AreOfKinds, AreNamed}
+use Rattle.msi_container_read.proofs.plans.PlanPartsLemmas.{below_front, below_back, distinct_back}
+
+-- WHAT LIES IN A STORAGE
+
+-- the entries that its child link leads to, of the two kinds, with names of their own
+pub lies_in : (bytes directory : List ℕ) (storage top : ℕ) (tree : Tree) (used entries kinded named : List ℕ)
+    → top ≡ child bytes directory storage
+    → IsDirectoryTree bytes directory top tree
+    → members tree ≡ entries
+    → AreDistinct (used ++ entries)
+    → kinded ≡ entries
+    → AreOfKinds bytes directory kinded
+    → named ≡ entries
+    → AreNamed bytes directory named
+    → IsStorageTree bytes directory storage tree
+lies_in bytes directory storage top tree used entries kinded named t spelled same distinct k kinds n names =
+    let of_kinds : AreOfKinds bytes directory (members tree) = rw same (rw k at kinds) in
+    let are_named : AreNamed bytes directory (members tree) = rw same (rw n at names) in
+    record {
+      spelled = rw t at spelled;
+      once = rw same (distinct_back used entries distinct);
+      entries = λ i l. record { kinds = of_kinds i l; named = are_named.named i l };
+      names = are_named.own;
+    }
 
 -- AT MOST ONE
 
