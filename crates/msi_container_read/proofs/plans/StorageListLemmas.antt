@@ -18,7 +18,7 @@ use Rattle.msi_container_format.proofs.PlanOnceLemmas.{Each}
 use Rattle.msi_container_read.specs.Claims.{CanClaim}
 use Rattle.msi_container_read.specs.Reading.{storages_among}
 use Rattle.msi_container_read.specs.Storages.{IsStorageTree}
-use Rattle.msi_container_read.specs.StorageLists.{LieInTurn, numbered, homes, homes_from, stream_count, storage_count, found_of}
+use Rattle.msi_container_read.specs.StorageLists.{LieInTurn, numbered, homes, homes_from, stream_count, storage_count}
 use Rattle.msi_container_read.specs.declared.storages.Storage.{Storage}
 use Rattle.msi_container_read.proofs.plans.ListingLemmas.{filter_each}
 use Rattle.msi_container_read.proofs.plans.PlanPartsLemmas.{distinct_front}

@@ -1,4 +1,4 @@
-use Rattle.std.proofs.Common.{◌≡◌, [], ◌∙◌, List, ℕ, vec_len}
+use Rattle.std.proofs.Common.{[], ◌∙◌, vec_len}
 use Rattle.msi_container_format.specs.Container.{left, right, entry_count}
 use Rattle.msi_container_format.specs.Trees.{members}
 use Rattle.msi_container_read.specs.Claims.{CanClaim}

@@ -1,9 +1,9 @@
-use Rattle.std.proofs.Common.{◌≡◌, ℕ, List, [], ◌∷◌, ◌+◌, ◌<◌, ◌≤◌, ◌++◌, length, vec_len, sym, ◌∙◌, ap, subst, arith, refl}
+use Rattle.std.proofs.Common.{ℕ, List, [], ◌∷◌, ◌<◌, ◌≤◌, ◌++◌, length, sym, ◌∙◌, ap, subst, arith, refl}
 use Rattle.std.proofs.lemmas.List.{length-append}
 use Rattle.std.proofs.lemmas.Result.{err_from_is_err_and}
 use Rattle.msi_container_format.specs.Chains.{AreDistinct}
 use Rattle.msi_container_format.specs.Container.{entry_count}
-use Rattle.msi_container_read.specs.StorageLists.{AreAllStorages, found_of}
+use Rattle.msi_container_read.specs.StorageLists.{AreAllStorages}
 use Rattle.msi_container_read.proofs.plans.PlanPartsLemmas.{memory_left, few_claimed}
 use Rattle.msi_container_read.proofs.plans.StorageListLemmas.{below_root, looked_none, looked_few, looked_more, looked_next, looked_all, looked_only, looked_long, looked_named}
 use Rattle.msi_container_read.proofs.storages.find_all.Goals as goal

@@ -1,6 +1,6 @@
 use Rattle.std.proofs.Common.{◌≡◌, ◌-◌, ◌≤◌, List, vec_len, length}
 use Rattle.msi_container_format.specs.Chains.{AreBelow}
-use Rattle.msi_container_format.specs.Container.{entry_count, kind}
+use Rattle.msi_container_format.specs.Container.{entry_count}
 use Rattle.msi_container_format.specs.Trees.{Tree}
 use Rattle.msi_container_read.proofs.plans.StorageListLemmas.{IsLooked}
 use Rattle.msi_container_read.proofs.storages.find_all.Given as goal

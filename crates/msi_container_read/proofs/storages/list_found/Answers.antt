@@ -1,4 +1,4 @@
-use Rattle.std.proofs.Common.{ℕ, ◌+◌, ◌-◌, map, ap, ◌∙◌, arith}
+use Rattle.std.proofs.Common.{◌+◌, map, ap, ◌∙◌, arith}
 use Rattle.std.specs.List.{range_with_len}
 use Rattle.msi_container_read.specs.StorageLists.{listed_at}
 use Rattle.msi_container_read.proofs.plans.StorageListLemmas.{next_listed}

@@ -1,4 +1,4 @@
-use Rattle.std.proofs.Common.{◌≡◌, sym, subst}
+use Rattle.std.proofs.Common.{subst}
 use Rattle.msi_container_format.specs.Chains.{AreBelow, AreDistinct}
 use Rattle.msi_container_format.specs.Container.{left, right, entry_count}
 use Rattle.msi_container_read.proofs.plans.TreeLemmas.{members_below}
