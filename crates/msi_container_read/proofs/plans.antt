@@ -7,3 +7,5 @@ pub mod ListingLemmas
 pub mod ListLemmas
 pub mod KeptBytesLemmas
 pub mod PassedLemmas
+pub mod StorageLemmas
+pub mod StorageListLemmas

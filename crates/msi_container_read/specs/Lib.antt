@@ -7,3 +7,5 @@ pub mod Reading
 pub mod Steps
 pub mod Listings
 pub mod Runs
+pub mod Storages
+pub mod StorageLists

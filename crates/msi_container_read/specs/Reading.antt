@@ -9,10 +9,11 @@ use Rattle.msi_container_format.specs.Chains.{AreBelow, AreDistinct}
 use Rattle.msi_container_format.specs.Names.{name_cmp}
 use Rattle.msi_container_format.specs.Container.{IsHeader, IsDifat, fat_of, IsDirectory, IsMiniFat, IsMiniStream}
 use Rattle.msi_container_format.specs.Container.{IsMembers, is_mini, all_sectors, all_mini_sectors, sector_size, size}
-use Rattle.msi_container_format.specs.Container.{kind, child, name, HasName, HaveOwnNames, IsDirectoryTree, Plan, clsid}
+use Rattle.msi_container_format.specs.Container.{kind, child, name, HasName, HaveOwnNames, IsDirectoryTree, Plan}
 use Rattle.msi_container_format.specs.Container.{has_storage, stream_entries}
 use Rattle.msi_container_format.specs.Trees.{Tree, members}
 use Rattle.msi_container_read.specs.Claims.{CanClaim}
+use Rattle.msi_container_read.specs.Storages.{storage_clsid}
 
 -- the sectors of the DIFAT, the FAT and the directory
 pub record IsStart (bytes : List ℕ) (limit : ℕ) (difat fat directory : List ℕ) : Type 0 where
@@ -27,10 +28,9 @@ abbrev pub AreOfKinds : (bytes directory : List ℕ) → List ℕ → Type 0
 AreOfKinds bytes directory ks = (i : ℕ) → i < length ks
     → (kind bytes directory (slice_index ks i) ≡ 1) ⊎ (kind bytes directory (slice_index ks i) ≡ 2)
 
--- the root, and the entries below it, but for their names
-pub record IsNamelessListing (bytes directory : List ℕ) (tree : Tree) : Type 0 where
-  pub root : kind bytes directory 0 ≡ 5
-  pub spelled : IsDirectoryTree bytes directory (child bytes directory 0) tree
+-- what lies directly in a storage, but for the names
+pub record IsNamelessListing (bytes directory : List ℕ) (storage : ℕ) (tree : Tree) : Type 0 where
+  pub spelled : IsDirectoryTree bytes directory (child bytes directory storage) tree
   pub once : AreDistinct (members tree)
   pub kinds : AreOfKinds bytes directory (members tree)
 
@@ -78,9 +78,9 @@ pub record IsCovered (bytes mini_stream directory : List ℕ) (k : ℕ) (c : Lis
   pub within : is_mini (size bytes directory k) ≡ true → AreBelow (mini_limit bytes mini_stream) c
 
 -- where a plan's streams stand, and what its directory tells beside them
-pub record IsOutline (bytes : List ℕ) (plan : Plan) (root : List ℕ) (has_storages : Bool)
+pub record IsOutline (bytes : List ℕ) (storage : ℕ) (plan : Plan) (clsid : List ℕ) (has_storages : Bool)
     (directory mini_stream storages streams : List ℕ) (chains : List (List ℕ)) : Type 0 where
-  pub rooted : root ≡ clsid bytes plan.directory
+  pub rooted : clsid ≡ storage_clsid bytes plan.directory storage
   pub told : has_storages ≡ has_storage bytes plan.directory (members plan.tree)
   pub directories : directory ≡ plan.directory
   pub mini_streams : mini_stream ≡ plan.mini_stream

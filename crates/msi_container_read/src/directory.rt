@@ -1,14 +1,16 @@
 //! The directory: its entries, and those that its tree reaches (MS-CFB 2.6).
 
-ghost use Rattle.std.specs.Prelude.{◌≡◌, ℕ, List, [], ◌+◌, ◌*◌, ◌<◌, ◌≤◌, ◌^◌, ◌++◌, length, take, map, IfOk, OnOk};
+ghost use Rattle.std.specs.Prelude.{◌≡◌, ℕ, List, [], ◌+◌, ◌*◌, ◌<◌, ◌≤◌, ◌^◌, ◌++◌, length, take, map, vec_len, IfOk, OnOk};
 ghost use Rattle.std.specs.Prelude.{OnErr, IsErrOf};
 ghost use Rattle.std.specs.List.{range_with_len};
 ghost use Rattle.msi_base.specs.declared.errors.ErrorKind.TheVariants.{InvalidData};
 ghost use Rattle.msi_container_format.specs.Bytes as spelled;
 ghost use Rattle.msi_container_format.specs.Chains.{AreBelow, AreDistinct};
+ghost use Rattle.msi_container_read.specs.Claims.{CanClaim};
 ghost use Rattle.msi_container_read.specs.Outcomes.{ViewIsUnlessMemory, FailsByData};
 ghost use Rattle.msi_container_format.specs.Container as container;
 ghost use Rattle.msi_container_read.specs.Reading as spec;
+ghost use Rattle.msi_container_read.specs.Storages.{storage_clsid};
 ghost use Rattle.msi_container_format.specs.Trees.{Tree, members};
 
 use crate::claims::{Claimed, Claims};
@@ -79,11 +81,11 @@ impl<'a> Directory<'a> {
         number32(self.bytes, self.field(entry, CHILD_AT))
     }
 
-    pub(crate) fn clsid(&self) -> [u8; 16]
-        requires { 0 < container.entry_count self.now.bytes.now self.now.sectors.now }
-        ensures { result ≡ container.clsid self.now.bytes.now self.now.sectors.now }
+    pub(crate) fn clsid(&self, entry: u32) -> [u8; 16]
+        requires { entry < container.entry_count self.now.bytes.now self.now.sectors.now }
+        ensures { result ≡ storage_clsid self.now.bytes.now self.now.sectors.now entry }
     {
-        let from = self.field(0, CLSID_AT);
+        let from = self.field(entry, CLSID_AT);
         let mut clsid = [0; 16];
         for i in 0..16 {
             clsid[i] = byte(self.bytes, from + i);
@@ -161,6 +163,30 @@ pub(crate) fn reach(alloc: Global, directory: &Directory, child: u32) -> Result<
     ensures kinds { FailsByData result }
 {
     let mut claims = Claims::new(alloc, Claimed::Entries, directory.entry_count())?;
+    reach_more(alloc, directory, child, &mut claims)
+}
+
+/// Lists the entries that links lead to from `child`, as `reach` does, and claims each beside those in use.
+pub(crate) fn reach_more(
+    alloc: Global,
+    directory: &Directory,
+    child: u32,
+    claims: &mut Claims,
+) -> Result<Vec<u32>, Error>
+    requires { vec_len claims.old.marks ≡ container.entry_count directory.now.bytes.now directory.now.sectors.now }
+    ensures limit { vec_len claims.new.marks ≡ vec_len claims.old.marks }
+    ensures found { IfOk result
+        (λ reached. (tree : Tree)
+        × container.IsDirectoryTree directory.now.bytes.now directory.now.sectors.now child tree
+        × (members tree ≡ reached.items)
+        × (claims.new.list.items ≡ claims.old.list.items ++ reached.items)) }
+    ensures only { (tree : Tree)
+        → container.IsDirectoryTree directory.now.bytes.now directory.now.sectors.now child tree
+        → CanClaim (vec_len claims.old.marks) claims.old.list.items (members tree)
+        → ViewIsUnlessMemory (λ v. v.items) result (members tree) }
+    ensures kinds { FailsByData result }
+{
+    let mut reached = Vec::new(alloc);
     let mut pending = Vec::new(alloc);
     pending.push(child)?;
     while let Some(link) = pending.pop() {
@@ -168,10 +194,11 @@ pub(crate) fn reach(alloc: Global, directory: &Directory, child: u32) -> Result<
             continue;
         }
         claims.claim(link)?;
+        reached.push(link)?;
         pending.push(directory.right(link))?;
         pending.push(directory.left(link))?;
     }
-    Ok(claims.into_list())
+    Ok(reached)
 }
 
 pub(crate) fn check_kinds(directory: &Directory, entries: &[u32]) -> Result<(), Error>
@@ -187,4 +214,25 @@ pub(crate) fn check_kinds(directory: &Directory, entries: &[u32]) -> Result<(), 
         }
     }
     Ok(())
+}
+
+/// Lists the entries that lie directly in a storage: storages and streams, whose names aren't looked at yet.
+pub(crate) fn read_listing(
+    alloc: Global,
+    directory: &Directory,
+    storage: u32,
+) -> Result<Vec<u32>, Error>
+    requires { storage < container.entry_count directory.now.bytes.now directory.now.sectors.now }
+    ensures found { IfOk result
+        (λ entries. (tree : Tree) × spec.IsNamelessListing directory.now.bytes.now directory.now.sectors.now storage tree
+        × (members tree ≡ entries.items)) }
+    ensures only { (tree : Tree) → spec.IsNamelessListing directory.now.bytes.now directory.now.sectors.now storage tree
+        → ViewIsUnlessMemory (λ v. v.items) result (members tree) }
+    ensures below { IfOk result
+        (λ entries. AreBelow (container.entry_count directory.now.bytes.now directory.now.sectors.now) entries.items) }
+    ensures kinds { FailsByData result }
+{
+    let entries = reach(alloc, directory, directory.child(storage))?;
+    check_kinds(directory, &entries)?;
+    Ok(entries)
 }

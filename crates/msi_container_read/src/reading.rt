@@ -1,37 +1,38 @@
 //! Reading a compound file.
 
 ghost use Rattle.std.specs.Prelude.{◌≡◌, ℕ, List, [], ◌+◌, ◌-◌, ◌<◌, ◌≤◌, ◌^◌, ◌++◌, length, sum_by, vec_len, IfOk};
-ghost use Rattle.std.specs.Prelude.{IfSome, OnOk, OnErr, IsErrOf};
+ghost use Rattle.std.specs.Prelude.{IfSome, OnOk, OnErr, IsErrOf, Some};
 ghost use Rattle.msi_base.specs.Results.{IsUnlessMemory};
 ghost use Rattle.msi_base.specs.declared.errors.ErrorKind.TheVariants.{InvalidData};
 ghost use Rattle.std.specs.List.{AllZip};
 ghost use Rattle.msi_container_format.specs.declared.contents.Contents as held;
 ghost use Rattle.msi_container_format.specs.Chains.{AreBelow};
 ghost use Rattle.msi_container_read.specs.Claims.{CanClaim};
-ghost use Rattle.msi_container_read.specs.Outcomes.{ViewIsUnlessMemory, FailsByData};
+ghost use Rattle.msi_container_read.specs.Outcomes.{ViewIsUnlessMemory, FailsByData, FailsByPath, IsNotFound};
 ghost use Rattle.msi_container_format.specs.Container as container;
 ghost use Rattle.msi_container_format.specs.Format as marks;
 ghost use Rattle.msi_container_format.specs.Container.{IsMiniFat};
 ghost use Rattle.msi_container_read.specs.Reading.{IsStart, IsNamelessListing, IsMini, AreChained, IsCovered};
 ghost use Rattle.msi_container_read.specs.Reading.{IsOutline, HaveNamesApart, storages_among, mini_limit, views};
 ghost use Rattle.msi_container_read.specs.Steps as counted;
+ghost use Rattle.msi_container_read.specs.Storages as storages;
 ghost use Rattle.msi_container_read.specs.Counts.{links};
 ghost use Rattle.msi_container_format.specs.Trees.{Tree, members};
 
 use crate::claims::{Claimed, Claims};
-use crate::directory::{Directory, check_kinds, reach};
+use crate::directory::{Directory, read_listing};
 use crate::fat::{read_difat, read_fat};
 use crate::header::{check_header, sector_count, sector_size};
-use crate::reasons;
+use crate::paths::find_storage;
 use crate::streams::{Tables, Uses, collect, has_storage, of_kind, walk_each};
 use crate::table::{AllocationTable, Steps};
 use crate::walks::{walk, walk_to_end};
-use msi_base::{Error, ErrorKind};
+use msi_base::Error;
 use msi_container_format::contents::Contents;
 use msi_container_format::format::{
-    DIRECTORY_START_AT, MAX_REGULAR_SECTOR, MINI_FAT_START_AT, MINI_SECTOR_SIZE, ROOT, STORAGE,
-    STREAM,
+    DIRECTORY_START_AT, MAX_REGULAR_SECTOR, MINI_FAT_START_AT, MINI_SECTOR_SIZE, STORAGE, STREAM,
 };
+use msi_container_format::name::Name;
 use msi_container_format::parts::number32;
 use std::alloc::Global;
 use std::rc::Rc;
@@ -72,7 +73,7 @@ pub fn read_counted(alloc: Global, bytes: &[u8], steps: &mut Steps) -> Result<Co
         → steps.new ≡ counted.steps_of plan) }
     ensures kept { IfOk result (λ contents. counted.bytes_kept contents ≤ counted.rounded_length bytes.now) }
 {
-    read_from(alloc, bytes, None, steps)
+    read_root(alloc, bytes, None, steps)
 }
 
 /// Returns the contents that the bytes hold, as `read` returns them. It keeps the bytes: a stream of at least 4096
@@ -90,11 +91,36 @@ pub fn read_shared(alloc: Global, bytes: Rc<Vec<u8>>) -> Result<Contents, Error>
         (λ contents. counted.bytes_kept contents ≤ counted.rounded_length bytes.value.items) }
 {
     let mut steps = Steps::new();
-    read_from(alloc, bytes.as_slice(), Some(&bytes), &mut steps)
+    read_root(alloc, bytes.as_slice(), Some(&bytes), &mut steps)
+}
+
+/// Returns the contents of the storage that lies at a path of names below the root (MS-CFB 2.6.3): its CLSID, its
+/// streams, and whether storages lie directly in it. The empty path is that of the root. Streams share the bytes as
+/// those of `read_shared` do.
+///
+/// Of the directory it looks only at what lies directly in the root and in each storage on the path. It keeps marks for
+/// the entries of the directory, and makes them anew for each name of the path.
+///
+/// # Errors
+/// Fails with `InvalidData` if header, tables or root break a rule of `read`, or if what lies in a storage on the path
+/// breaks one, up to the first name that isn't found there. Fails with `NotFound` if a name of the path is not that of a
+/// storage in the one before it. Only then does it look at the mini stream and at the storage's streams, and fails with
+/// `InvalidData` if they break a rule of `read`. Fails with `OutOfMemory`.
+pub fn read_storage(alloc: Global, bytes: &Rc<Vec<u8>>, path: &[Name]) -> Result<Contents, Error>
+    ensures found { IfOk result (λ contents. storages.HoldsAt bytes.now.value.items path.now contents) }
+    ensures only { (contents : held.Contents) → storages.HoldsAt bytes.now.value.items path.now contents
+        → IsUnlessMemory result contents }
+    ensures missing { storages.IsMissing bytes.now.value.items path.now → IsNotFound result }
+    ensures kinds { FailsByPath (storages.IsMissing bytes.now.value.items path.now) result }
+    ensures kept { IfOk result
+        (λ contents. counted.bytes_kept contents ≤ counted.rounded_length bytes.now.value.items) }
+{
+    let mut steps = Steps::new();
+    read_from(alloc, bytes.as_slice(), path, Some(bytes), &mut steps)
 }
 
 /// Counts the steps from 0 on. An image has the same bytes; the streams that lie in it in one piece are parts of it.
-fn read_from(
+fn read_root(
     alloc: Global,
     bytes: &[u8],
     image: Option<&Rc<Vec<u8>>>,
@@ -109,8 +135,30 @@ fn read_from(
         → steps.new ≡ counted.steps_of plan) }
     ensures kept { IfOk result (λ contents. counted.bytes_kept contents ≤ counted.rounded_length bytes.now) }
 {
+    read_from(alloc, bytes, &[], image, steps)
+}
+
+/// Reads the storage at a path, as `read_root` does the root.
+fn read_from(
+    alloc: Global,
+    bytes: &[u8],
+    path: &[Name],
+    image: Option<&Rc<Vec<u8>>>,
+    steps: &mut Steps,
+) -> Result<Contents, Error>
+    requires { IfSome image (λ whole. whole.now.value.items ≡ bytes.now) }
+    ensures found { IfOk result (λ contents. storages.HoldsAt bytes.now path.now contents) }
+    ensures only { (contents : held.Contents) → storages.HoldsAt bytes.now path.now contents
+        → IsUnlessMemory result contents }
+    ensures missing { storages.IsMissing bytes.now path.now → IsNotFound result }
+    ensures kinds { FailsByPath (storages.IsMissing bytes.now path.now) result }
+    ensures bounded { counted.IsWithinSectors bytes.now steps.new }
+    ensures exact { OnOk result ((storage : ℕ) (plan : container.Plan)
+        → storages.IsPlanAt bytes.now path.now storage plan → steps.new ≡ counted.steps_of plan) }
+    ensures kept { IfOk result (λ contents. counted.bytes_kept contents ≤ counted.rounded_length bytes.now) }
+{
     *steps = Steps::new();
-    let outline = read_outline(alloc, bytes, steps)?;
+    let outline = read_outline_at(alloc, bytes, path, steps)?;
     let directory = Directory {
         bytes,
         sectors: &outline.start.directory,
@@ -155,7 +203,7 @@ impl Drop for Outline {
     }
 }
 
-/// Locates the streams without reading them. The names of entries aren't looked at yet.
+/// Locates the root's streams without reading them. Their names aren't looked at yet.
 pub(crate) fn read_outline(alloc: Global, bytes: &[u8], steps: &mut Steps) -> Result<Outline, Error>
     requires { steps.old ≤ 2 ^ 63 }
     ensures found { IfOk result (λ o. (plan : container.Plan)
@@ -163,7 +211,7 @@ pub(crate) fn read_outline(alloc: Global, bytes: &[u8], steps: &mut Steps) -> Re
         (storages_among bytes.now plan.directory (members plan.tree)) (container.stream_entries bytes.now plan)
         → container.IsPlan bytes.now plan)
         × (steps.new ≡ steps.old + counted.steps_of plan)
-        × IsOutline bytes.now plan o.clsid o.entries.has_storages
+        × IsOutline bytes.now 0 plan o.clsid o.entries.has_storages
         o.start.directory.items o.mini.stream.items o.entries.storages.items o.entries.streams.items
         (views o.chains.items)) }
     ensures only { (plan : container.Plan) → container.IsPlan bytes.now plan
@@ -185,6 +233,46 @@ pub(crate) fn read_outline(alloc: Global, bytes: &[u8], steps: &mut Steps) -> Re
     ensures grows { steps.old ≤ steps.new }
     ensures bounded { counted.IsWithinSectors bytes.now (steps.new - steps.old) }
 {
+    read_outline_at(alloc, bytes, &[], steps)
+}
+
+/// Locates the streams of the storage at a path, as `read_outline` does those of the root.
+fn read_outline_at(
+    alloc: Global,
+    bytes: &[u8],
+    path: &[Name],
+    steps: &mut Steps,
+) -> Result<Outline, Error>
+    requires { steps.old ≤ 2 ^ 63 }
+    ensures found { IfOk result (λ o. (storage : ℕ) × (plan : container.Plan)
+        × storages.IsPath bytes.now plan.directory path.now (Some storage)
+        × (HaveNamesApart bytes.now plan.directory
+        (storages_among bytes.now plan.directory (members plan.tree)) (container.stream_entries bytes.now plan)
+        → storages.IsPlanAt bytes.now path.now storage plan)
+        × (steps.new ≡ steps.old + counted.steps_of plan)
+        × IsOutline bytes.now storage plan o.clsid o.entries.has_storages
+        o.start.directory.items o.mini.stream.items o.entries.storages.items o.entries.streams.items
+        (views o.chains.items)) }
+    ensures only { (storage : ℕ) (plan : container.Plan) → storages.IsPlanAt bytes.now path.now storage plan
+        → ViewIsUnlessMemory {Y = List ℕ × List ℕ × List ℕ}
+        (λ o. (o.start.directory.items, o.entries.storages.items, o.entries.streams.items)) result (
+          plan.directory,
+          storages_among bytes.now plan.directory
+              (members plan.tree),
+          container.stream_entries bytes.now plan,
+        ) }
+    ensures missing { storages.IsMissing bytes.now path.now → IsNotFound result }
+    ensures kinds { FailsByPath (storages.IsMissing bytes.now path.now) result }
+    ensures storages { IfOk result
+        (λ o. AreBelow (container.entry_count bytes.now o.start.directory.items) o.entries.storages.items) }
+    ensures below { IfOk result
+        (λ o. AreBelow (container.entry_count bytes.now o.start.directory.items) o.entries.streams.items) }
+    ensures covered { IfOk result
+        (λ o. AllZip (IsCovered bytes.now o.mini.stream.items o.start.directory.items) o.entries.streams.items
+        (views o.chains.items)) }
+    ensures grows { steps.old ≤ steps.new }
+    ensures bounded { counted.IsWithinSectors bytes.now (steps.new - steps.old) }
+{
     let mut claims = Claims::new(alloc, Claimed::Sectors, sector_count(bytes))?;
     let start = read_start(alloc, bytes, &mut claims, steps)?;
     let fat = AllocationTable::new(bytes, &start.fat);
@@ -192,7 +280,8 @@ pub(crate) fn read_outline(alloc: Global, bytes: &[u8], steps: &mut Steps) -> Re
         bytes,
         sectors: &start.directory,
     };
-    let entries = read_entries(alloc, &directory)?;
+    let storage = find_storage(alloc, &directory, path)?;
+    let entries = read_entries(alloc, &directory, storage)?;
     let mini = read_mini(alloc, &fat, &directory, &mut claims, steps)?;
     let chains = read_chains(
         alloc,
@@ -203,7 +292,7 @@ pub(crate) fn read_outline(alloc: Global, bytes: &[u8], steps: &mut Steps) -> Re
         claims,
         steps,
     )?;
-    let clsid = directory.clsid();
+    let clsid = directory.clsid(storage);
     Ok(Outline {
         clsid,
         start,
@@ -215,7 +304,7 @@ pub(crate) fn read_outline(alloc: Global, bytes: &[u8], steps: &mut Steps) -> Re
 
 /// The sectors of the DIFAT, the FAT and the directory.
 pub(crate) struct Start {
-    difat: Vec<u32>,
+    pub(crate) difat: Vec<u32>,
     fat: Vec<u32>,
     pub(crate) directory: Vec<u32>,
 }
@@ -259,7 +348,7 @@ impl Drop for Mini {
     }
 }
 
-fn read_start(
+pub(crate) fn read_start(
     alloc: Global,
     bytes: &[u8],
     claims: &mut Claims,
@@ -295,15 +384,15 @@ fn read_start(
     })
 }
 
-fn read_entries(alloc: Global, directory: &Directory) -> Result<Entries, Error>
-    requires { 0 < container.entry_count directory.now.bytes.now directory.now.sectors.now }
+fn read_entries(alloc: Global, directory: &Directory, storage: u32) -> Result<Entries, Error>
+    requires { storage < container.entry_count directory.now.bytes.now directory.now.sectors.now }
     ensures found { IfOk result
-        (λ e. (tree : Tree) × IsNamelessListing directory.now.bytes.now directory.now.sectors.now tree
+        (λ e. (tree : Tree) × IsNamelessListing directory.now.bytes.now directory.now.sectors.now storage tree
         × (e.has_storages ≡ container.has_storage directory.now.bytes.now directory.now.sectors.now (members tree))
         × (e.storages.items ≡ storages_among directory.now.bytes.now directory.now.sectors.now (members tree))
         × (e.streams.items
         ≡ container.streams_among directory.now.bytes.now directory.now.sectors.now (members tree))) }
-    ensures only { (tree : Tree) → IsNamelessListing directory.now.bytes.now directory.now.sectors.now tree
+    ensures only { (tree : Tree) → IsNamelessListing directory.now.bytes.now directory.now.sectors.now storage tree
         → ViewIsUnlessMemory {Y = List ℕ × List ℕ} (λ e. (e.storages.items, e.streams.items)) result (
           storages_among directory.now.bytes.now directory.now.sectors.now (members tree),
           container.streams_among directory.now.bytes.now directory.now.sectors.now (members tree),
@@ -314,7 +403,7 @@ fn read_entries(alloc: Global, directory: &Directory) -> Result<Entries, Error>
         (λ e. AreBelow (container.entry_count directory.now.bytes.now directory.now.sectors.now) e.streams.items) }
     ensures kinds { FailsByData result }
 {
-    let entries = read_listing(alloc, directory)?;
+    let entries = read_listing(alloc, directory, storage)?;
     let storages = of_kind(alloc, directory, &entries, STORAGE)?;
     let streams = of_kind(alloc, directory, &entries, STREAM)?;
     let has_storages = has_storage(directory, &entries);
@@ -323,25 +412,6 @@ fn read_entries(alloc: Global, directory: &Directory) -> Result<Entries, Error>
         storages,
         streams,
     })
-}
-
-fn read_listing(alloc: Global, directory: &Directory) -> Result<Vec<u32>, Error>
-    requires { 0 < container.entry_count directory.now.bytes.now directory.now.sectors.now }
-    ensures found { IfOk result
-        (λ entries. (tree : Tree) × IsNamelessListing directory.now.bytes.now directory.now.sectors.now tree
-        × (members tree ≡ entries.items)) }
-    ensures only { (tree : Tree) → IsNamelessListing directory.now.bytes.now directory.now.sectors.now tree
-        → ViewIsUnlessMemory (λ v. v.items) result (members tree) }
-    ensures below { IfOk result
-        (λ entries. AreBelow (container.entry_count directory.now.bytes.now directory.now.sectors.now) entries.items) }
-    ensures kinds { FailsByData result }
-{
-    if directory.kind(0) != ROOT {
-        return Err(Error::new(ErrorKind::InvalidData, reasons::NO_ROOT));
-    }
-    let entries = reach(alloc, directory, directory.child(0))?;
-    check_kinds(directory, &entries)?;
-    Ok(entries)
 }
 
 fn read_mini_fat(

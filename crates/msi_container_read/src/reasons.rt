@@ -1,10 +1,12 @@
-//! Why bytes hold no container, by their directory and its names: a sentence for each rule of MS-CFB.
+//! Why bytes hold no container, or not the storage that is asked for: a sentence for each rule of MS-CFB.
 
 use msi_base::Reason;
 
 pub(crate) const ENTRY_KIND: Reason = Reason("a directory entry is neither a storage nor a stream");
 
 pub(crate) const NO_ROOT: Reason = Reason("the first directory entry is not the root");
+
+pub(crate) const NO_STORAGE: Reason = Reason("there is no storage of this name");
 
 pub(crate) const NAME_LENGTH: Reason = Reason("a name is odd, empty or too long");
 

@@ -4,9 +4,10 @@ use Rattle.std.proofs.lemmas.Bool.{eq-eqb, eqb-true, false≢true}
 use Rattle.msi_base.specs.declared.errors.ErrorKind.{ErrorKind}
 use Rattle.msi_base.specs.declared.errors.ErrorKind.TheVariants.{InvalidData}
 use Rattle.msi_container_format.specs.Trees.{Tree, members}
-use Rattle.msi_container_format.specs.Container.{kind, name, HasName, AreEntries, HaveOwnNames, IsListing, Plan, IsPlan, stream_entries, streams_among}
+use Rattle.msi_container_format.specs.Container.{kind, name, HasName, AreEntries, HaveOwnNames, Plan, IsPlan, stream_entries, streams_among}
 use Rattle.msi_container_format.proofs.PlanOnceLemmas.{Each}
 use Rattle.msi_container_read.specs.Reading.{AreOfKinds, IsNamelessListing, HaveNamesApart, storages_among}
+use Rattle.msi_container_read.specs.Storages.{IsStorageTree, IsPlanAt}
 use Rattle.msi_container_read.proofs.plans.ListingLemmas.{Apart, each_rest, each_more, apart_more, filter_each, filter_apart}
 
 -- each of the first is told from each of the second
@@ -113,21 +114,24 @@ parts_named bytes directory ks entries own =
       apart = apart_across (name bytes directory) p q ks (λ x a b. omega (arith, eqb-true _ _ a, eqb-true _ _ b)) own;
     }
 
--- a listing but for the names, and with them
-pub nameless : (bytes directory : List ℕ) (tree : Tree) → IsListing bytes directory tree → IsNamelessListing bytes directory tree
-nameless bytes directory tree h = record { root = h.root; spelled = h.spelled; once = h.once; kinds = λ i l. (h.entries i l).kinds }
+-- what lies in a storage but for the names, and with them
+pub nameless : (bytes directory : List ℕ) (storage : ℕ) (tree : Tree) → IsStorageTree bytes directory storage tree → IsNamelessListing bytes directory storage tree
+nameless bytes directory storage tree h = record { spelled = h.spelled; once = h.once; kinds = λ i l. (h.entries i l).kinds }
 
-pub with_names : (bytes directory : List ℕ) (tree : Tree)
-    → IsNamelessListing bytes directory tree
+pub with_names : (bytes directory : List ℕ) (storage : ℕ) (tree : Tree)
+    → IsNamelessListing bytes directory storage tree
     → HaveNamesApart bytes directory (storages_among bytes directory (members tree)) (streams_among bytes directory (members tree))
-    → IsListing bytes directory tree
-with_names bytes directory tree h names =
+    → IsStorageTree bytes directory storage tree
+with_names bytes directory storage tree h names =
     let all = all_named bytes directory (members tree) h.kinds names in
-    record { root = h.root; spelled = h.spelled; once = h.once; entries = all.0; names = all.1 }
+    record { spelled = h.spelled; once = h.once; entries = all.0; names = all.1 }
 
 -- the names of a plan's storages and streams
 pub plan_names : (bytes : List ℕ) (p : Plan) → IsPlan bytes p → HaveNamesApart bytes p.directory (storages_among bytes p.directory (members p.tree)) (stream_entries bytes p)
 plan_names bytes p h = parts_named bytes p.directory (members p.tree) h.listing.entries h.listing.names
+
+pub plan_at_names : {path : List (List ℕ)} {storage : ℕ} (bytes : List ℕ) (p : Plan) → IsPlanAt bytes path storage p → HaveNamesApart bytes p.directory (storages_among bytes p.directory (members p.tree)) (stream_entries bytes p)
+plan_at_names bytes p h = parts_named bytes p.directory (members p.tree) h.listing.entries h.listing.names
 
 -- an error for the bytes is one of what was called
 pub refused : {X Y : Type 0} (r : Result X ErrorKind) (e f : ErrorKind) → r ≡ Err e → e ≡ f → r ≡ Err InvalidData → ◌≡◌ {A = Result Y ErrorKind} (Err f) (Err InvalidData)

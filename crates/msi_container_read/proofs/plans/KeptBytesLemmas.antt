@@ -18,9 +18,10 @@ use Rattle.std.proofs.lemmas.Map.Steps.{length-le_from_distinct_below}
 use Rattle.msi_container_format.specs.Chains.{AreBelow, AreDistinct, IsChain}
 use Rattle.msi_container_format.specs.Names.{name_cmp}
 use Rattle.msi_container_format.specs.declared.contents.Contents.{Contents}
-use Rattle.msi_container_format.specs.Container.{Plan, IsPlan, IsSector, Holds, IsMembers, version, sector_size, size, start_sector, successor, is_mini, name, stream_bytes, sectors_in, mini_sectors_in, all_sectors, all_mini_sectors, named_bytes, contents_of, stream_entries, sectors_used, sectors_of_streams, mini_sectors_of_streams}
+use Rattle.msi_container_format.specs.Container.{Plan, IsSector, IsMembers, version, sector_size, size, start_sector, successor, is_mini, name, stream_bytes, sectors_in, mini_sectors_in, all_sectors, all_mini_sectors, named_bytes, stream_entries, sectors_used, sectors_of_streams, mini_sectors_of_streams}
 use Rattle.msi_container_format.proofs.NamesLemmas.{names_total}
 use Rattle.msi_container_read.specs.Reading.{mini_limit}
+use Rattle.msi_container_read.specs.Storages.{IsPlanAt, HoldsAt, contents_at}
 use Rattle.msi_container_read.specs.Counts.{sectors_inside}
 use Rattle.msi_container_read.specs.Steps.{bytes_kept, rounded_length}
 use Rattle.msi_container_read.proofs.plans.ListingLemmas.{some_size}
@@ -131,10 +132,10 @@ inside bytes n h = sized (eqb (version bytes) 4) h.1
     sized true l = omega arith
     sized false l = omega arith
 
-used_few : (bytes : List ℕ) (p : Plan) → IsPlan bytes p → length (sectors_used bytes p) ≤ sectors_inside bytes
+used_few : {path : List (List ℕ)} {storage : ℕ} (bytes : List ℕ) (p : Plan) → IsPlanAt bytes path storage p → length (sectors_used bytes p) ≤ sectors_inside bytes
 used_few bytes p h = few (sectors_used bytes p) (sectors_inside bytes) h.distinct (λ i l. inside bytes _ (h.sectors i l))
 
-minis_few : (bytes : List ℕ) (p : Plan) → IsPlan bytes p → length (mini_sectors_of_streams bytes p) ≤ mini_limit bytes p.mini_stream
+minis_few : {path : List (List ℕ)} {storage : ℕ} (bytes : List ℕ) (p : Plan) → IsPlanAt bytes path storage p → length (mini_sectors_of_streams bytes p) ≤ mini_limit bytes p.mini_stream
 minis_few bytes p h =
     few (mini_sectors_of_streams bytes p) (mini_limit bytes p.mini_stream) h.mini_distinct (λ i l. mini_below bytes p.mini_stream _ (h.mini_sectors i l))
 
@@ -152,7 +153,7 @@ room bytes streams minis stream = sized (eqb (version bytes) 4)
     sized true l m = let t = (div_ceil_times (length bytes) 4096 (omega arith)).0 in omega arith
     sized false l m = let t = (div_ceil_times (length bytes) 512 (omega arith)).0 in omega arith
 
-kept_plan : (bytes : List ℕ) (p : Plan) → IsPlan bytes p → bytes_kept (contents_of bytes p) ≤ rounded_length bytes
+kept_plan : {path : List (List ℕ)} {storage : ℕ} (bytes : List ℕ) (p : Plan) → IsPlanAt bytes path storage p → bytes_kept (contents_at bytes storage p) ≤ rounded_length bytes
 kept_plan bytes p h =
     let named = named_bytes bytes p.mini_stream p.directory (stream_entries bytes p) p.chains in
     let streams = sectors_of_streams bytes p in
@@ -162,5 +163,5 @@ kept_plan bytes p h =
     let whole = room bytes (length streams) (length (mini_sectors_of_streams bytes p)) (length p.mini_stream) (omega (arith, used_few bytes p h, all)) (minis_few bytes p h) in
     omega (arith, whole, map_weight named, held bytes p.fat p.mini_fat p.mini_stream p.directory (stream_entries bytes p) p.chains h.streams)
 
-pub kept : (bytes : List ℕ) (contents : Contents) → Holds bytes contents → bytes_kept contents ≤ rounded_length bytes
-kept bytes contents (p, h, e) = let P : Contents → Type 0 = λ x. bytes_kept x ≤ rounded_length bytes in subst P (sym e) (kept_plan bytes p h)
+pub kept : {path : List (List ℕ)} (bytes : List ℕ) (contents : Contents) → HoldsAt bytes path contents → bytes_kept contents ≤ rounded_length bytes
+kept bytes contents (k, p, h, e) = let P : Contents → Type 0 = λ x. bytes_kept x ≤ rounded_length bytes in subst P (sym e) (kept_plan bytes p h)

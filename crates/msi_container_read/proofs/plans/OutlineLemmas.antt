@@ -1,15 +1,16 @@
 -- What the parts of a file say of its plan, where the code has sectors and entries under other names: behind a slice, or
 -- as they stood before a call. Over plain lists and numbers, since a function that owns all parts has long goals.
-use Rattle.std.proofs.Common.{◌≡◌, ℕ, ◌+◌, ◌-◌, ◌<◌, ◌≤◌, ◌^◌, Bool, List, ◌++◌, length, sum_by, inl, sym, ◌∙◌, ap, arith, refl}
+use Rattle.std.proofs.Common.{◌≡◌, ℕ, ◌+◌, ◌-◌, ◌<◌, ◌≤◌, ◌^◌, Bool, List, ◌++◌, length, sum_by, inl, sym, ◌∙◌, ap, arith, refl, Option, Some, None}
 use Rattle.msi_container_format.specs.Chains.{AreBelow, AreDistinct}
 use Rattle.msi_container_format.specs.Format.{MAX_REGULAR_SECTOR}
 use Rattle.msi_container_format.specs.Trees.{Tree, members}
-use Rattle.msi_container_format.specs.Container.{Plan, IsPlan, IsSector, IsDirectoryTree, kind, child, clsid, entry_count, has_storage, streams_among, stream_entries}
+use Rattle.msi_container_format.specs.Container.{Plan, IsSector, fat_of, IsDirectoryTree, child, entry_count, has_storage, streams_among, stream_entries}
 use Rattle.msi_container_read.specs.Counts.{links, sectors_inside}
 use Rattle.msi_container_read.specs.Reading.{AreOfKinds, IsStart, IsNamelessListing, IsMini, AreChained, IsOutline, HaveNamesApart, storages_among, mini_limit}
 use Rattle.msi_container_read.specs.Steps.{steps_of, IsWithinSectors}
+use Rattle.msi_container_read.specs.Storages.{IsPath, IsPlanAt, IsMissing, storage_clsid}
 use Rattle.msi_container_read.proofs.plans.ListingLemmas.{some_entries}
-use Rattle.msi_container_read.proofs.plans.PlanPartsLemmas.{Limits, starts, befores, plan_of, to_plan, mini_of, chained_of}
+use Rattle.msi_container_read.proofs.plans.PlanPartsLemmas.{Limits, starts, befores, plan_of, to_plan, start_of_directory, directory_of_start, mini_of, chained_of}
 use Rattle.msi_container_read.proofs.entry_names.SharedNamesLemmas.{nameless, with_names}
 use Rattle.msi_container_read.proofs.chains.StepLemmas.{has_mini_stream, within_both}
 
@@ -65,20 +66,44 @@ started plan difat fat directory used fat_seen directory_seen same u f d = recor
   directories = d ∙ ap (λ (q : List ℕ × List ℕ × List ℕ). q.2) same;
 }
 
-pub listing_seen : (bytes directory : List ℕ) (plan : Plan) → IsPlan bytes plan → directory ≡ plan.directory → IsNamelessListing bytes directory plan.tree
-listing_seen bytes directory plan h d = rw d (nameless bytes plan.directory plan.tree h.listing)
+pub listing_seen : {path : List (List ℕ)} (bytes directory : List ℕ) (seen storage : ℕ) (plan : Plan) → IsPlanAt bytes path storage plan → directory ≡ plan.directory → seen ≡ storage → IsNamelessListing bytes directory seen plan.tree
+listing_seen bytes directory seen storage plan h d s = rw (d, s) (nameless bytes plan.directory storage plan.tree h.listing)
 
-pub mini_seen : (bytes : List ℕ) (limit marks : ℕ) (plan : Plan) (used fat directory : List ℕ)
+-- the path is that of the directory that was read
+pub path_seen : (bytes directory found : List ℕ) (path : List (List ℕ)) (storage : Option ℕ) → directory ≡ found → IsPath bytes found path storage → IsPath bytes directory path storage
+path_seen bytes directory found path storage d h = rw d h
+
+-- what is missing by any directory is so by the one that was read, and the other way round
+pub missing_seen : (bytes : List ℕ) (limit : ℕ) (difat fat directory seen : List ℕ) (path : List (List ℕ))
     → Limits bytes limit
-    → IsPlan bytes plan
+    → ((d f e : List ℕ) → IsStart bytes limit d f e → ◌≡◌ {A = List ℕ × List ℕ × List ℕ} (difat, fat, directory) (d, f, e))
+    → seen ≡ directory
+    → IsMissing bytes path
+    → IsPath bytes seen path None
+missing_seen bytes limit difat fat directory seen path limits only d (other, listed, h, lost) =
+    let same = only other (fat_of bytes other) listed (start_of_directory bytes limit other listed limits h) in
+    path_seen bytes seen listed path None (d ∙ ap (λ (q : List ℕ × List ℕ × List ℕ). q.2) same) lost
+
+pub missing_found : (bytes : List ℕ) (limit : ℕ) (difat fat directory seen : List ℕ) (path : List (List ℕ))
+    → Limits bytes limit
+    → IsStart bytes limit difat fat directory
+    → seen ≡ directory
+    → IsPath bytes seen path None
+    → IsMissing bytes path
+missing_found bytes limit difat fat directory seen path limits start d lost =
+    (difat, directory, directory_of_start bytes limit difat fat directory limits start, path_seen bytes directory seen path None (sym d) lost)
+
+pub mini_seen : {path : List (List ℕ)} {storage : ℕ} (bytes : List ℕ) (limit marks : ℕ) (plan : Plan) (used fat directory : List ℕ)
+    → Limits bytes limit
+    → IsPlanAt bytes path storage plan
     → marks ≡ limit
     → IsStarted plan used fat directory
     → IsMini bytes marks used fat directory plan.mini_fat plan.mini_stream
 mini_seen bytes limit marks plan used fat directory limits h m s = rw (m, s.used_are, s.fats, s.directories) (mini_of bytes limit plan limits h)
 
-pub chained_seen : (bytes : List ℕ) (limit mini_marks marks : ℕ) (plan : Plan) (used fat directory mini_fat mini_stream all ks : List ℕ)
+pub chained_seen : {path : List (List ℕ)} {storage : ℕ} (bytes : List ℕ) (limit mini_marks marks : ℕ) (plan : Plan) (used fat directory mini_fat mini_stream all ks : List ℕ)
     → Limits bytes limit
-    → IsPlan bytes plan
+    → IsPlanAt bytes path storage plan
     → mini_marks ≡ limit
     → marks ≡ mini_marks
     → IsStarted plan used fat directory
@@ -107,13 +132,14 @@ sorted_seen bytes directory found storages streams plan d f same =
 -- THE PLAN
 
 -- what was found of a start, a listing, a mini stream and chains makes a plan, once names are known
-pub found_plan : (bytes : List ℕ) (limit mini_marks marks : ℕ) (difat fat directory fat_seen directory_seen used mini_fat mini_stream all ks : List ℕ) (tree : Tree) (chains : List (List ℕ))
+pub found_plan : (path : List (List ℕ)) (storage : ℕ) (bytes : List ℕ) (limit mini_marks marks : ℕ) (difat fat directory fat_seen directory_seen used mini_fat mini_stream all ks : List ℕ) (tree : Tree) (chains : List (List ℕ))
     → Limits bytes limit
     → IsStart bytes limit difat fat directory
     → used ≡ difat ++ fat ++ directory
     → fat_seen ≡ fat
     → directory_seen ≡ directory
-    → IsNamelessListing bytes directory_seen tree
+    → IsPath bytes directory_seen path (Some storage)
+    → IsNamelessListing bytes directory_seen storage tree
     → mini_marks ≡ limit
     → IsMini bytes mini_marks used fat_seen directory_seen mini_fat mini_stream
     → all ≡ used ++ mini_fat ++ mini_stream
@@ -121,24 +147,25 @@ pub found_plan : (bytes : List ℕ) (limit mini_marks marks : ℕ) (difat fat di
     → ks ≡ streams_among bytes directory_seen (members tree)
     → AreChained bytes fat_seen mini_fat directory_seen mini_stream marks all ks chains
     → HaveNamesApart bytes directory (storages_among bytes directory (members tree)) (streams_among bytes directory (members tree))
-    → IsPlan bytes (plan_of difat fat directory mini_fat mini_stream tree chains)
-found_plan bytes limit mini_marks marks difat fat directory fat_seen directory_seen used mini_fat mini_stream all ks tree chains limits start u f d listing m mini a n k chained names =
-    let listed : IsNamelessListing bytes directory tree = rw d at listing in
+    → IsPlanAt bytes path storage (plan_of difat fat directory mini_fat mini_stream tree chains)
+found_plan path storage bytes limit mini_marks marks difat fat directory fat_seen directory_seen used mini_fat mini_stream all ks tree chains limits start u f d reached listing m mini a n k chained names =
+    let led : IsPath bytes directory path (Some storage) = rw d at reached in
+    let listed : IsNamelessListing bytes directory storage tree = rw d at listing in
     let minis : IsMini bytes limit (difat ++ fat ++ directory) fat directory mini_fat mini_stream = rw (m, u, f, d) at mini in
     let before : all ≡ difat ++ fat ++ directory ++ mini_fat ++ mini_stream = a ∙ ap (λ xs. xs ++ mini_fat ++ mini_stream) u in
     let among : ks ≡ streams_among bytes directory (members tree) = k ∙ ap (λ x. streams_among bytes x (members tree)) d in
     let together : AreChained bytes fat mini_fat directory mini_stream limit (difat ++ fat ++ directory ++ mini_fat ++ mini_stream) (streams_among bytes directory (members tree)) chains = rw (f, d, n ∙ m, before, among) at chained in
-    to_plan bytes limit difat fat directory mini_fat mini_stream tree chains limits start (with_names bytes directory tree listed names) minis together
+    to_plan path storage bytes limit difat fat directory mini_fat mini_stream tree chains limits start led (with_names bytes directory storage tree listed names) minis together
 
-pub found_outline : (bytes root : List ℕ) (has : Bool) (difat fat directory directory_seen mini_fat mini_stream storages streams : List ℕ) (tree : Tree) (chains : List (List ℕ))
+pub found_outline : (storage : ℕ) (bytes root : List ℕ) (has : Bool) (difat fat directory directory_seen mini_fat mini_stream storages streams : List ℕ) (tree : Tree) (chains : List (List ℕ))
     → directory_seen ≡ directory
-    → root ≡ clsid bytes directory_seen
+    → root ≡ storage_clsid bytes directory_seen storage
     → has ≡ has_storage bytes directory_seen (members tree)
     → storages ≡ storages_among bytes directory_seen (members tree)
     → streams ≡ streams_among bytes directory_seen (members tree)
-    → IsOutline bytes (plan_of difat fat directory mini_fat mini_stream tree chains) root has directory mini_stream storages streams chains
-found_outline bytes root has difat fat directory directory_seen mini_fat mini_stream storages streams tree chains d r h s k = record {
-  rooted = r ∙ ap (clsid bytes) d;
+    → IsOutline bytes storage (plan_of difat fat directory mini_fat mini_stream tree chains) root has directory mini_stream storages streams chains
+found_outline storage bytes root has difat fat directory directory_seen mini_fat mini_stream storages streams tree chains d r h s k = record {
+  rooted = r ∙ ap (λ x. storage_clsid bytes x storage) d;
   told = h ∙ ap (λ x. has_storage bytes x (members tree)) d;
   directories = refl;
   mini_streams = refl;
@@ -187,19 +214,16 @@ within_all bytes s t u v k l m limit count mini_marks marks difat fat directory 
 
 -- THE LISTING
 
--- the entries that are reached, where the root is one and each of them is a storage or a stream
-pub listing_found : (bytes directory : List ℕ) (root top : ℕ) (tree : Tree) (entries seen : List ℕ)
-    → root ≡ kind bytes directory 0
-    → root ≡ 5
-    → top ≡ child bytes directory 0
+-- the entries that are reached, where each of them is a storage or a stream
+pub listing_found : (bytes directory : List ℕ) (storage top : ℕ) (tree : Tree) (entries seen : List ℕ)
+    → top ≡ child bytes directory storage
     → IsDirectoryTree bytes directory top tree
     → members tree ≡ entries
     → AreDistinct entries
     → seen ≡ entries
     → AreOfKinds bytes directory seen
-    → IsNamelessListing bytes directory tree
-listing_found bytes directory root top tree entries seen k five t spelled same distinct s kinds = record {
-  root = sym k ∙ five;
+    → IsNamelessListing bytes directory storage tree
+listing_found bytes directory storage top tree entries seen t spelled same distinct s kinds = record {
   spelled = rw t at spelled;
   once = rw same distinct;
   kinds = rw same (rw s at kinds);

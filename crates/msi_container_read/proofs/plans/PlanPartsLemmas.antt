@@ -1,5 +1,5 @@
 -- The plan that the parts of a file make, in the order in which they are read, and the parts of a plan.
-use Rattle.std.proofs.Common.{◌≡◌, ℕ, ◌+◌, ◌-◌, ◌*◌, ◌/◌, ◌<◌, ◌≤◌, Bool, true, false, cond, eqb, List, [], ◌++◌, length, inl, inr, sym, ◌∙◌, ap, subst, arith, refl, Vec, Global, vec_len, Result, Err}
+use Rattle.std.proofs.Common.{◌≡◌, ℕ, ◌+◌, ◌-◌, ◌*◌, ◌/◌, ◌<◌, ◌≤◌, Bool, true, false, cond, eqb, List, [], ◌++◌, length, inl, inr, sym, ◌∙◌, ap, subst, arith, refl, Vec, Global, vec_len, Result, Err, Some}
 use Rattle.std.specs.List.{count_by}
 use Rattle.std.proofs.lemmas.List.Sums.{count_by-le-length}
 use Rattle.std.proofs.lemmas.Bool.{cases_lt}
@@ -10,8 +10,9 @@ use Rattle.msi_container_format.specs.Chains.{AreDistinct, AreBelow}
 use Rattle.msi_container_read.specs.Claims.{CanClaim, MarkedAre}
 use Rattle.msi_container_read.specs.Outcomes.{FailsByData}
 use Rattle.msi_container_format.specs.Trees.{Tree, members}
-use Rattle.msi_container_format.specs.Container.{Plan, IsPlan, IsSector, version, sector_size, streams_among, sectors_of_streams, all_sectors, IsListing}
+use Rattle.msi_container_format.specs.Container.{Plan, IsSector, fat_of, version, sector_size, streams_among, sectors_of_streams, all_sectors}
 use Rattle.msi_container_read.specs.Reading.{mini_limit, IsStart, IsMini, AreChained}
+use Rattle.msi_container_read.specs.Storages.{IsPath, IsStorageTree, IsPlanAt, HasDirectory}
 use Rattle.msi_container_read.proofs.chains.ClaimLemmas.{below_marked}
 
 -- WHAT CAN BE CLAIMED
@@ -36,6 +37,10 @@ below_both limit xs ys a b i l =
 
 pub distinct_front : (xs ys : List ℕ) → AreDistinct (xs ++ ys) → AreDistinct xs
 distinct_front xs ys d i j l h e = d i j l (omega (arith, length-append xs ys)) (get_or_append_left xs ys 0 i (omega arith) ∙ e ∙ sym (get_or_append_left xs ys 0 j h))
+
+pub distinct_back : (xs ys : List ℕ) → AreDistinct (xs ++ ys) → AreDistinct ys
+distinct_back xs ys d i j l h e =
+    d (length xs + i) (length xs + j) (omega arith) (omega (arith, length-append xs ys)) (get_or-append-add xs ys i 0 ∙ e ∙ sym (get_or-append-add xs ys j 0))
 
 -- a front that can be claimed, and the rest behind it
 pub claim_front : (limit : ℕ) (used xs ys : List ℕ) → CanClaim limit used (xs ++ ys) → CanClaim limit used xs
@@ -94,14 +99,15 @@ plan_of difat fat directory mini_fat mini_stream tree chains = record {
   chains = chains;
 }
 
-pub to_plan : (bytes : List ℕ) (limit : ℕ) (difat fat directory mini_fat mini_stream : List ℕ) (tree : Tree) (cs : List (List ℕ))
+pub to_plan : (path : List (List ℕ)) (storage : ℕ) (bytes : List ℕ) (limit : ℕ) (difat fat directory mini_fat mini_stream : List ℕ) (tree : Tree) (cs : List (List ℕ))
     → Limits bytes limit
     → IsStart bytes limit difat fat directory
-    → IsListing bytes directory tree
+    → IsPath bytes directory path (Some storage)
+    → IsStorageTree bytes directory storage tree
     → IsMini bytes limit (difat ++ fat ++ directory) fat directory mini_fat mini_stream
     → AreChained bytes fat mini_fat directory mini_stream limit (difat ++ fat ++ directory ++ mini_fat ++ mini_stream) (streams_among bytes directory (members tree)) cs
-    → IsPlan bytes (plan_of difat fat directory mini_fat mini_stream tree cs)
-to_plan bytes limit difat fat directory mini_fat mini_stream tree cs limits s t m u =
+    → IsPlanAt bytes path storage (plan_of difat fat directory mini_fat mini_stream tree cs)
+to_plan path storage bytes limit difat fat directory mini_fat mini_stream tree cs limits s reached t m u =
     let start = difat ++ fat ++ directory in
     let all = start ++ mini_fat ++ mini_stream in
     let minis = below_both limit mini_fat mini_stream (below_front limit mini_fat mini_stream m.room.below) (below_back limit mini_fat mini_stream m.room.below) in
@@ -111,6 +117,7 @@ to_plan bytes limit difat fat directory mini_fat mini_stream tree cs limits s t 
       difat = s.difats;
       fat = s.fats;
       directory = s.chain;
+      reached = reached;
       listing = t;
       mini_fat = m.table;
       mini_stream = m.stream;
@@ -129,29 +136,44 @@ starts p = p.difat ++ p.fat ++ p.directory
 abbrev pub befores : Plan → List ℕ
 befores p = starts p ++ p.mini_fat ++ p.mini_stream
 
-room_of : (bytes : List ℕ) (limit : ℕ) (p : Plan) → Limits bytes limit → IsPlan bytes p → CanClaim limit [] (befores p ++ sectors_of_streams bytes p)
+room_of : {path : List (List ℕ)} {storage : ℕ} (bytes : List ℕ) (limit : ℕ) (p : Plan) → Limits bytes limit → IsPlanAt bytes path storage p → CanClaim limit [] (befores p ++ sectors_of_streams bytes p)
 room_of bytes limit p limits h = record { below = λ i l. limits.all _ (h.sectors i l); distinct = h.distinct }
 
-pub start_of : (bytes : List ℕ) (limit : ℕ) (p : Plan) → Limits bytes limit → IsPlan bytes p → IsStart bytes limit p.difat p.fat p.directory
+pub start_of : {path : List (List ℕ)} {storage : ℕ} (bytes : List ℕ) (limit : ℕ) (p : Plan) → Limits bytes limit → IsPlanAt bytes path storage p → IsStart bytes limit p.difat p.fat p.directory
 start_of bytes limit p limits h =
     let room = room_of bytes limit p limits h in
     let before = claim_front limit [] (befores p) (sectors_of_streams bytes p) room in
     let fronted : CanClaim limit [] (starts p ++ (p.mini_fat ++ p.mini_stream)) = let P : List ℕ → Type 0 = λ xs. CanClaim limit [] xs in subst P (append_assoc (starts p) p.mini_fat p.mini_stream) before in
     record { header = h.header; difats = h.difat; fats = h.fat; chain = h.directory; room = claim_front limit [] (starts p) (p.mini_fat ++ p.mini_stream) fronted }
 
-pub mini_of : (bytes : List ℕ) (limit : ℕ) (p : Plan) → Limits bytes limit → IsPlan bytes p → IsMini bytes limit (starts p) p.fat p.directory p.mini_fat p.mini_stream
+pub mini_of : {path : List (List ℕ)} {storage : ℕ} (bytes : List ℕ) (limit : ℕ) (p : Plan) → Limits bytes limit → IsPlanAt bytes path storage p → IsMini bytes limit (starts p) p.fat p.directory p.mini_fat p.mini_stream
 mini_of bytes limit p limits h =
     let room = room_of bytes limit p limits h in
     let before = claim_front limit [] (befores p) (sectors_of_streams bytes p) room in
     let fronted : CanClaim limit [] (starts p ++ (p.mini_fat ++ p.mini_stream)) = let P : List ℕ → Type 0 = λ xs. CanClaim limit [] xs in subst P (append_assoc (starts p) p.mini_fat p.mini_stream) before in
     record { table = h.mini_fat; stream = h.mini_stream; room = claim_back limit [] (starts p) (p.mini_fat ++ p.mini_stream) fronted }
 
-pub chained_of : (bytes : List ℕ) (limit : ℕ) (p : Plan) → Limits bytes limit → IsPlan bytes p → AreChained bytes p.fat p.mini_fat p.directory p.mini_stream limit (befores p) (streams_among bytes p.directory (members p.tree)) p.chains
+pub chained_of : {path : List (List ℕ)} {storage : ℕ} (bytes : List ℕ) (limit : ℕ) (p : Plan) → Limits bytes limit → IsPlanAt bytes path storage p → AreChained bytes p.fat p.mini_fat p.directory p.mini_stream limit (befores p) (streams_among bytes p.directory (members p.tree)) p.chains
 chained_of bytes limit p limits h = record {
   chained = h.streams;
   room = claim_back limit [] (befores p) (sectors_of_streams bytes p) (room_of bytes limit p limits h);
   mini_room = record { below = λ i l. mini_below bytes p.mini_stream _ (h.mini_sectors i l); distinct = h.mini_distinct };
 }
+
+-- a directory that can be read is one whose sectors can be claimed
+pub start_of_directory : (bytes : List ℕ) (limit : ℕ) (difat directory : List ℕ) → Limits bytes limit → HasDirectory bytes difat directory → IsStart bytes limit difat (fat_of bytes difat) directory
+start_of_directory bytes limit difat directory limits h = record {
+  header = h.header;
+  difats = h.difats;
+  fats = refl;
+  chain = h.chain;
+  room = record { below = λ i l. limits.all _ (h.sectors i l); distinct = h.distinct };
+}
+
+pub directory_of_start : (bytes : List ℕ) (limit : ℕ) (difat fat directory : List ℕ) → Limits bytes limit → IsStart bytes limit difat fat directory → HasDirectory bytes difat directory
+directory_of_start bytes limit difat fat directory limits s =
+    let t : IsStart bytes limit difat (fat_of bytes difat) directory = rw s.fats at s in
+    record { header = t.header; difats = t.difats; chain = t.chain; sectors = λ i l. limits.within _ (t.room.below i l); distinct = t.room.distinct }
 
 -- an error that isn't the data's is for want of memory
 pub memory_left : {X : Type 0} (e : ErrorKind) → FailsByData {X = X} (Err e) → (◌≡◌ {A = Result X ErrorKind} (Err e) (Err InvalidData) → ⊥) → e ≡ OutOfMemory

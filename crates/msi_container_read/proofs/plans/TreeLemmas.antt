@@ -1,11 +1,12 @@
 -- How a stack of links spells what is left of a tree.
-use Rattle.std.proofs.Common.{◌≡◌, ◌≢◌, ℕ, ◌<◌, List, [], ◌∷◌, ◌++◌, length, get_or, sym, ◌∙◌, ap, subst, arith, refl}
+use Rattle.std.proofs.Common.{◌≡◌, ◌≢◌, ℕ, zero, suc, ◌<◌, List, [], ◌∷◌, ◌++◌, length, get_or, sym, ◌∙◌, ap, subst, arith, refl}
 use Rattle.std.specs.List.{AllZip}
 use Rattle.std.proofs.lemmas.List.{append_assoc, append-nil, get_or_at, get_or_append_left, length-append}
-use Rattle.msi_container_format.specs.Chains.{AreDistinct}
+use Rattle.msi_container_format.specs.Chains.{AreBelow, AreDistinct}
 use Rattle.msi_container_read.specs.Claims.{IsFree}
 use Rattle.msi_container_format.specs.Trees.{Tree, Leaf, Node, members, IsSpelled}
 use Rattle.msi_container_format.specs.Format.{NO_ENTRY}
+use Rattle.msi_container_read.proofs.plans.PlanPartsLemmas.{below_both}
 
 -- the members of a stack's trees, those of the last tree first
 abbrev pub unwound : List Tree → List ℕ
@@ -135,22 +136,29 @@ module _ (left right : ℕ → ℕ) (count : ℕ) where
   completes_end child list [] reached e same h = let p = h [] tt in (p.0, p.1, p.2 ∙ append-nil list ∙ sym same)
   completes_end child list (x ∷ pending) reached e same h = absurd (omega arith)
 
+  -- the members of a tree are entries
+  pub members_below : (link : ℕ) (t : Tree) → IsSpelled left right count link t → AreBelow count (members t)
+  members_below link Leaf s i b = absurd (omega arith)
+  members_below link (Node l k r) s zero b = s.2
+  members_below link (Node l k r) s (suc i) b = below_both count (members l) (members r) (members_below (left k) l s.3) (members_below (right k) r s.4) i (omega arith)
+
   -- the entry of a link that is to be followed is there, and is none of those that were
-  pub free_link : (child link : ℕ) (list pending : List ℕ) (t : Tree)
+  pub free_link : (child link : ℕ) (used list pending : List ℕ) (t : Tree)
       → link ≢ NO_ENTRY
       → Remains child list (pending ++ link ∷ [])
       → IsSpelled left right count child t
-      → AreDistinct (members t)
-      → IsFree count list link
-  free_link child link list pending t n h s d =
+      → AreDistinct (used ++ members t)
+      → IsFree count (used ++ list) link
+  free_link child link used list pending t n h s d =
       let p = h t s in
       let q = spelled_pop pending link p.0 p.1 in
       let next = remains_step child link list pending n h t s in
       let rest = unwound next.0 in
-      let whole : members t ≡ list ++ link ∷ rest = next.2 ∙ append_assoc list (link ∷ []) rest in
+      let before = used ++ list in
+      let whole : used ++ members t ≡ before ++ link ∷ rest = ap (λ xs. used ++ xs) (next.2 ∙ append_assoc list (link ∷ []) rest) ∙ sym (append_assoc used list (link ∷ rest)) in
       record {
         below = (node_of link q.1 n q.4).3;
-        unused = λ k l e. d k (length list) l (omega (arith, ap (λ (xs : List ℕ). length xs) whole, length-append list (link ∷ rest)))
-            (ap (λ xs. get_or xs k 0) whole ∙ get_or_append_left list (link ∷ rest) 0 k l ∙ e
-            ∙ sym (ap (λ xs. get_or xs (length list) 0) whole ∙ get_or_at list link rest 0 (length list) refl));
+        unused = λ k l e. d k (length before) l (omega (arith, ap (λ (xs : List ℕ). length xs) whole, length-append before (link ∷ rest)))
+            (ap (λ xs. get_or xs k 0) whole ∙ get_or_append_left before (link ∷ rest) 0 k l ∙ e
+            ∙ sym (ap (λ xs. get_or xs (length before) 0) whole ∙ get_or_at before link rest 0 (length before) refl));
       }

@@ -6,6 +6,6 @@ use Rattle.msi_container_read.proofs.directory.Directory.clsid.Goals as goal
 pub returns : goal.returns
 returns c =
     let bytes = c.args.self.now.bytes.now in
-    let from = container.field bytes c.args.self.now.sectors.now 0 80 in
+    let from = container.field bytes c.args.self.now.sectors.now c.args.entry 80 in
     fill_by_all (λ i. slice_index bytes (from + i)) c.loop-i.clsid 16 0 c.loop-i.invariant.long
     (λ k h. c.loop-i.invariant.filled k (omega arith) ∙ ap (λ p. slice_index bytes (p + k)) c.field-from.ensures.value)

@@ -1,5 +1,5 @@
 use Rattle.msi_container_read.proofs.plans.OutlineLemmas.{listing_found}
-use Rattle.msi_container_read.proofs.reading.read_listing.Goals as goal
+use Rattle.msi_container_read.proofs.directory.read_listing.Goals as goal
 
 pub check_kinds-requires : goal.check_kinds-requires
 check_kinds-requires c = rw c.deref.ensures.value c.in_ok-entries.ensures.below
@@ -8,8 +8,8 @@ pub returns-clause-found : goal.returns-clause-found
 returns-clause-found c =
     let reached = c.in_ok-entries.ensures.found in (
       reached.0,
-      listing_found c.args.directory.now.bytes.now c.args.directory.now.sectors.now _ _ reached.0 c.in_ok-entries.entries.items c.deref.result.now
-          c.kind.ensures c.if-kind-ne-ROOT.false c.child.ensures reached.1 reached.2 reached.3 c.deref.ensures.value c.in_ok-check_kinds.ensures.ok,
+      listing_found c.args.directory.now.bytes.now c.args.directory.now.sectors.now c.args.storage _ reached.0 c.in_ok-entries.entries.items c.deref.result.now
+          c.child.ensures reached.1 reached.2 reached.3 c.deref.ensures.value c.in_ok-check_kinds.ensures.ok,
       reached.2,
     )
 

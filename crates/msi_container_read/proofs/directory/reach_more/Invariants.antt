@@ -1,16 +1,17 @@
-use Rattle.std.proofs.Common.{◌≡◌, ◌+◌, ◌-◌, ◌*◌, vec_len}
+use Rattle.std.proofs.Common.{◌≡◌, ◌+◌, ◌-◌, ◌*◌, ◌++◌, vec_len}
 use Rattle.msi_container_format.specs.Container.{left, right, entry_count}
 use Rattle.msi_container_read.proofs.plans.TreeLemmas.{Completes, Remains}
-use Rattle.msi_container_read.proofs.directory.reach.Given as goal
+use Rattle.msi_container_read.proofs.directory.reach_more.Given as goal
 
 abbrev pub invariant-loop-link : goal.invariant-loop-link
 invariant-loop-link l =
     let bytes = l.directory.bytes.now in
     let sectors = l.directory.sectors.now in
     record {
+      same : l.claims.list.items ≡ l.fn.claims.list.items ++ l.reached.items;
       limit : vec_len l.claims.marks ≡ entry_count bytes sectors;
-      whole : Completes (left bytes sectors) (right bytes sectors) (entry_count bytes sectors) l.child l.claims.list.items l.pending.items;
-      only : Remains (left bytes sectors) (right bytes sectors) (entry_count bytes sectors) l.child l.claims.list.items l.pending.items;
+      whole : Completes (left bytes sectors) (right bytes sectors) (entry_count bytes sectors) l.child l.reached.items l.pending.items;
+      only : Remains (left bytes sectors) (right bytes sectors) (entry_count bytes sectors) l.child l.reached.items l.pending.items;
     }
 
 abbrev pub decreases-loop-link : goal.decreases-loop-link

@@ -1,0 +1,24 @@
+//! What follows from the definition of what is held at a path: each law is the contract of a function without a body.
+
+ghost use Rattle.msi_container_read.specs.Storages.{OneContentsAt, EmptyPathIsRoot, HeldIsNotMissing};
+ghost use Rattle.msi_container_read.specs.Storages.{FoundStoragesAreNamed};
+
+/// Bytes hold at most one contents at a path of names.
+pub fn one_contents_at()
+    ensures { OneContentsAt }
+{}
+
+/// What bytes hold at the empty path is what they hold.
+pub fn empty_path_is_root()
+    ensures { EmptyPathIsRoot }
+{}
+
+/// Where contents are held at a path, none of its names is missing.
+pub fn held_is_not_missing()
+    ensures { HeldIsNotMissing }
+{}
+
+/// The storage of a name is one of the entries, is a storage, and has this name.
+pub fn found_storages_are_named()
+    ensures { FoundStoragesAreNamed }
+{}
