@@ -12,6 +12,9 @@ use msipkg_search::{Referred, Search, Wanted, Way};
 use msipkg_show::{Form, Format, Look, Query, read_query};
 use std::alloc::Global;
 
+/// The refusal of streams beside a storage.
+const STREAMS_OF_STORAGE: &str = "--storage takes a storage whole: name no streams beside it";
+
 /// A command.
 #[derive(Drop)]
 pub(crate) enum Command<'a, 'b> {
@@ -44,6 +47,14 @@ pub(crate) enum Task<'a, 'b> {
         is_json: bool,
     },
     Show(Look<'a, 'b>),
+    Storages {
+        is_json: bool,
+    },
+    /// The storage of this path goes to a file, or to the output.
+    ExtractStorage {
+        path: &'a str,
+        target: Folder<'a>,
+    },
     Query(Query<'b>),
     Find(Search<'a>),
     /// What refers to a row is printed.
@@ -78,7 +89,8 @@ impl<'a, 'b> Command<'a, 'b> {
             Verb::Find => look(asked, Task::Find(search_of(asked))),
             Verb::Refs => look(asked, Task::Refs(referred_of(asked))),
             Verb::Streams => look(asked, Task::Show(Look::Streams { is_json })),
-            Verb::Extract => look(asked, Task::Show(extract_of(asked))),
+            Verb::Storages => look(asked, Task::Storages { is_json }),
+            Verb::Extract => look(asked, extract_of(asked)?),
             Verb::Summary => summary_of(asked),
             Verb::Check => look(asked, check_of(asked)),
             Verb::New => new_of(asked),
@@ -111,6 +123,8 @@ impl<'a, 'b> Task<'a, 'b> {
             Task::Check { .. } | Task::Find(_) | Task::Refs(_) => 2,
             Task::Info { .. }
             | Task::Show(_)
+            | Task::Storages { .. }
+            | Task::ExtractStorage { .. }
             | Task::Query(_)
             | Task::Export { .. }
             | Task::ExportLine { .. } => 1,
@@ -210,13 +224,20 @@ fn referred_of<'a>(asked: &Asked<'a, '_>) -> Referred<'a> {
     }
 }
 
-fn extract_of<'a, 'b>(asked: &Asked<'a, 'b>) -> Look<'a, 'b> {
-    Look::Extract {
-        names: asked.texts("NAME"),
-        folder: Folder {
-            path: asked.text("output"),
-            is_forced: asked.has("force"),
-        },
+/// Returns what is extracted: streams, or the one storage that is named.
+fn extract_of<'a, 'b>(asked: &Asked<'a, 'b>) -> Result<Task<'a, 'b>, Failure> {
+    let names = asked.texts("NAME");
+    let target = Folder {
+        path: asked.text("output"),
+        is_forced: asked.has("force"),
+    };
+    match asked.option("storage") {
+        Some(_) if !names.is_empty() => Err(Failure::rule(STREAMS_OF_STORAGE)),
+        Some(path) => Ok(Task::ExtractStorage { path, target }),
+        None => Ok(Task::Show(Look::Extract {
+            names,
+            folder: target,
+        })),
     }
 }
 

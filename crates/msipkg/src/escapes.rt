@@ -17,6 +17,7 @@ pub(crate) fn escapes_of(verb: Verb, given: &ArgMatches<'_>, is_terminal: bool) 
         | Verb::Find
         | Verb::Refs
         | Verb::Streams
+        | Verb::Storages
         | Verb::Summary
         | Verb::Check
         | Verb::Diff => line_escapes(given),

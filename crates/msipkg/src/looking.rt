@@ -9,7 +9,7 @@ use msipkg_export::{export, export_line};
 use msipkg_format::{Failure, Output, System, failure_json};
 use msipkg_packages::Purpose;
 use msipkg_search::{Found, find_references, find_values};
-use msipkg_show::{LastNames, Look, print_query, show, show_info};
+use msipkg_show::{LastNames, Look, extract_storage, print_query, show, show_info, show_storages};
 use std::alloc::Global;
 
 /// Looks at each file, and returns the greatest of their exit statuses. As JSON each file has one line, with its error
@@ -31,6 +31,8 @@ pub(crate) fn look_at_each(
         }
         Task::Info { .. }
         | Task::Show(_)
+        | Task::Storages { .. }
+        | Task::ExtractStorage { .. }
         | Task::Query(_)
         | Task::Find(_)
         | Task::Refs(_)
@@ -103,6 +105,14 @@ fn look(
     let is_well = match task {
         Task::Info { is_json } => show_info(rt, asked.style, &file, *is_json, output, errors)?,
         Task::Show(look) => show(rt, asked.style, &file, *look, output, errors)?,
+        Task::Storages { is_json } => {
+            show_storages(rt, asked.style, path, *is_json, output)?;
+            true
+        }
+        Task::ExtractStorage { path: storage, target } => {
+            extract_storage(rt, asked.style, path, storage, *target, output)?;
+            true
+        }
         Task::Query(query) => print_query(rt, &file, query, names, output, errors)?,
         Task::Find(search) => {
             let found = find_values(rt, asked.style, &file, *search, output, errors)?;
@@ -164,6 +174,8 @@ fn report_one(
             | Look::Extract { .. }
             | Look::Summary { .. },
         )
+        | Task::Storages { .. }
+        | Task::ExtractStorage { .. }
         | Task::Query(_)
         | Task::Find(_)
         | Task::Refs(_)

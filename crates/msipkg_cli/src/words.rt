@@ -13,6 +13,7 @@ pub enum Verb {
     Find,
     Refs,
     Streams,
+    Storages,
     Extract,
     Summary,
     Check,
@@ -280,12 +281,18 @@ static SEARCH_COMMANDS: [Row; 2] = [
 ];
 
 /// The commands on streams and the summary, and the one that looks for errors.
-static PART_COMMANDS: [Row; 4] = [
+static PART_COMMANDS: [Row; 5] = [
     Row {
         verb: Verb::Streams,
         name: "streams",
         about: "Prints the streams, and how many bytes they have",
         arguments: &[FILE, JSON, PAGE, ESCAPE],
+    },
+    Row {
+        verb: Verb::Storages,
+        name: "storages",
+        about: "Lists the storages below the root of a file, as those of languages and of patches",
+        arguments: &[FILE, JSON, ESCAPE],
     },
     Row {
         verb: Verb::Extract,
@@ -302,6 +309,11 @@ static PART_COMMANDS: [Row; 4] = [
                 id: "output",
                 form: Form::Needed('o', "DIR"),
                 help: "The folder for the files, made where it isn't there; - prints one stream",
+            },
+            Argument {
+                id: "storage",
+                form: Form::Value("PATH"),
+                help: "Writes the storage of this name to the file DIR; / leads to one in another",
             },
             FORCE,
             PAGE,
