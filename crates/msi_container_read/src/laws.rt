@@ -1,4 +1,5 @@
-//! What follows from the definition of what is held at a path, and of all storages: each law is the contract of a function without a body.
+//! What follows from the definitions of what is held at a path, and of all storages: each law is the contract of a
+//! function without a body.
 
 ghost use Rattle.msi_container_read.specs.Storages.{OneContentsAt, EmptyPathIsRoot, HeldIsNotMissing};
 ghost use Rattle.msi_container_read.specs.Storages.{FoundStoragesAreNamed};
