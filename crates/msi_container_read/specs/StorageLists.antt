@@ -1,7 +1,7 @@
 -- All storages below the root, in one list (MS-CFB 2.6): first those that lie in the root, then those that lie in the
 -- first of these, and so on. Those that lie in one storage are in the order of its tree.
-use Rattle.std.specs.Prelude.{◌≡◌, ℕ, ◌+◌, ◌-◌, ◌<◌, ◌==◌, ◌↔◌, if◌then◌else◌, List, [], ◌∷◌, ◌++◌, length, map, replicate}
-use Rattle.std.specs.Prelude.{slice_index, slice_get, reverse, Option, Some, None}
+use Rattle.std.specs.Prelude.{◌≡◌, ℕ, ◌+◌, ◌-◌, ◌<◌, ◌==◌, ◌↔◌, if◌then◌else◌, List, [], ◌∷◌, ◌++◌, length}
+use Rattle.std.specs.Prelude.{map, replicate, slice_index, slice_get, reverse, Option, Some, None}
 use Rattle.std.specs.List.{flat_map, range_with_len}
 use Rattle.msi_container_format.specs.Chains.{AreDistinct}
 use Rattle.msi_container_format.specs.Trees.{Tree, members}
