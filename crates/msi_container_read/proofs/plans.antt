@@ -9,3 +9,4 @@ pub mod KeptBytesLemmas
 pub mod PassedLemmas
 pub mod StorageLemmas
 pub mod StorageListLemmas
+pub mod ReachedLemmas

@@ -1,13 +1,13 @@
 -- All storages below the root, in one list (MS-CFB 2.6): first those that lie in the root, then those that lie in the
 -- first of these, and so on. Those that lie in one storage are in the order of its tree.
-use Rattle.std.specs.Prelude.{◌≡◌, ℕ, ◌+◌, ◌-◌, ◌==◌, if◌then◌else◌, List, [], ◌∷◌, ◌++◌, length, map, replicate}
-use Rattle.std.specs.Prelude.{slice_index, Option, Some, None}
+use Rattle.std.specs.Prelude.{◌≡◌, ℕ, ◌+◌, ◌-◌, ◌<◌, ◌==◌, ◌↔◌, if◌then◌else◌, List, [], ◌∷◌, ◌++◌, length}
+use Rattle.std.specs.Prelude.{map, replicate, slice_index, slice_get, reverse, Option, Some, None}
 use Rattle.std.specs.List.{flat_map, range_with_len}
 use Rattle.msi_container_format.specs.Chains.{AreDistinct}
 use Rattle.msi_container_format.specs.Trees.{Tree, members}
 use Rattle.msi_container_format.specs.Container.{kind, name, streams_among}
 use Rattle.msi_container_read.specs.Reading.{storages_among}
-use Rattle.msi_container_read.specs.Storages.{IsStorageTree, HasDirectory, storage_clsid}
+use Rattle.msi_container_read.specs.Storages.{IsStorageTree, HasDirectory, IsPath, storage_clsid}
 use Rattle.msi_container_read.specs.declared.storages.Storage.{Storage}
 
 -- what lies in these storages, and then in those that lie in them: a tree for each storage, in turn
@@ -81,8 +81,33 @@ abbrev pub storages_of : (bytes directory : List ℕ) → List Tree → List Sto
 storages_of bytes directory trees = all_listed bytes directory (numbered bytes directory trees)
     (homes bytes directory trees) (map (stream_count bytes directory) trees) (map (storage_count bytes directory) trees)
 
+-- a number of a list
+abbrev pub IsAmong : List ℕ → ℕ → Type 0
+IsAmong ks k = (i : ℕ) × (i < length ks) × (slice_index ks i ≡ k)
+
 -- the storages that are below the root of a file
 abbrev pub HasStorages : List ℕ → List Storage → Type 0
 HasStorages bytes storages = (difat : List ℕ) × (directory : List ℕ) × (trees : List Tree)
     × HasDirectory bytes difat directory × AreAllStorages bytes directory trees
     × (storages ≡ storages_of bytes directory trees)
+
+-- For given bytes there is at most one list.
+abbrev pub OneStorageList : Type 0
+OneStorageList = (bytes : List ℕ) (a b : List Storage) → HasStorages bytes a → HasStorages bytes b → a ≡ b
+
+-- The numbered storages are the root, and those that a path of names leads to from it.
+abbrev pub NumberedAreReached : Type 0
+NumberedAreReached = (bytes directory : List ℕ) (trees : List Tree) → AreAllStorages bytes directory trees
+    → (k : ℕ) → IsAmong (numbered bytes directory trees) k
+    ↔ ((path : List (List ℕ)) × IsPath bytes directory path (Some k))
+
+-- the names from a storage of a list up to the root: its own, that of the one that it lies in, and so on
+abbrev pub ClimbsBy : List Storage → List (List ℕ) → Option ℕ → Type 0
+ClimbsBy list [] place = place ≡ None
+ClimbsBy list (q ∷ names) place =
+    (k : ℕ) × (storage : Storage) × (place ≡ Some k) × (slice_get list k ≡ Some storage) × (storage.name ≡ q)
+    × ClimbsBy list names storage.parent
+
+-- and from the root down to it
+abbrev pub IsPathTo : List Storage → ℕ → List (List ℕ) → Type 0
+IsPathTo list place path = (names : List (List ℕ)) × ClimbsBy list names (Some place) × (path ≡ reverse names)

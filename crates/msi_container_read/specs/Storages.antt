@@ -8,10 +8,10 @@ use Rattle.msi_container_format.specs.Bytes.{bytes_at}
 use Rattle.msi_container_format.specs.Chains.{AreDistinct}
 use Rattle.msi_container_format.specs.Names.{name_cmp}
 use Rattle.msi_container_format.specs.Trees.{Tree, members}
-use Rattle.msi_container_format.specs.Container.{IsHeader, IsSector, IsDifat, fat_of, IsDirectory, IsMiniFat, IsMiniStream}
-use Rattle.msi_container_format.specs.Container.{IsDirectoryTree, AreEntries, HaveOwnNames, IsMembers, kind, child, name}
-use Rattle.msi_container_format.specs.Container.{field, sector_size, Plan, stream_entries, sectors_used}
-use Rattle.msi_container_format.specs.Container.{mini_sectors_of_streams, contents_of, Holds}
+use Rattle.msi_container_format.specs.Container.{IsHeader, IsSector, IsDifat, fat_of, IsDirectory, IsMiniFat}
+use Rattle.msi_container_format.specs.Container.{IsMiniStream, IsDirectoryTree, AreEntries, HaveOwnNames, IsMembers}
+use Rattle.msi_container_format.specs.Container.{kind, child, name, field, sector_size, Plan, stream_entries}
+use Rattle.msi_container_format.specs.Container.{sectors_used, mini_sectors_of_streams, contents_of, Holds}
 
 -- PATHS
 

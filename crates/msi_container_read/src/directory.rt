@@ -1,7 +1,7 @@
 //! The directory: its entries, and those that its tree reaches (MS-CFB 2.6).
 
-ghost use Rattle.std.specs.Prelude.{◌≡◌, ℕ, List, [], ◌+◌, ◌*◌, ◌<◌, ◌≤◌, ◌^◌, ◌++◌, length, take, map, vec_len, IfOk, OnOk};
-ghost use Rattle.std.specs.Prelude.{OnErr, IsErrOf};
+ghost use Rattle.std.specs.Prelude.{◌≡◌, ℕ, List, [], ◌+◌, ◌*◌, ◌<◌, ◌≤◌, ◌^◌, ◌++◌, length, take, map};
+ghost use Rattle.std.specs.Prelude.{vec_len, IfOk, OnOk, OnErr, IsErrOf};
 ghost use Rattle.std.specs.List.{range_with_len};
 ghost use Rattle.msi_base.specs.declared.errors.ErrorKind.TheVariants.{InvalidData};
 ghost use Rattle.msi_container_format.specs.Bytes as spelled;
@@ -224,9 +224,11 @@ pub(crate) fn read_listing(
 ) -> Result<Vec<u32>, Error>
     requires { storage < container.entry_count directory.now.bytes.now directory.now.sectors.now }
     ensures found { IfOk result
-        (λ entries. (tree : Tree) × spec.IsNamelessListing directory.now.bytes.now directory.now.sectors.now storage tree
+        (λ entries. (tree : Tree)
+        × spec.IsNamelessListing directory.now.bytes.now directory.now.sectors.now storage tree
         × (members tree ≡ entries.items)) }
-    ensures only { (tree : Tree) → spec.IsNamelessListing directory.now.bytes.now directory.now.sectors.now storage tree
+    ensures only { (tree : Tree)
+        → spec.IsNamelessListing directory.now.bytes.now directory.now.sectors.now storage tree
         → ViewIsUnlessMemory (λ v. v.items) result (members tree) }
     ensures below { IfOk result
         (λ entries. AreBelow (container.entry_count directory.now.bytes.now directory.now.sectors.now) entries.items) }

@@ -103,9 +103,9 @@ pub fn read_shared(alloc: Global, bytes: Rc<Vec<u8>>) -> Result<Contents, Error>
 ///
 /// # Errors
 /// Fails with `InvalidData` if header, tables or root break a rule of `read`, or if what lies in a storage on the path
-/// breaks one, up to the first name that isn't found there. Fails with `NotFound` if a name of the path is not that of a
-/// storage in the one before it. Only then does it look at the mini stream and at the storage's streams, and fails with
-/// `InvalidData` if they break a rule of `read`. Fails with `OutOfMemory`.
+/// breaks one, up to the first name that isn't found there. Fails with `NotFound` if a name of the path is not that of
+/// a storage in the one before it. Only then does it look at the mini stream and at the storage's streams, and fails
+/// with `InvalidData` if they break a rule of `read`. Fails with `OutOfMemory`.
 pub fn read_storage(alloc: Global, bytes: &Rc<Vec<u8>>, path: &[Name]) -> Result<Contents, Error>
     ensures found { IfOk result (λ contents. storages.HoldsAt bytes.now.value.items path.now contents) }
     ensures only { (contents : held.Contents) → storages.HoldsAt bytes.now.value.items path.now contents

@@ -44,7 +44,7 @@ lies_in bytes directory storage top tree used entries kinded named t spelled sam
 pub storage_tree_once : (bytes directory : List ℕ) (storage : ℕ) (t u : Tree) → IsStorageTree bytes directory storage t → IsStorageTree bytes directory storage u → t ≡ u
 storage_tree_once bytes directory storage t u h k = tree_once (left bytes directory) (right bytes directory) (entry_count bytes directory) _ t u h.spelled k.spelled
 
-abbrev Onward : (bytes directory : List ℕ) → List (List ℕ) → Option ℕ → Option ℕ → Type 0
+abbrev pub Onward : (bytes directory : List ℕ) → List (List ℕ) → Option ℕ → Option ℕ → Type 0
 Onward bytes directory path next found = MatchOption next (found ≡ None) (λ storage. Leads bytes directory path storage found)
 
 -- a path leads to one storage, or to none

@@ -18,11 +18,11 @@ use Rattle.msi_container_format.proofs.PlanOnceLemmas.{Each}
 use Rattle.msi_container_read.specs.Claims.{CanClaim}
 use Rattle.msi_container_read.specs.Reading.{storages_among}
 use Rattle.msi_container_read.specs.Storages.{IsStorageTree}
-use Rattle.msi_container_read.specs.StorageLists.{LieInTurn, numbered, homes, homes_from, stream_count, storage_count}
+use Rattle.msi_container_read.specs.StorageLists.{LieInTurn, numbered, homes, homes_from, stream_count, storage_count, storages_of, HasStorages}
 use Rattle.msi_container_read.specs.declared.storages.Storage.{Storage}
 use Rattle.msi_container_read.proofs.plans.ListingLemmas.{filter_each}
 use Rattle.msi_container_read.proofs.plans.PlanPartsLemmas.{distinct_front}
-use Rattle.msi_container_read.proofs.plans.StorageLemmas.{storage_tree_once}
+use Rattle.msi_container_read.proofs.plans.StorageLemmas.{storage_tree_once, directory_once}
 use Rattle.msi_container_read.proofs.plans.TreeLemmas.{members_below}
 
 -- one more storage is listed
@@ -259,3 +259,20 @@ module _ (bytes directory : List ℕ) where
           let e : i ≡ suc (i - 1) = omega arith in
           let P : ℕ → Type 0 = λ n. HasName bytes directory (get_or (numbered bytes directory ts) n 0) in
           rw looked.found (subst P (sym e) (turns_named (0 ∷ []) ts looked_all (i - 1) (omega (arith, ap (λ (xs : List ℕ). length xs) looked.found))))
+
+-- AT MOST ONE
+
+turns_once : (bytes directory ks : List ℕ) (ts us : List Tree) → LieInTurn bytes directory ks ts → LieInTurn bytes directory ks us → ts ≡ us
+turns_once bytes directory [] ts us h k = h ∙ sym k
+turns_once bytes directory (n ∷ ks) [] us h k = absurd h
+turns_once bytes directory (n ∷ ks) (t ∷ ts) [] h k = absurd k
+turns_once bytes directory (n ∷ ks) (t ∷ ts) (u ∷ us) h k =
+    let same : u ≡ t = storage_tree_once bytes directory n u t k.0 h.0 in
+    let rest = turns_once bytes directory (ks ++ storages_among bytes directory (members t)) ts us h.1 (subst (λ x. LieInTurn bytes directory (ks ++ storages_among bytes directory (members x)) us) same k.1) in
+    ap (λ x. x ∷ ts) (sym same) ∙ ap (λ xs. u ∷ xs) rest
+
+pub storages_once : (bytes : List ℕ) (a b : List Storage) → HasStorages bytes a → HasStorages bytes b → a ≡ b
+storages_once bytes a b (difat, directory, ts, h, all, e) (other, second, us, k, every, f) =
+    let same : directory ≡ second = directory_once bytes difat other directory second h k in
+    let turns : LieInTurn bytes directory (0 ∷ []) us = rw same every.turns in
+    e ∙ ap (storages_of bytes directory) (turns_once bytes directory (0 ∷ []) ts us all.turns turns) ∙ ap (λ d. storages_of bytes d us) same ∙ sym f
