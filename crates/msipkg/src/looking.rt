@@ -109,7 +109,10 @@ fn look(
             show_storages(rt, asked.style, path, *is_json, output)?;
             true
         }
-        Task::ExtractStorage { path: storage, target } => {
+        Task::ExtractStorage {
+            path: storage,
+            target,
+        } => {
             extract_storage(rt, asked.style, path, storage, *target, output)?;
             true
         }
