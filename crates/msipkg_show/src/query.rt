@@ -137,7 +137,7 @@ pub fn print_query(
     notes: &mut Output,
 ) -> Result<bool, Failure> {
     let looked = open_to_look(rt, file, notes)?;
-    match write_found(rt.alloc(), file.path, &looked.package, query, names, output) {
+    match write_found(rt, file.path, &looked.package, query, names, output) {
         Ok(()) => Ok(looked.has_summary),
         Err(failure) => Err(failure.at(rt.alloc(), "query", query.written.text)),
     }
@@ -145,16 +145,16 @@ pub fn print_query(
 
 /// Writes the rows that a query selects in a package, or in the lists of its streams.
 fn write_found(
-    alloc: Global,
+    rt: &System,
     file: &str,
     package: &Package<Opened>,
     query: &Query<'_>,
     names: &mut LastNames,
     output: &mut Output,
 ) -> Result<(), Failure> {
-    match lists_for(alloc, package, &query.selection.select)? {
-        Some(lists) => write_selected(alloc, file, &lists, query, names, output),
-        None => write_selected(alloc, file, package, query, names, output),
+    match lists_for(rt, file, package, &query.selection.select)? {
+        Some(lists) => write_selected(rt.alloc(), file, &lists, query, names, output),
+        None => write_selected(rt.alloc(), file, package, query, names, output),
     }
 }
 

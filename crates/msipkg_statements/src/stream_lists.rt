@@ -1,8 +1,9 @@
 //! The installer's lists of the streams and of the storages of a package, which no file has as tables.
 
 use msi_query::parts::{SelectTree, Side, select_tree};
+use msipkg_packages::msi::compound::list_storages;
 use msipkg_packages::msi::{Column, Error, Insert, Package, Select, Text, Value, ValueView};
-use msipkg_packages::output::{Failure, Opened};
+use msipkg_packages::output::{Failure, Opened, System};
 use msipkg_packages::{new_package, rows_of};
 use std::alloc::{AllocError, Global};
 use std::collections::BTreeSet;
@@ -13,14 +14,15 @@ pub const STREAMS: &str = "_Streams";
 /// The list of storages, which has the same columns.
 pub const STORAGES: &str = "_Storages";
 
-/// Returns the package that a query is asked of: none if it is the package itself, and else one that has the lists that
-/// it names as tables.
+/// Returns the package that a query for the package of a file is asked of: none if it is that package itself, and else
+/// one that has the lists that it names as tables.
 ///
 /// # Errors
-/// Fails if a query names such a list beside a table, if the package has storages, whose names aren't read, and as
+/// Fails if a query names such a list beside a table, if the file can't be read once more for its storages, and as
 /// `with_stream_lists` does.
 pub fn lists_for(
-    alloc: Global,
+    rt: &System,
+    file: &str,
     package: &Package<Opened>,
     query: &Select,
 ) -> Result<Option<Package<Opened>>, Failure> {
@@ -31,10 +33,32 @@ pub fn lists_for(
     if named.tables > 0 {
         return Err(Failure::rule("_Streams and _Storages are asked without other tables"));
     }
+    let mut lists = with_stream_lists(rt.alloc(), package)?;
     if named.storages > 0 && package.has_storages() {
-        return Err(Failure::rule("the package has storages, whose names aren't read"));
+        let rows = storage_rows(rt, file)?;
+        lists.insert_rows(Insert::into(rt.alloc(), STORAGES)?.rows(rows)?)?;
     }
-    Ok(Some(with_stream_lists(alloc, package)?))
+    Ok(Some(lists))
+}
+
+/// The storages that lie in the root.
+fn storage_rows(rt: &System, file: &str) -> Result<Vec<Vec<Value>>, Failure> {
+    let bytes = rt.read(file)?;
+    let mut rows = Vec::new(rt.alloc());
+    for storage in list_storages(rt.alloc(), bytes.as_slice())? {
+        if storage.parent.is_none() {
+            rows.push(list_row(rt.alloc(), storage.name.to_text(rt.alloc())?)?)?;
+        }
+    }
+    Ok(rows)
+}
+
+/// A row of a list: a name, and what it names.
+fn list_row(alloc: Global, name: String) -> Result<Vec<Value>, Error> {
+    let mut row = Vec::new(alloc);
+    row.push(Value::Str(Text::from_string(name)))?;
+    row.push(Value::Binary)?;
+    Ok(row)
 }
 
 /// How often a query names each list, and tables.
@@ -116,10 +140,7 @@ fn list_columns(alloc: Global) -> Result<Vec<Column>, Error> {
 fn stream_rows(alloc: Global, package: &Package<Opened>) -> Result<Vec<Vec<Value>>, Failure> {
     let mut rows = Vec::new(alloc);
     for name in package.streams() {
-        let mut row = Vec::new(alloc);
-        row.push(Value::Str(Text::from_string(name?)))?;
-        row.push(Value::Binary)?;
-        rows.push(row)?;
+        rows.push(list_row(alloc, name?)?)?;
     }
     Ok(rows)
 }
