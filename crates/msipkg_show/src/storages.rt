@@ -38,7 +38,7 @@ pub fn show_storages(
 
 /// Returns the number of the storage that one lies in, from 1 on; the root has none.
 fn number_of_parent(storage: &Storage) -> Option<usize> {
-    storage.parent.map(|place| place + 1)
+    storage.parent.map(|place| place.saturating_add(1))
 }
 
 fn kind_of(storage: &Storage) -> &'static str {
