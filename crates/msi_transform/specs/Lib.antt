@@ -1,0 +1,7 @@
+-- The words of this crate.
+pub mod Transforms
+pub mod RowStreams
+pub mod RowChanges
+pub mod SchemaChanges
+pub mod Applying
+pub mod Try
