@@ -10,7 +10,7 @@ use Rattle.msi_table_values.specs.declared.column.ColumnType.TheVariants as colt
 use Rattle.msi_table_cells.specs.declared.cell.ValueRef.{ValueRef}
 use Rattle.msi_table_cells.specs.declared.cell.ValueRef.TheVariants as cell
 use Rattle.msi_table_cells.specs.Fitting.{FitsColumn}
-use Rattle.msi_table.specs.Cells.{cell_bytes, cell_in, width}
+use Rattle.msi_table.specs.Cells.{cell_bytes, cell_in, stored_number, width}
 use Rattle.msi_transform_records.specs.declared.shape.Shape.{Shape}
 
 -- as in tables, and null in columns of streams
@@ -21,6 +21,11 @@ FitsCell long type c = FitsColumn long type c
 abbrev pub bytes_of_cell : Bool → ColumnType → ValueRef → List ℕ
 bytes_of_cell long coltype.Binary cell.Null = 0 ∷ 0 ∷ []
 bytes_of_cell long type c = cell_bytes long type c
+
+-- the number whose bytes a cell takes
+abbrev pub number_of_cell : ColumnType → ValueRef → ℕ
+number_of_cell coltype.Binary cell.Null = 0
+number_of_cell type c = stored_number type c
 
 -- a cell that names a text names a place in use
 abbrev pub NamesPlaceInUse : List Place → ValueRef → Type 0

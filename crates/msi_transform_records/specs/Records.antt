@@ -32,10 +32,13 @@ pub record IsRecord (shapes : List Shape) (pool : Pool) (r : Record) : Type 0 wh
   pub fits : FitsRecord pool.long shapes r
   pub texts : AllByRecursion (NamesPlaceInUse pool.places) r.cells
 
+-- the bytes of the cells of columns
+abbrev pub told_bytes : Bool → List (ℕ × Shape) → List ValueRef → List ℕ
+told_bytes long columns cells = flat_map (λ (told : (ℕ × Shape) × ValueRef). bytes_of_cell long told.0.1.coltype told.1)
+    (zip columns cells)
+
 abbrev pub record_bytes : Bool → List Shape → Record → List ℕ
-record_bytes long shapes r = to_le_bytes w16 (mask_of r.action)
-    ++ flat_map (λ (told : (ℕ × Shape) × ValueRef). bytes_of_cell long told.0.1.coltype told.1)
-    (zip (told shapes r.action) r.cells)
+record_bytes long shapes r = to_le_bytes w16 (mask_of r.action) ++ told_bytes long (told shapes r.action) r.cells
 
 -- the bytes are those of the records, and no others
 pub record SpellsRecords (shapes : List Shape) (pool : Pool) (bytes : List ℕ) (records : List Record) : Type 0 where
@@ -45,14 +48,20 @@ pub record SpellsRecords (shapes : List Shape) (pool : Pool) (bytes : List ℕ) 
 abbrev pub record_with : Action → List ValueRef → Record
 record_with action cells = record { action = action; cells = cells }
 
--- the record that stands in front, and the bytes after it
-unfoldable pub record_at : List Shape → Pool → List ℕ → Option (Record × List ℕ)
-record_at shapes pool bytes = do
+-- the action of the mask that stands in front, the columns whose cells follow, and the bytes after it
+unfoldable pub head_at : List Shape → List ℕ → Option (Action × List (ℕ × Shape) × List ℕ)
+head_at shapes bytes = do
   mask ← number_at w16 bytes
   action ← action_of_mask mask.0
   columns ← told_columns shapes action
-  cells ← cells_at pool columns mask.1
-  Some (record_with action cells.0, cells.1)
+  Some (action, columns, mask.1)
+
+-- the record that stands in front, and the bytes after it
+unfoldable pub record_at : List Shape → Pool → List ℕ → Option (Record × List ℕ)
+record_at shapes pool bytes = do
+  head ← head_at shapes bytes
+  cells ← cells_at pool head.1 head.2
+  Some (record_with head.0 cells.0, cells.1)
 
 -- the records that stand in front, n at most, and the bytes after them
 abbrev pub at_most_leading : ℕ → List Shape → Pool → List ℕ → List Record × List ℕ

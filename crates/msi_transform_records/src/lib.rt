@@ -2,12 +2,18 @@
 #![tactic(auto)]
 
 pub mod action;
+mod cells;
 pub mod laws;
 pub mod parts;
 pub mod records;
+pub mod reading;
+mod reasons;
 mod row_cells;
 pub mod shape;
+mod telling;
+mod writing;
 
 pub use action::Action;
+pub use reading::{Fault, read_records};
 pub use records::Record;
 pub use shape::Shape;

@@ -1,0 +1,8 @@
+-- The lemmas of this crate.
+pub mod BitLemmas
+pub mod ToldLemmas
+pub mod CellsLemmas
+pub mod LeadingLemmas
+pub mod MaskLemmas
+pub mod ReadBackLemmas
+pub mod WorkedRows
