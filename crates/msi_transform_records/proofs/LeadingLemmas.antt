@@ -80,11 +80,11 @@ module _ (shapes : List Shape) (pool : Pool) where
   in_front : Record → List Record × List ℕ → List Record × List ℕ
   in_front r found = (r ∷ found.0, found.1)
 
-  step : (n : ℕ) (bytes : List ℕ) (r : Record) (rest : List ℕ) → record_at shapes pool bytes ≡ Some (r, rest)
+  pub step : (n : ℕ) (bytes : List ℕ) (r : Record) (rest : List ℕ) → record_at shapes pool bytes ≡ Some (r, rest)
       → at_most_leading (suc n) shapes pool bytes ≡ (r ∷ (at_most_leading n shapes pool rest).0, (at_most_leading n shapes pool rest).1)
   step n bytes r rest e = rw e refl
 
-  stop : (n : ℕ) (bytes : List ℕ) → record_at shapes pool bytes ≡ None → at_most_leading n shapes pool bytes ≡ ([], bytes)
+  pub stop : (n : ℕ) (bytes : List ℕ) → record_at shapes pool bytes ≡ None → at_most_leading n shapes pool bytes ≡ ([], bytes)
   stop zero bytes e = refl
   stop (suc n) bytes e = rw e refl
 

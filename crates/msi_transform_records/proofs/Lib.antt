@@ -5,4 +5,5 @@ pub mod CellsLemmas
 pub mod LeadingLemmas
 pub mod MaskLemmas
 pub mod ReadBackLemmas
+pub mod SpelledLemmas
 pub mod WorkedRows

@@ -1,6 +1,6 @@
 -- Masks, what they say to do with a row, and of which columns cells follow them.
-use Rattle.std.specs.Prelude.{◌≡◌, ℕ, ◌+◌, ◌*◌, ◌/◌, ◌%◌, ◌<◌, ◌^◌, Bool, true, not, List, length, drop, ⊤, nat_le, nat_lt}
-use Rattle.std.specs.Prelude.{Option, Some, None, ◌==◌, ◌&&◌, ◌||◌, if◌then◌else◌, filter}
+use Rattle.std.specs.Prelude.{◌≡◌, ℕ, ◌+◌, ◌*◌, ◌/◌, ◌%◌, ◌<◌, ◌^◌, Bool, true, not, List, length, drop, nat_le}
+use Rattle.std.specs.Prelude.{⊤, nat_lt, Option, Some, None, ◌==◌, ◌&&◌, ◌||◌, if◌then◌else◌, filter}
 use Rattle.std.specs.List.{enumerate_from, list_any}
 use Rattle.msi_table_values.specs.Columns.{has_bit}
 use Rattle.msi_transform_records.specs.declared.action.Action.{Action}
@@ -42,7 +42,7 @@ told shapes action = told_from 0 shapes action
 -- an added row has at most a cell for each column, and one for each column of the key; a change has no bit past the
 -- columns
 abbrev pub fits_columns : List Shape → Action → Bool
-fits_columns shapes (action.Add k) = nat_le k (length shapes) && not (list_any (λ (s : Shape). s.is_key) (drop k shapes))
+fits_columns shapes (action.Add k) = nat_le k (length shapes) && not (list_any (λ s. s.is_key) (drop k shapes))
 fits_columns shapes action.Remove = true
 fits_columns shapes (action.Change mask) = nat_lt mask (2 ^ length shapes)
 

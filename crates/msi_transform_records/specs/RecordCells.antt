@@ -16,7 +16,8 @@ key_of cells = map (λ (told : (ℕ × Shape) × ValueRef). told.1) (filter is_o
 
 -- and those of the other columns, each behind the number of its column, from 0 on
 abbrev pub changes_of : List ((ℕ × Shape) × ValueRef) → List (ℕ × ValueRef)
-changes_of cells = map (λ (told : (ℕ × Shape) × ValueRef). (told.0.0, told.1)) (filter (λ told. not (is_of_key told)) cells)
+changes_of cells = map (λ (told : (ℕ × Shape) × ValueRef). (told.0.0, told.1))
+    (filter (λ told. not (is_of_key told)) cells)
 
 -- the told columns, each with its number and its cell
 abbrev pub told_cells : List Shape → Record → List ((ℕ × Shape) × ValueRef)

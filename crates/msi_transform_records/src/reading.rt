@@ -91,11 +91,7 @@ fn read_cells<'a>(
 
 /// Returns the bytes after the record in front. It takes no memory.
 #[tactic(auto, unfolding(crate::specs::Records::record_at))]
-fn skip_record<'a>(
-    shapes: &[Shape],
-    pool: &StringPool,
-    bytes: &'a [u8],
-) -> Result<&'a [u8], Error>
+fn skip_record<'a>(shapes: &[Shape], pool: &StringPool, bytes: &'a [u8]) -> Result<&'a [u8], Error>
     ensures { Reads (λ rest. rest.now) result (option_map (λ read. read.1) (record_at shapes.now pool.now bytes.now)) }
 {
     let (action, rest) = read_head(shapes, bytes)?;

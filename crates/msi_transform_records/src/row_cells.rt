@@ -19,16 +19,11 @@ fn cell_in_row(row: &[ValueRef], column: usize) -> ValueRef
     row.get(column).copied().unwrap_or(ValueRef::Null)
 }
 
-/// Returns the cells of the key that a record tells, in the order of the key's columns: all of them, if the record is one
-/// of a table with such columns.
+/// Returns the cells of the key that a record tells, in the order of the key's columns.
 ///
 /// # Errors
 /// Fails with `OutOfMemory`.
-pub fn key_cells(
-    alloc: Global,
-    shapes: &[Shape],
-    record: &Record,
-) -> Result<Items<ValueRef>, Error>
+pub fn key_cells(alloc: Global, shapes: &[Shape], record: &Record) -> Result<Items<ValueRef>, Error>
     ensures ok { IfOk result (λ key. key ≡ key_of_record shapes.now «record».now) }
     ensures kind { OnlyMemory result }
 {

@@ -26,7 +26,7 @@ loop-i-preserved c =
           (passed_over shapes action i _ c.loop-i-test.true changes_of changes all rest so_far cell w.in-Some.others.now w.in-Some.ensures.cases.0 (sym c.tells.ensures ∙ w.if-tells.true)
           (λ l. changes_pass i _ cell l w.if-not-shapes-i.false)))
       | else-tells w ↦ elim w.else-tells.branch [
-          | else-tells-via-else-tells x ↦ rw (w.changes-is, w.rest-is) (untold shapes action i _ c.loop-i-test.true changes_of changes all rest so_far (sym c.tells.ensures ∙ x.if-tells.false))
-          | else-tells-via-then-tells+in-None-1 x ↦ rw (w.changes-is, w.rest-is) (none_left shapes action i changes_of changes all rest so_far (let none : length rest ≡ 0 = grind arith in none))
-        ]
+        | else-tells-via-else-tells x ↦ rw (w.changes-is, w.rest-is) (untold shapes action i _ c.loop-i-test.true changes_of changes all rest so_far (sym c.tells.ensures ∙ x.if-tells.false))
+        | else-tells-via-then-tells+in-None-1 x ↦ rw (w.changes-is, w.rest-is) (none_left shapes action i changes_of changes all rest so_far (let none : length rest ≡ 0 = grind arith in none))
+      ]
     ]

@@ -26,7 +26,7 @@ loop-i-preserved c =
           (passed_over shapes action i _ c.loop-i-test.true key_of key all rest so_far cell w.in-Some.others.now w.in-Some.ensures.cases.0 (sym c.tells.ensures ∙ w.if-tells.true)
           (λ l. key_passes i _ cell l w.if-shapes-i.false)))
       | else-tells w ↦ elim w.else-tells.branch [
-          | else-tells-via-else-tells x ↦ rw (w.key-is, w.rest-is) (untold shapes action i _ c.loop-i-test.true key_of key all rest so_far (sym c.tells.ensures ∙ x.if-tells.false))
-          | else-tells-via-then-tells+in-None-1 x ↦ rw (w.key-is, w.rest-is) (none_left shapes action i key_of key all rest so_far (let none : length rest ≡ 0 = search rules in none))
-        ]
+        | else-tells-via-else-tells x ↦ rw (w.key-is, w.rest-is) (untold shapes action i _ c.loop-i-test.true key_of key all rest so_far (sym c.tells.ensures ∙ x.if-tells.false))
+        | else-tells-via-then-tells+in-None-1 x ↦ rw (w.key-is, w.rest-is) (none_left shapes action i key_of key all rest so_far (let none : length rest ≡ 0 = search rules in none))
+      ]
     ]
