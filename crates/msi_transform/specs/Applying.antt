@@ -6,6 +6,7 @@ use Rattle.std.specs.List.{flat_map, list_all, list_any}
 use Rattle.std.specs.Option.{option_map_or}
 use Rattle.msi_base.specs.Lists.{has_pair}
 use Rattle.msi_base.specs.declared.codepage.CodePage.{CodePage}
+use Rattle.msi_base.specs.declared.codepage.CodePage.TheVariants.{Utf8}
 use Rattle.msi_base.specs.declared.errors.ErrorKind.{ErrorKind}
 use Rattle.msi_base.specs.declared.errors.ErrorKind.TheVariants.{InvalidData, InvalidInput, NotFound}
 use Rattle.msi_base.specs.Pages.{bytes_in, text_in}
@@ -350,8 +351,9 @@ streams_agree k t schema s long = list_all
     (table_agrees k t s.streams (streams_left k long s))
     (tables_left k.database schema s)
 
--- each text can be written in the page, so that it is read back
+-- each text can be written in the page, so that it is read back, as each can in UTF-8
 abbrev pub reads_back : CodePage → List ℕ → Bool
+reads_back Utf8 text = true
 reads_back page text = option_map_or (bytes_eq text) (option_and_then (text_in page) (bytes_in page text)) false
 
 abbrev pub texts_read_back : Pool → Bool

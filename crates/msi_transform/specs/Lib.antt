@@ -4,4 +4,3 @@ pub mod RowStreams
 pub mod RowChanges
 pub mod SchemaChanges
 pub mod Applying
-pub mod Try

@@ -2,7 +2,6 @@
 #![tactic(auto)]
 
 pub mod conditions;
-pub mod laws;
 pub mod row;
 pub mod schema;
 
