@@ -4,3 +4,4 @@ pub mod RowStreams
 pub mod RowChanges
 pub mod SchemaChanges
 pub mod Applying
+pub mod Making
