@@ -1,10 +1,8 @@
 -- The records that stand in front, one after the other.
-use Rattle.std.proofs.Common.{◌≡◌, ℕ, zero, suc, ◌+◌, ◌<◌, ◌≤◌, Bool, true, false, List, [], ◌∷◌, ◌++◌, length, drop, Option, Some, None, refl, sym, ap, ◌∙◌, arith, ltb, subst, append_assoc, append-nil, length-append, length-drop}
+use Rattle.std.proofs.Common.{◌≡◌, ℕ, zero, suc, ◌+◌, ◌<◌, ◌≤◌, true, List, [], ◌∷◌, ◌++◌, length, drop, Option, Some, None, refl, sym, ap, ◌∙◌, arith, ltb, subst, append_assoc, append-nil, length-append, length-drop}
 use Rattle.std.specs.Prelude.{option_map, ◌==◌, if◌then◌else◌}
 use Rattle.std.specs.Int.{w16}
-use Rattle.std.specs.Option.{option_map_or}
 use Rattle.std.proofs.lemmas.Bool.{eqb-true, ltb-false}
-use Rattle.std.proofs.lemmas.Bool.Decides.{nat_tests}
 use Rattle.msi_base.specs.Numbers.{bytes_at, number_at}
 use Rattle.msi_base.proofs.OptionLemmas.{bind_some, guard_held, guard_passed, map_some, some_is}
 use Rattle.msi_base.specs.Results.{FailsAs}
@@ -19,7 +17,7 @@ use Rattle.msi_transform_records.specs.declared.records.Record.{Record}
 use Rattle.msi_transform_records.specs.declared.shape.Shape.{Shape}
 use Rattle.msi_transform_records.specs.Actions.{action_of_mask, told_columns}
 use Rattle.msi_transform_records.specs.Cells.{cell_at, cell_of_bytes, cells_at}
-use Rattle.msi_transform_records.specs.Records.{at_most_leading, head_at, leading, record_at, record_with, records_in}
+use Rattle.msi_transform_records.specs.Records.{at_most_leading, head_at, leading, record_at, records_in}
 
 -- ---- what is read is shorter
 
@@ -69,17 +67,9 @@ record_shorter shapes pool bytes x e =
     let rest-is : b.0.1 ≡ x.1 = ap (λ (p : Record × List ℕ). p.1) (some_is _ x b.2) in
     omega (arith, ap length rest-is, head_shorter shapes bytes a.0 a.1, cells_shorter pool a.0.1 a.0.2 b.0 b.1)
 
-pub no_record : (shapes : List Shape) (pool : Pool) → record_at shapes pool [] ≡ None
-unfolding record_at head_at
-no_record shapes pool = refl
-
 -- ---- any bound that is no less than the number of bytes serves
 
 module _ (shapes : List Shape) (pool : Pool) where
-  -- a record in front of what is found behind it
-  in_front : Record → List Record × List ℕ → List Record × List ℕ
-  in_front r found = (r ∷ found.0, found.1)
-
   pub step : (n : ℕ) (bytes : List ℕ) (r : Record) (rest : List ℕ) → record_at shapes pool bytes ≡ Some (r, rest)
       → at_most_leading (suc n) shapes pool bytes ≡ (r ∷ (at_most_leading n shapes pool rest).0, (at_most_leading n shapes pool rest).1)
   step n bytes r rest e = rw e refl
@@ -130,14 +120,6 @@ passed shapes pool bytes rest e =
 pub all_read : (shapes : List Shape) (pool : Pool) (bytes : List ℕ) → (leading shapes pool bytes).1 ≡ [] → records_in shapes pool bytes ≡ Some (leading shapes pool bytes).0
 all_read shapes pool bytes e = ap (λ (l : List ℕ). if length l == 0 then Some (leading shapes pool bytes).0 else None) e
 
--- something is
-some_left : {X : Type 0} (n : ℕ) (x : X) → 0 < n → (if n == 0 then Some x else None) ≡ None
-some_left n x h = grind (arith, nat_tests)
-
-pub not_read : (shapes : List Shape) (pool : Pool) (bytes rest : List ℕ) → (leading shapes pool bytes).1 ≡ rest → 0 < length rest → records_in shapes pool bytes ≡ None
-not_read shapes pool bytes rest e some = ap (λ (l : List ℕ). if length l == 0 then Some (leading shapes pool bytes).0 else None) e
-    ∙ some_left (length rest) (leading shapes pool bytes).0 some
-
 -- so many records were passed, and these bytes are behind them
 pub record Walked (shapes : List Shape) (pool : Pool) (bytes : List ℕ) (count : ℕ) (rest : List ℕ) : Type 0 where
   pub many : count + length (leading shapes pool rest).0 ≡ length (leading shapes pool bytes).0
@@ -159,25 +141,6 @@ walked_all shapes pool bytes count [] w e =
     let all : length (leading shapes pool bytes).0 ≡ count = omega (arith, w.many) in
     ap (option_map (λ (records : List Record). length records)) (all_read shapes pool bytes (sym w.left)) ∙ ap Some all
 walked_all shapes pool bytes count (b ∷ rest) w e = let none : length (b ∷ rest) ≡ 0 = eqb-true _ _ e in absurd (omega arith)
-
--- to bytes that no record begins
-pub record Stuck (shapes : List Shape) (pool : Pool) (bytes : List ℕ) (count : ℕ) : Type 0 where
-  pub unread : records_in shapes pool bytes ≡ None
-  pub place : count ≡ length (leading shapes pool bytes).0
-
-no_value : {X Y : Type 0} (f : X → Y) (o : Option X) → option_map f o ≡ None → o ≡ None
-no_value f None e = refl
-no_value f (Some x) e = cc
-
-pub walked_stuck : (shapes : List Shape) (pool : Pool) (bytes : List ℕ) (count : ℕ) (rest : List ℕ) → Walked shapes pool bytes count rest → (length rest == 0) ≡ false
-    → option_map (λ (x : Record × List ℕ). x.1) (record_at shapes pool rest) ≡ None → Stuck shapes pool bytes count
-walked_stuck shapes pool bytes count rest w more e =
-    let none = leading_none shapes pool rest (no_value _ _ e) in
-    let some : 0 < length rest = grind (arith, nat_tests) in
-    record {
-      unread = not_read shapes pool bytes rest (sym w.left ∙ ap (λ (found : List Record × List ℕ). found.1) none) some;
-      place = omega (arith, w.many, ap (λ (found : List Record × List ℕ). length found.0) none);
-    }
 
 -- ---- where it is known how many records the bytes are
 

@@ -1,28 +1,27 @@
 -- What spells records is read as them.
-use Rattle.std.proofs.Common.{◌≡◌, ℕ, ◌+◌, ◌^◌, ◌<◌, ◌≤◌, Bool, true, false, List, [], ◌∷◌, ◌++◌, length, take, drop, Option, Some, None, refl, sym, ap, ◌∙◌, arith, append_assoc, append-nil, length-append}
-use Rattle.std.specs.Prelude.{flat_map, zip, ◌==◌, if◌then◌else◌}
-use Rattle.std.specs.Int.{w16, to_le_bytes, bytes_low_first}
+use Rattle.std.proofs.Common.{◌≡◌, ℕ, ◌+◌, ◌^◌, ◌<◌, Bool, true, false, List, [], ◌∷◌, ◌++◌, length, Some, refl, sym, ap, ◌∙◌, arith, append_assoc, length-append}
+use Rattle.std.specs.Prelude.{flat_map}
+use Rattle.std.specs.Int.{w16, to_le_bytes}
 use Rattle.std.specs.List.{AllByRecursion}
 use Rattle.std.proofs.lemmas.Bool.{le-ltb}
 use Rattle.std.proofs.lemmas.Bool.Decides.{nat_tests}
 use Rattle.std.proofs.lemmas.List.{take_at, drop_at}
-use Rattle.msi_base.specs.Numbers.{bytes_at, number_at}
+use Rattle.msi_base.specs.Numbers.{bytes_at}
 use Rattle.msi_base.proofs.ReadFieldLemmas.{number_again, wide16}
 use Rattle.msi_pool.specs.Pool.{Place, Pool}
 use Rattle.msi_pool.specs.FirstFitLaws.{count_at}
-use Rattle.msi_pool.specs.References.{number_of, reference_width}
 use Rattle.msi_table_values.specs.declared.column.ColumnType.{ColumnType}
 use Rattle.msi_table_values.specs.declared.column.ColumnType.TheVariants as coltype
 use Rattle.msi_table_cells.specs.declared.cell.ValueRef.{ValueRef}
 use Rattle.msi_table_cells.specs.declared.cell.ValueRef.TheVariants as cell
-use Rattle.msi_table.specs.Cells.{cell_bytes, width}
+use Rattle.msi_table.specs.Cells.{width}
 use Rattle.msi_table.proofs.RoundTripLemmas.{cell_in-cell_bytes, length-cell_bytes, number_of-reference}
 use Rattle.msi_transform_records.specs.declared.records.Record.{Record}
 use Rattle.msi_transform_records.specs.declared.shape.Shape.{Shape}
-use Rattle.msi_transform_records.specs.Actions.{action_of_mask, mask_of, told, told_columns}
+use Rattle.msi_transform_records.specs.Actions.{mask_of, told}
 use Rattle.msi_transform_records.specs.Cells.{FitsCell, NamesPlaceInUse, bytes_of_cell, cell_at, cell_of_bytes, cells_at, text_cell}
 use Rattle.msi_transform_records.specs.Laws.{RecordsAreUnambiguous, SpelledRecordsAreRead}
-use Rattle.msi_transform_records.specs.Records.{FitColumns, FitsRecord, IsRecord, SpellsRecords, head_at, leading, record_at, record_bytes, records_in, told_bytes}
+use Rattle.msi_transform_records.specs.Records.{FitColumns, FitsRecord, IsRecord, head_at, leading, record_at, record_bytes, told_bytes}
 use Rattle.msi_transform_records.proofs.LeadingLemmas.{all_read, leading_next}
 use Rattle.msi_transform_records.proofs.MaskLemmas.{action_again, mask_below}
 use Rattle.msi_base.proofs.OptionLemmas.{some_is}

@@ -1,6 +1,6 @@
 -- What is read is spelled so, each byte of it.
-use Rattle.std.proofs.Common.{◌≡◌, ℕ, zero, suc, ◌+◌, ◌*◌, ◌/◌, ◌%◌, ◌^◌, ◌<◌, ◌≤◌, Bool, true, false, ltb, List, [], ◌∷◌, ◌++◌, length, take, drop, get_or, Option, Some, None, refl, sym, ap, ◌∙◌, arith, append_assoc, append-nil, length-take, inl, inr, subst}
-use Rattle.std.specs.Prelude.{All, flat_map, zip, ◌==◌, ◌+ℤ◌, ◌-ℤ◌, pos, if◌then◌else◌}
+use Rattle.std.proofs.Common.{◌≡◌, ℕ, zero, suc, ◌+◌, ◌/◌, ◌%◌, ◌^◌, ◌<◌, ◌≤◌, Bool, true, false, ltb, List, [], ◌∷◌, ◌++◌, length, take, drop, Option, Some, None, refl, sym, ap, ◌∙◌, arith, append_assoc, append-nil, length-take, inl, inr, subst}
+use Rattle.std.specs.Prelude.{All, flat_map, ◌==◌, ◌+ℤ◌, ◌-ℤ◌, pos}
 use Rattle.std.specs.Int.{w16, w32, to_le_bytes, bytes_low_first, cast_unsigned}
 use Rattle.std.specs.List.{AllByRecursion}
 use Rattle.std.proofs.lemmas.Bool.{cases_lt, eqb-true, ltb-false}
@@ -10,24 +10,23 @@ use Rattle.std.proofs.lemmas.List.{get_or_past, take-append-drop}
 use Rattle.std.proofs.lemmas.Nat.{le_bytes_4}
 use Rattle.msi_base.specs.Numbers.{bytes_at, number_at}
 use Rattle.msi_base.proofs.BoolLemmas.{by_test}
-use Rattle.msi_base.proofs.OptionLemmas.{bind_some, branch, guard_held, guard_passed, none_is, some_is}
+use Rattle.msi_base.proofs.OptionLemmas.{bind_some, branch, guard_held, guard_passed, some_is}
 use Rattle.msi_base.proofs.ReadFieldLemmas.{IsBytes, IsBytes-drop, IsBytes-take, Takes, Takes-then, number_takes, wide16}
 use Rattle.msi_pool.specs.Pool.{Place, Pool}
 use Rattle.msi_pool.specs.FirstFitLaws.{count_at}
-use Rattle.msi_pool.specs.References.{number_of, reference_width}
+use Rattle.msi_pool.specs.References.{number_of}
 use Rattle.msi_table_values.specs.declared.column.ColumnType.{ColumnType}
 use Rattle.msi_table_values.specs.declared.column.ColumnType.TheVariants as coltype
 use Rattle.msi_table_cells.specs.declared.cell.ValueRef.{ValueRef}
 use Rattle.msi_table_cells.specs.declared.cell.ValueRef.TheVariants as cell
-use Rattle.msi_table_cells.specs.Fitting.{FitsColumn}
-use Rattle.msi_table.specs.Cells.{cell_bytes, cell_of_number, width}
+use Rattle.msi_table.specs.Cells.{cell_of_number, width}
 use Rattle.msi_transform_records.specs.declared.action.Action.{Action}
 use Rattle.msi_transform_records.specs.declared.records.Record.{Record}
 use Rattle.msi_transform_records.specs.declared.shape.Shape.{Shape}
 use Rattle.msi_transform_records.specs.Actions.{action_of_mask, fits_columns, mask_of, told, told_columns}
 use Rattle.msi_transform_records.specs.Cells.{FitsCell, NamesPlaceInUse, bytes_of_cell, cell_at, cell_of_bytes, cells_at, stream_cell, text_cell}
 use Rattle.msi_transform_records.specs.Laws.{ReadRecordsAreSpelled}
-use Rattle.msi_transform_records.specs.Records.{FitColumns, IsRecord, SpellsRecords, at_most_leading, head_at, leading, record_at, record_bytes, record_with, records_in, told_bytes}
+use Rattle.msi_transform_records.specs.Records.{FitColumns, IsRecord, SpellsRecords, at_most_leading, head_at, leading, record_at, record_bytes, told_bytes}
 use Rattle.msi_transform_records.proofs.LeadingLemmas.{step, stop}
 use Rattle.msi_transform_records.proofs.MaskLemmas.{Says, mask_says}
 

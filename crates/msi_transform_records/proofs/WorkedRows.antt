@@ -1,10 +1,9 @@
 -- Worked examples of records, by computation.
-use Rattle.std.specs.Prelude.{◌≡◌, ℕ, Bool, true, false, List, [], ◌∷◌, ◌++◌, flat_map, pos, neg_ℤ, Some, None, refl, codes}
+use Rattle.std.specs.Prelude.{◌≡◌, ℕ, Bool, true, false, List, [], ◌∷◌, flat_map, pos, neg_ℤ, Some, None, refl, codes}
 use Rattle.msi_base.specs.declared.codepage.CodePage.TheVariants as page
 use Rattle.msi_pool.specs.Pool.{Pool, Place}
 use Rattle.msi_table_values.specs.declared.column.ColumnType.{ColumnType}
 use Rattle.msi_table_values.specs.declared.column.ColumnType.TheVariants as coltype
-use Rattle.msi_table_cells.specs.declared.cell.ValueRef.{ValueRef}
 use Rattle.msi_table_cells.specs.declared.cell.ValueRef.TheVariants as cell
 use Rattle.msi_transform_records.specs.declared.action.Action.TheVariants as action
 use Rattle.msi_transform_records.specs.declared.records.Record.{Record}

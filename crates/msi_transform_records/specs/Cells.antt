@@ -1,5 +1,5 @@
 -- The cells of records, which are those of tables but for columns of streams: null stands there too.
-use Rattle.std.specs.Prelude.{◌≡◌, ℕ, ◌<◌, Bool, List, [], ◌∷◌, length, ⊤, Option, Some, None, ◌==◌, if◌then◌else◌}
+use Rattle.std.specs.Prelude.{ℕ, ◌<◌, Bool, List, [], ◌∷◌, ⊤, Option, Some, None, ◌==◌, if◌then◌else◌}
 use Rattle.msi_pool.specs.Pool.{Place, Pool}
 use Rattle.msi_pool.specs.FirstFitLaws.{count_at}
 use Rattle.msi_pool.specs.References.{number_of}

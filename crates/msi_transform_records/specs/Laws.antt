@@ -1,5 +1,5 @@
 -- What follows from the definition of records.
-use Rattle.std.specs.Prelude.{◌≡◌, ℕ, ◌<◌, List, length, All, Some}
+use Rattle.std.specs.Prelude.{◌≡◌, ℕ, ◌<◌, List, All, Some}
 use Rattle.msi_pool.specs.Pool.{Pool}
 use Rattle.msi_transform_records.specs.declared.action.Action.{Action}
 use Rattle.msi_transform_records.specs.declared.records.Record.{Record}

@@ -61,7 +61,8 @@ pub fn changed_cells(
         if tells(record.action, i, shapes[i])
             && let Some((cell, others)) = rest.split_first()
         {
-            if !shapes[i].is_key {
+            let of_key = shapes[i].is_key;
+            if !of_key {
                 changes.push((i, *cell))?;
             }
             rest = others;

@@ -3,7 +3,7 @@
 ghost use Rattle.std.specs.Prelude.{◌≡◌, ◌^◌, not, nat_lt};
 ghost use Rattle.std.specs.List.{list_any};
 ghost use Rattle.msi_table_values.specs.Columns.{has_bit as is_set};
-ghost use Rattle.msi_transform_records.specs.Actions.{fits_columns, tells as is_told, told, told_columns};
+ghost use Rattle.msi_transform_records.specs.Actions.{tells as is_told, told, told_columns};
 ghost use Rattle.msi_transform_records.specs.Reading.{Reads};
 
 use crate::action::Action;

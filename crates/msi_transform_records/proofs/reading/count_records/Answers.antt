@@ -1,5 +1,5 @@
 use Rattle.std.proofs.Common.{sym, ◌∙◌}
-use Rattle.msi_transform_records.proofs.LeadingLemmas.{Passed, passed, walked_all, walked_on, walked_stuck}
+use Rattle.msi_transform_records.proofs.LeadingLemmas.{passed, walked_all, walked_on}
 use Rattle.msi_transform_records.proofs.reading.count_records.Goals as goal
 
 pub loop-rest-smaller : goal.loop-rest-smaller
