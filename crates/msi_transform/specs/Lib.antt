@@ -2,5 +2,6 @@
 pub mod Transforms
 pub mod RowStreams
 pub mod RowChanges
+pub mod TablesInHand
 pub mod SchemaChanges
 pub mod Applying

@@ -31,19 +31,13 @@ use Rattle.msi_transform_records.specs.declared.shape.Shape.{Shape}
 use Rattle.msi_transform_records.specs.RecordCells.{added_cells}
 use Rattle.msi_transform.specs.Transforms.{TransformDef, record_key, value_in}
 use Rattle.msi_transform.specs.RowStreams.{has_streams, row_stream_gone}
+pub use Rattle.msi_transform.specs.TablesInHand.{TableInHand}
 use Rattle.msi_transform.specs.RowChanges.{Rows, row_at, with_row_at, without_row_at}
 use Rattle.msi_transform.specs.declared.conditions.ErrorConditions.{ErrorConditions}
 use Rattle.msi_transform.specs.declared.row.RowInHand.{RowInHand}
 use Rattle.msi_transform.specs.declared.row.RowStream.TheVariants.{AsBefore}
 use Rattle.msi_transform.specs.declared.schema.Standing.{Standing}
 use Rattle.msi_transform.specs.declared.schema.Standing.TheVariants as stands
-
--- What the transform does to a table: how it stands, and the columns that are added to it.
--- It is kept from the package, or was found there when it was to be added, and then columns that are told without a
--- number have the numbers from 1 on; or it is added, or gone
-pub record TableInHand : Type 0 where
-  pub standing : Standing
-  pub added : List ColumnDef
 
 -- the tables that records tell of, the rows of `_Tables` and of `_Columns`, the pool, and what becomes of streams
 pub record SchemaInHand : Type 0 where

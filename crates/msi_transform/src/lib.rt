@@ -4,5 +4,6 @@
 pub mod conditions;
 pub mod row;
 pub mod schema;
+pub mod tables_by_name;
 
 pub use conditions::ErrorConditions;

@@ -1,0 +1,51 @@
+-- Maps under names that are borrowed.
+use Rattle.std.proofs.Common.{◌≡◌, ℕ, Bool, cond, List, [], ◌∷◌, length, refl, sym, ap, ◌∙◌, arith}
+use Rattle.std.proofs.lemmas.Map.Lookups.{exact_bytes}
+use Rattle.std.proofs.lemmas.Map.Text.{btree_map_updates_str, is_eq-slice_cmp}
+use Rattle.std.specs.Prelude.{Option, Some, None, bytes_eq}
+use Rattle.std.specs.Borrow.{Bor}
+use Rattle.std.specs.BTreeMap as tree
+use Rattle.std.specs.BTreeMap.{BTreeMap, is_at}
+use Rattle.std.specs.Cmp.{IsTotalOrder, eq_by_cmp_equiv}
+use Rattle.std.specs.Cmp.Lexicographic.{slice_cmp, nat_list_cmp_total}
+use Rattle.std.specs.FinMap.{entries, find, from_entries, get, get-entries, get-from_entries, get-insert, entries-insert, len-empty, len-entries, put, same_map}
+use Rattle.std.specs.Map.{lookup, update}
+use Rattle.std.specs.Ordering.{eq_by_cmp, nat_cmp}
+use Rattle.msi_base.specs.Lists.{list_cmp}
+use Rattle.msi_transform.specs.TablesInHand.{named}
+
+abbrev at_name : List ℕ → Bor (List ℕ) → Bool
+at_name q = is_at (λ k. slice_cmp nat_cmp q k.now)
+
+nothing : {A : Type 0} (xs : List A) → length xs ≡ 0 → xs ≡ []
+nothing [] none = refl
+nothing (x ∷ xs) none = absurd (omega arith)
+
+module _ {X : Type 0} where
+  no_tables : entries (from_entries {R = list_cmp} (named {X = X} [])) ≡ []
+  no_tables = nothing _ (sym (len-entries (from_entries {R = list_cmp} (named {X = X} []))) ∙ len-empty list_cmp X)
+
+  pub no_entries : (es : List (Bor (List ℕ) × X)) → es ≡ [] → entries (from_entries {R = list_cmp} (named es)) ≡ []
+  no_entries es none = ap (λ (fs : List (Bor (List ℕ) × X)). entries (from_entries {R = list_cmp} (named fs))) none ∙ no_tables
+
+  -- the first entry of a name is what a look-up finds
+  find_is_lookup : (q : List ℕ) (es : List (Bor (List ℕ) × X)) → find list_cmp q (named es) ≡ lookup (at_name q) es
+  find_is_lookup q [] = refl
+  find_is_lookup q (e ∷ es) = ap (cond (at_name q e.0) (Some e.1)) (find_is_lookup q es)
+
+  get_is_lookup : (es : List (Bor (List ℕ) × X)) (q : List ℕ) → get (from_entries {R = list_cmp} (named es)) q ≡ lookup (at_name q) es
+  get_is_lookup es q = get-from_entries nat_list_cmp_total (named es) q ∙ find_is_lookup q es
+
+  pub entries_found : (es : List (Bor (List ℕ) × X)) (q : List ℕ) → lookup (at_name q) es ≡ find list_cmp q (entries (from_entries {R = list_cmp} (named es)))
+  entries_found es q = sym (get_is_lookup es q) ∙ get-entries (from_entries {R = list_cmp} (named es)) q
+
+  -- a new table at one name, and else the tables as they were
+  pub entries_put : (m n : BTreeMap (Bor (List ℕ)) X) (bs : List ℕ) (v : X)
+      → tree.UpdatesBy (λ x y. slice_cmp nat_cmp x.now y.now) (λ k. slice_cmp nat_cmp bs k.now) m n (Some v)
+      → entries (from_entries {R = list_cmp} (named n.entries)) ≡ put list_cmp bs v (entries (from_entries {R = list_cmp} (named m.entries)))
+  entries_put m n bs v updates =
+      ap entries (same_map nat_list_cmp_total exact_bytes _ _ (λ q.
+      get_is_lookup n.entries q ∙ btree_map_updates_str bs m n (Some v) updates q
+      ∙ ap (λ b. cond b (Some v) (lookup (at_name q) m.entries)) (sym (is_eq-slice_cmp bs q) ∙ (eq_by_cmp_equiv nat_list_cmp_total).symm bs q)
+      ∙ sym (get-insert nat_list_cmp_total (from_entries (named m.entries)) bs v q ∙ ap (cond (eq_by_cmp list_cmp q bs) (Some v)) (get_is_lookup m.entries q))))
+      ∙ entries-insert nat_list_cmp_total (from_entries (named m.entries)) bs v
