@@ -1,2 +1,4 @@
 pub mod ApplyingRows
+pub mod ColumnKeysLemmas
+pub mod PackagePartsLemmas
 pub mod TablesByNameLemmas

@@ -4,4 +4,5 @@ pub mod RowStreams
 pub mod RowChanges
 pub mod TablesInHand
 pub mod SchemaChanges
+pub mod InHand
 pub mod Applying

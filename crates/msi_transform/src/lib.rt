@@ -2,8 +2,11 @@
 #![tactic(auto)]
 
 pub mod conditions;
+mod listing;
+mod reasons;
 pub mod row;
 pub mod schema;
+pub mod schema_change;
 pub mod tables_by_name;
 
 pub use conditions::ErrorConditions;

@@ -5,8 +5,12 @@ ghost use Rattle.msi_base.specs.Results.{OnlyMemory};
 ghost use Rattle.msi_transform.specs.SchemaChanges.{as_found, is_added as is_of_transform, is_gone as is_away};
 ghost use Rattle.msi_transform.specs.TablesInHand.{HasSmallNumber, IsSmall, most_added};
 
+use crate::keyed::KeyedRows;
+use crate::tables_by_name::TablesByName;
 use msi_base::errors::Error;
 use msi_base::text::Items;
+use msi_database_changes::Stored;
+use msi_database_changes::texts::PoolInUse;
 use msi_table_values::column::Column;
 use msi_table_values::parts::copied_columns;
 use std::alloc::Global;
@@ -100,6 +104,22 @@ impl TableInHand {
         self.added.as_slice()
     }
 
+    pub(crate) fn with_standing(self, standing: Standing) -> TableInHand
+        requires { HasSmallNumber standing }
+        ensures { result ≡ record { standing = standing; added = self.added } }
+    {
+        let TableInHand { standing: _, added } = self;
+        TableInHand { standing, added }
+    }
+
+    pub(crate) fn into_added(self) -> Items<Column>
+        ensures value { result ≡ self.added }
+        ensures few { length result ≤ most_added }
+    {
+        let TableInHand { standing: _, added } = self;
+        added
+    }
+
     pub(crate) fn clone(&self, alloc: Global) -> Result<TableInHand, Error>
         ensures ok { IfOk result (λ copy. copy ≡ self.now) }
         ensures kind { OnlyMemory result }
@@ -109,4 +129,20 @@ impl TableInHand {
             added: copied_columns(alloc, self.added.as_slice())?,
         })
     }
+}
+
+/// The tables that records tell of, the rows of `_Tables` and of `_Columns`, the pool, and what becomes of streams, while
+/// a transform is applied. After a call that fails they may be in any state.
+#[derive(Drop)]
+pub struct SchemaInHand<'a> {
+    /// The tables that records tell of.
+    pub tables: TablesByName<'a>,
+    /// The rows of `_Tables`.
+    pub listed: KeyedRows<'a>,
+    /// The rows of `_Columns`.
+    pub described: KeyedRows<'a>,
+    /// The package's pool.
+    pub pool: PoolInUse,
+    /// What becomes of the streams of tables that go, and of those of their rows.
+    pub streams: Vec<Stored>,
 }
