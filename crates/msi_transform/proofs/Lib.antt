@@ -1,1 +1,2 @@
 pub mod ApplyingRows
+pub mod KeyedRowsLemmas

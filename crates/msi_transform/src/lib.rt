@@ -2,6 +2,7 @@
 #![tactic(auto)]
 
 pub mod conditions;
+pub mod keyed;
 pub mod row;
 pub mod schema;
 
