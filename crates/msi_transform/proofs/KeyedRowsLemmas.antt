@@ -1,6 +1,7 @@
 -- Rows under keys: the map that its entries make, in the order of keys.
 use Rattle.std.proofs.Common.{◌≡◌, Bool, true, false, cond, ◌&&◌, ◌||◌, List, [], ◌∷◌, ◌++◌, length, map, not, refl, sym, ap, subst, ◌∙◌, arith}
-use Rattle.std.specs.Prelude.{Option, None, Some, T, is_some}
+use Rattle.std.specs.Borrow.{Bor}
+use Rattle.std.specs.Prelude.{Option, None, Some, T, is_some, option_copied}
 use Rattle.std.specs.List.{AllByRecursion, list_any}
 use Rattle.std.specs.BTreeMap.{is_at}
 use Rattle.std.specs.Cmp.{IsTotalOrder, eq_by_cmp_equiv}
@@ -13,14 +14,21 @@ use Rattle.std.specs.Ordering.{eq_by_cmp, is_lt}
 use Rattle.std.specs.declared.cmp.Ordering.{Ordering}
 use Rattle.std.specs.declared.cmp.Ordering.TheVariants.{Less}
 use Rattle.std.proofs.lemmas.Bool.{or_right}
+use Rattle.std.proofs.lemmas.List.{append_assoc}
 use Rattle.msi_base.specs.Lists.{has_pair}
 use Rattle.msi_base.proofs.BoolLemmas.{or_first}
 use Rattle.msi_table_values.specs.declared.value.Value.{Value}
 use Rattle.msi_table_values.specs.OrderLaws.{value_cmp-total, values_tie}
 use Rattle.msi_table_cells.specs.KeyOrder.{same_key}
+use Rattle.msi_pool.specs.Pool.{Place}
+use Rattle.msi_table_values.specs.Columns.{ColumnDef}
+use Rattle.msi_table_cells.specs.declared.cell.ValueRef.{ValueRef}
+use Rattle.msi_table_cells.specs.CellValues.{row_values}
+use Rattle.msi_table_cells.specs.KeyOrder.{key_of}
+use Rattle.msi_database_changes.specs.KeySets.{keys_of_rows}
 use Rattle.msi_database_changes.proofs.row_keys.KeySetLemmas.{key_again, key_once}
 use Rattle.msi_transform.specs.KeyOfRows.{key_cmp}
-use Rattle.msi_transform.specs.RowChanges.{Rows, by_key, row_at, with_row_at, without_row_at}
+use Rattle.msi_transform.specs.RowChanges.{Rows, by_key, cells_in_hand, cells_of, keyed, row_at, with_row_at, without_row_at}
 use Rattle.msi_transform.specs.declared.row.RowInHand.{RowInHand}
 
 pub keys_total : IsTotalOrder key_cmp
@@ -48,8 +56,8 @@ none_left : (es : Rows) → length es ≡ 0 → es ≡ []
 none_left [] e = refl
 none_left (x ∷ es) e = absurd (omega arith)
 
-pub no_entries : entries {R = key_cmp} {X = RowInHand} (from_entries []) ≡ []
-no_entries = none_left _ (sym (len-entries (from_entries {R = key_cmp} {X = RowInHand} [])) ∙ len-empty key_cmp RowInHand)
+pub no_entries : entries {X = RowInHand} {R = key_cmp} (from_entries []) ≡ []
+no_entries = none_left (entries {X = RowInHand} {R = key_cmp} (from_entries [])) (sym (len-entries {X = RowInHand} {R = key_cmp} (from_entries [])) ∙ len-empty key_cmp RowInHand)
 
 updated_map : (es fs : Rows) (k : List Value) (v : RowInHand) → ((q : List Value) → lookup (is_at (key_cmp q)) fs ≡ cond (is_at (key_cmp k) q) (Some v) (lookup (is_at (key_cmp q)) es))
     → from_entries {R = key_cmp} fs ≡ insert (from_entries es) k v
@@ -169,3 +177,56 @@ key_shared es k v fs h =
     ap (has_pair same_key) (keys_joined (es ++ (k, v) ∷ []) fs)
     ∙ pair_in_front (keys_in (es ++ (k, v) ∷ [])) (keys_in fs)
     (ap (has_pair same_key) (keys_pushed es k v) ∙ key_again (keys_in es) k (sym (is_there es k) ∙ h))
+
+-- ROWS OF A TABLE, EACH WITH ITS KEY
+
+map_joined : {A B : Type 0} (f : A → B) (xs ys : List A) → map f (xs ++ ys) ≡ map f xs ++ map f ys
+map_joined f [] ys = refl
+map_joined {B = B} f (x ∷ xs) ys = ap (λ (zs : List B). f x ∷ zs) (map_joined f xs ys)
+
+module _ (columns : List ColumnDef) (places : List Place) where
+  keys_are : (rows : List RowInHand) → keys_in (map (keyed columns places) rows) ≡ keys_of_rows places columns (cells_in_hand rows)
+  keys_are [] = refl
+  keys_are (row ∷ rows) = ap (λ (ks : List (List Value)). key_of columns (row_values places row.cells) ∷ ks) (keys_are rows)
+
+  abbrev pub KeysAreApart : List RowInHand → Type 0
+  KeysAreApart rows = has_pair same_key (keys_of_rows places columns (cells_in_hand rows)) ≡ false
+
+  module _ (yielded : List RowInHand) (row : RowInHand) (key : List Value) (key_is : key ≡ key_of columns (row_values places row.cells)) where
+    abbrev before : Rows
+    before = map (keyed columns places) yielded
+
+    one_more : map (keyed columns places) (yielded ++ row ∷ []) ≡ before ++ (key, row) ∷ []
+    one_more = map_joined (keyed columns places) yielded (row ∷ []) ∙ ap (λ (k : List Value). before ++ (k, row) ∷ []) (sym key_is)
+
+    pub row_pushed : is_some (row_at key (by_key before)) ≡ false → with_row_at key row (by_key before) ≡ by_key (map (keyed columns places) (yielded ++ row ∷ []))
+    row_pushed h = by_key_pushed before key row h ∙ ap by_key (sym one_more)
+
+    pub rows_stay_apart : is_some (row_at key (by_key before)) ≡ false → KeysAreApart yielded → KeysAreApart (yielded ++ row ∷ [])
+    rows_stay_apart h apart =
+        ap (has_pair same_key) (sym (keys_are (yielded ++ row ∷ [])) ∙ ap keys_in one_more)
+        ∙ keys_stay_apart before key row h (ap (has_pair same_key) (keys_are yielded) ∙ apart)
+
+    pub row_shares : (rest : List RowInHand) → is_some (row_at key (by_key before)) ≡ true
+        → has_pair same_key (keys_of_rows places columns (cells_in_hand ((yielded ++ row ∷ []) ++ rest))) ≡ true
+    row_shares rest h =
+        ap (has_pair same_key) (sym (keys_are ((yielded ++ row ∷ []) ++ rest)) ∙ ap keys_in (map_joined (keyed columns places) (yielded ++ row ∷ []) rest
+        ∙ ap (λ (es : Rows). es ++ map (keyed columns places) rest) one_more))
+        ∙ key_shared before key row (map (keyed columns places) rest) h
+
+-- what is left, after one more
+pub yielded_more : (rows yielded rest left : List RowInHand) (row : RowInHand) → rows ≡ yielded ++ rest → rest ≡ row ∷ left → rows ≡ (yielded ++ row ∷ []) ++ left
+yielded_more rows yielded rest left row whole is = whole ∙ ap (λ (rs : List RowInHand). yielded ++ rs) is ∙ sym (append_assoc yielded (row ∷ []) left)
+
+pub is_some-copied : (o : Option (Bor RowInHand)) → is_some (option_copied o) ≡ is_some o
+is_some-copied None = refl
+is_some-copied (Some x) = refl
+
+cells_are : (es : Rows) → cells_in_hand (map (λ e. e.1) es) ≡ cells_of es
+cells_are [] = refl
+cells_are (e ∷ es) = ap (λ (rows : List (List ValueRef)). e.1.cells ∷ rows) (cells_are es)
+
+-- the cells of the rows, where all were taken
+pub all_cells : (es : Rows) (m : KeyMap) (yielded : List RowInHand) → from_entries es ≡ m → IsStrictlySortedBy key_cmp (keys_of es) → map (λ e. e.1) es ≡ yielded
+    → cells_in_hand yielded ≡ cells_of (entries m)
+all_cells es m yielded is ordered all = ap cells_in_hand (sym all) ∙ cells_are es ∙ ap cells_of (entries_in_order es m is ordered)

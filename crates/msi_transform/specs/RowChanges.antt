@@ -55,6 +55,10 @@ abbrev pub by_key : Rows → Rows
 by_key [] = []
 by_key (e ∷ es) = with_row_at e.0 e.1 (by_key es)
 
+-- the cells of rows, without keys and with them
+abbrev pub cells_in_hand : List RowInHand → List (List ValueRef)
+cells_in_hand rows = map (λ (row : RowInHand). row.cells) rows
+
 abbrev pub cells_of : Rows → List (List ValueRef)
 cells_of rows = map (λ e. e.1.cells) rows
 

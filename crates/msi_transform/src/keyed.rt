@@ -6,7 +6,8 @@ ghost use Rattle.msi_base.specs.Lists.{has_pair};
 ghost use Rattle.msi_base.specs.Results.{OnlyMemory};
 ghost use Rattle.msi_table_cells.specs.KeyOrder.{key_of, same_key};
 ghost use Rattle.msi_table_cells.specs.CellValues.{row_values};
-ghost use Rattle.msi_transform.specs.RowChanges.{by_key, cells_of, keyed, row_at, with_row_at, without_row_at};
+ghost use Rattle.msi_database_changes.specs.KeySets.{keys_of_rows};
+ghost use Rattle.msi_transform.specs.RowChanges.{by_key, cells_in_hand, cells_of, keyed, row_at, with_row_at, without_row_at};
 
 use crate::row::RowInHand;
 use msi_base::errors::Error;
@@ -102,7 +103,7 @@ impl<'a> KeyedRows<'a> {
         ensures kind { OnlyMemory result }
     {
         let KeyedRows { map } = self;
-        let mut cells = Vec::new(alloc);
+        let mut cells = Vec::with_capacity(alloc, map.len())?;
         for row in map.into_values() {
             let RowInHand {
                 cells: row_cells,
@@ -144,7 +145,7 @@ pub fn keyed_rows<'a>(
     ensures rows { IfOk result (λ by_keys. IfSome by_keys (λ by_keys.
         entries by_keys ≡ by_key (map (keyed columns.now pool.now.places) rows.items))) }
     ensures distinct { IfOk result (λ by_keys. is_some by_keys
-        ≡ not (has_pair same_key (map (λ e. e.0) (map (keyed columns.now pool.now.places) rows.items)))) }
+        ≡ not (has_pair same_key (keys_of_rows pool.now.places columns.now (cells_in_hand rows.items)))) }
     ensures kind { OnlyMemory result }
 {
     let mut by_keys = KeyedRows::new(alloc);
