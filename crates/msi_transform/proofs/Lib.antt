@@ -1,4 +1,5 @@
 pub mod ApplyingRows
 pub mod ColumnKeysLemmas
+pub mod KeyedRowsLemmas
 pub mod PackagePartsLemmas
 pub mod TablesByNameLemmas

@@ -1,6 +1,7 @@
 -- The words of this crate.
 pub mod Transforms
 pub mod RowStreams
+pub mod KeyOfRows
 pub mod RowChanges
 pub mod TablesInHand
 pub mod SchemaChanges

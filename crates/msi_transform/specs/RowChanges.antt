@@ -5,8 +5,6 @@ use Rattle.std.specs.List.{fold}
 use Rattle.std.specs.Option.{option_map_or}
 use Rattle.std.specs.FinMap.{find, put}
 use Rattle.std.specs.Ordering.{eq_by_cmp}
-use Rattle.std.specs.Cmp.Lexicographic.{slice_cmp}
-use Rattle.std.specs.declared.cmp.Ordering.{Ordering}
 use Rattle.msi_base.specs.declared.errors.ErrorKind.{ErrorKind}
 use Rattle.msi_base.specs.declared.errors.ErrorKind.TheVariants.{AlreadyExists, InvalidInput, NotFound}
 use Rattle.msi_base.specs.Refusals.{or_refused, unless_refused, ◌>>=◌}
@@ -17,7 +15,6 @@ use Rattle.msi_table_cells.specs.CellValues.{row_values}
 use Rattle.msi_table_cells.specs.KeyOrder.{key_of}
 use Rattle.msi_table_values.specs.declared.value.Value.{Value}
 use Rattle.msi_table_values.specs.declared.value.Value.TheVariants as value
-use Rattle.msi_table_values.specs.Values.{value_cmp}
 use Rattle.msi_table_values.specs.declared.column.ColumnType.{ColumnType}
 use Rattle.msi_table_values.specs.declared.column.ColumnType.TheVariants.{Int16}
 use Rattle.msi_table_values.specs.Columns.{ColumnDef, types_of}
@@ -29,6 +26,7 @@ use Rattle.msi_transform_records.specs.declared.action.Action.{Action}
 use Rattle.msi_transform_records.specs.declared.action.Action.TheVariants.{Add, Remove, Change}
 use Rattle.msi_transform_records.specs.declared.shape.Shape.{Shape}
 use Rattle.msi_transform_records.specs.RecordCells.{added_cells, changes_of_record}
+use Rattle.msi_transform.specs.KeyOfRows.{key_cmp}
 use Rattle.msi_transform.specs.Transforms.{TransformDef, record_key, shapes_of, value_in}
 use Rattle.msi_transform.specs.RowStreams.{has_streams, is_of_streams, row_stream_gone, row_stream_stored, told_stream}
 use Rattle.msi_transform.specs.declared.conditions.ErrorConditions.{ErrorConditions}
@@ -37,9 +35,6 @@ use Rattle.msi_transform.specs.declared.row.RowStream.{RowStream}
 use Rattle.msi_transform.specs.declared.row.RowStream.TheVariants.{AsBefore, Gone, Brought}
 
 -- rows by their keys, in the order of keys
-abbrev pub key_cmp : List Value → List Value → Ordering
-key_cmp = slice_cmp value_cmp
-
 abbrev pub Rows : Type 0
 Rows = List (List Value × RowInHand)
 
@@ -59,6 +54,13 @@ keyed columns places row = (key_of columns (row_values places row.cells), row)
 abbrev pub by_key : Rows → Rows
 by_key [] = []
 by_key (e ∷ es) = with_row_at e.0 e.1 (by_key es)
+
+-- the cells of rows, without keys and with them
+abbrev pub cells_in_hand : List RowInHand → List (List ValueRef)
+cells_in_hand rows = map (λ (row : RowInHand). row.cells) rows
+
+abbrev pub cells_of : Rows → List (List ValueRef)
+cells_of rows = map (λ e. e.1.cells) rows
 
 -- the table whose rows are changed, by which transform, and which faults pass
 pub record TableChange : Type 0 where

@@ -2,6 +2,7 @@
 #![tactic(auto)]
 
 pub mod conditions;
+pub mod keyed;
 mod listing;
 mod reasons;
 pub mod row;
