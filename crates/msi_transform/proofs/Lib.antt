@@ -1,5 +1,6 @@
 pub mod ApplyingRows
 pub mod ColumnKeysLemmas
+pub mod InHandLemmas
 pub mod KeyedRowsLemmas
 pub mod PackagePartsLemmas
 pub mod TablesByNameLemmas

@@ -14,6 +14,7 @@ ghost use Rattle.msi_database_storage.specs.StreamNames.{HaveShortNames};
 ghost use Rattle.msi_transform.specs.InHand.{in_hand};
 ghost use Rattle.msi_transform.specs.SchemaChanges.{change_over, columns_of_package, is_unlisted as has_rows_already};
 ghost use Rattle.msi_transform.specs.SchemaChanges.{rows_of_package, table_in_hand, untold_table};
+ghost use Rattle.msi_transform.specs.TablesInHand.{HasSmallNumber};
 ghost use Rattle.msi_transform.specs.Transforms.{value_in};
 
 use crate::conditions::ErrorConditions;
@@ -23,9 +24,7 @@ use msi_base::text::Items;
 use msi_container_format::contents::StreamMap;
 use msi_database_changes::keys::Key;
 use msi_database_schema::named_table;
-use msi_database_schema::system::{
-    VALIDATION, columns_columns, tables_columns, validation_columns,
-};
+use msi_database_schema::system::{VALIDATION, validation_columns};
 use msi_database_storage::listing::table_named;
 use msi_database_storage::table_rows;
 use msi_pool::stringpool::StringPool;
@@ -47,14 +46,10 @@ pub struct SchemaChange<'a> {
     tables: &'a [Table],
     streams: &'a StreamMap,
     texts: &'a StringPool,
-    listing: Items<Column>,
-    describing: Items<Column>,
 }
 
 impl<'a> Model for SchemaChange<'a> {
-    ghost use Rattle.std.specs.Prelude.{◌≡◌};
     ghost use Rattle.std.specs.FinMap.{entries};
-    ghost use Rattle.msi_database_schema.specs.System.{columns_columns, tables_columns};
     ghost use Rattle.msi_database_storage.specs.Kept.{AreAsLong};
     ghost use Rattle.msi_database_storage.specs.StreamNames.{HaveShortNames};
     ghost use Rattle.msi_transform.specs.SchemaChanges.{SchemaChange as ChangeOf, change_over};
@@ -63,15 +58,12 @@ impl<'a> Model for SchemaChange<'a> {
 
     ghost view = { λ c. change_over c.pool.now c.tables.now (entries c.streams.now) c.texts.now c.passing };
 
-    ghost invariant = { λ c. HaveShortNames (entries c.streams.now) × AreAsLong c.pool.now.long c.tables.now
-        × (c.listing ≡ tables_columns) × (c.describing ≡ columns_columns) };
+    ghost invariant = { λ c. HaveShortNames (entries c.streams.now) × AreAsLong c.pool.now.long c.tables.now };
 }
 
 impl<'a> SchemaChange<'a> {
-    /// Returns the change of these parts: the package's pool, tables and streams, and the transform's pool.
-    ///
-    /// # Errors
-    /// Fails with `OutOfMemory`.
+    /// Returns the change of these parts: the package's pool, tables and streams, and the transform's pool. The
+    /// references of all tables are as long as those of the package's pool.
     pub fn new(
         alloc: Global,
         pool: &'a StringPool,
@@ -79,23 +71,19 @@ impl<'a> SchemaChange<'a> {
         streams: &'a StreamMap,
         texts: &'a StringPool,
         passing: ErrorConditions,
-    ) -> Result<SchemaChange<'a>, Error>
+    ) -> SchemaChange<'a>
         requires names { HaveShortNames (entries streams.now) }
         requires long { AreAsLong pool.now.long tables.now }
-        ensures ok { IfOk result (λ change.
-            change ≡ change_over pool.now tables.now (entries streams.now) texts.now passing) }
-        ensures kind { OnlyMemory result }
+        ensures { result ≡ change_over pool.now tables.now (entries streams.now) texts.now passing }
     {
-        Ok(SchemaChange {
+        SchemaChange {
             alloc,
             passing,
             pool,
             tables,
             streams,
             texts,
-            listing: tables_columns(alloc)?,
-            describing: columns_columns(alloc)?,
-        })
+        }
     }
 
     /// Returns the key of a table's row of `_Tables`.
@@ -103,7 +91,8 @@ impl<'a> SchemaChange<'a> {
         ensures ok { IfOk result (λ key. key ≡ Str name.now ∷ []) }
         ensures kind { OnlyMemory result }
     {
-        Key::of_row(self.alloc, self.listing.as_slice(), &[ValueView::Str(name)])
+        let values = Vec::from_array(self.alloc, [ValueView::Str(name)])?;
+        Ok(Key::of_values(values))
     }
 
     /// Returns the key of a column's row of `_Columns`.
@@ -111,8 +100,8 @@ impl<'a> SchemaChange<'a> {
         ensures ok { IfOk result (λ key. key ≡ Str name.now ∷ Int number ∷ []) }
         ensures kind { OnlyMemory result }
     {
-        let row = [ValueView::Str(name), ValueView::Int(number)];
-        Key::of_row(self.alloc, self.describing.as_slice(), &row)
+        let values = [ValueView::Str(name), ValueView::Int(number)];
+        Ok(Key::of_values(Vec::from_array(self.alloc, values)?))
     }
 
     /// Returns the value of a record's cell: null where there is none.
@@ -166,15 +155,22 @@ impl<'a> SchemaChange<'a> {
         self.has_unlisted_rows()
     }
 
+    /// Returns a table to which no columns are added yet.
+    pub(crate) fn bare_table(&self, standing: Standing) -> TableInHand
+        requires { HasSmallNumber standing }
+        ensures { result ≡ record { standing = standing; added = [] } }
+    {
+        TableInHand::new(standing, Items::from_vec(Vec::new(self.alloc)))
+    }
+
     fn untold_table(&self, name: &str) -> TableInHand
         ensures { result ≡ untold_table self.now.database name.now }
     {
-        let standing = if self.has_table(name) {
+        self.bare_table(if self.has_table(name) {
             Standing::Kept
         } else {
             Standing::Gone
-        };
-        TableInHand::new(standing, Items::from_vec(Vec::new(self.alloc)))
+        })
     }
 
     /// Returns a copy of a table as it is in hand, or as the package has it.

@@ -1,4 +1,5 @@
-use Rattle.std.proofs.Common.{◌≡◌, ◌∷◌, [], ◌∙◌, ◌+◌, ℤ, ap, arith, ints, pos}
+use Rattle.std.proofs.Common.{◌≡◌, ◌∷◌, [], ◌∙◌, ℤ, ap, arith}
+use Rattle.std.proofs.lemmas.Int.{ints}
 use Rattle.msi_table_values.specs.declared.value.Value.TheVariants.{Int, Str}
 use Rattle.msi_transform.proofs.ColumnKeysLemmas.{keys_pushed}
 use Rattle.msi_transform.proofs.schema_change.SchemaChange.column_keys.Goals as goal
