@@ -18,7 +18,7 @@ use Rattle.msi_table_values.specs.declared.value.Value.{Value}
 use Rattle.msi_table_values.specs.declared.value.Value.TheVariants.{Null, Int, Str, Binary}
 use Rattle.msi_table_values.specs.Columns.{ColumnDef, begun_column, column_of_bits, has_column}
 use Rattle.msi_database_schema.specs.Keys.{is_table_name, table_key}
-use Rattle.msi_database_schema.specs.Schema.{value_at}
+use Rattle.msi_database_schema.specs.Schema.{is_of_16_bits, value_at}
 use Rattle.msi_database_schema.specs.System.{is_schema_table, validation_name}
 use Rattle.msi_database_changes.specs.Database.{Database, has_table, rows_of, table_at}
 use Rattle.msi_database_changes.specs.Texts.{PoolInUse, cell_put, cell_released, in_turn, rows_released}
@@ -206,9 +206,9 @@ text_told Null = None
 text_told (Int n) = None
 text_told Binary = None
 
--- a column as its row of `_Columns` tells it: nothing without a name, or where the bits are no type
+-- a column as its row of `_Columns` tells it: nothing without a name, or where the bits, which are 16, are no type
 abbrev pub column_told : Value → Value → Option ColumnDef
-column_told (Str name) (Int bits) = if length name == 0 then None
+column_told (Str name) (Int bits) = if (length name == 0) || not (is_of_16_bits bits) then None
     else column_of_bits (begun_column name) (cast_unsigned w16 bits)
 column_told _ _ = None
 
@@ -291,6 +291,9 @@ column_added change row s name =
     (record { standing = counted_on (value_at 1 row) t.standing; added = t.added })
     column number (describing_row name number (value_at 2 row) (value_at 3 row)) s
 
+abbrev pub column_row_added : SchemaChange → List Value → SchemaInHand → Result SchemaInHand ErrorKind
+column_row_added change row s = or_refused NotFound (text_told (value_at 0 row)) >>= column_added change row s
+
 -- the rows of a table that the transform has dropped are gone
 abbrev pub was_dropped : SchemaInHand → Value → Bool
 was_dropped s (Str name) = option_map_or (λ (t : TableInHand). is_gone t.standing) (find list_cmp name s.tables) false
@@ -303,8 +306,8 @@ abbrev pub describing_applied : SchemaChange → List Shape → SchemaInHand →
 describing_applied change shapes s r Remove = unless_refused
     ((not (was_dropped s (value_at 0 (record_key change.by shapes r))), InvalidInput) ∷ []) s
 describing_applied change shapes s r (Change m) = Err InvalidInput
-describing_applied change shapes s r (Add k) = let row = map (value_in change.by) (added_cells shapes r) in
-    or_refused NotFound (text_told (value_at 0 row)) >>= column_added change row s
+describing_applied change shapes s r (Add k) =
+    column_row_added change (map (value_in change.by) (added_cells shapes r)) s
 
 abbrev pub column_record_applied : SchemaChange → List Shape → SchemaInHand → Record → Result SchemaInHand ErrorKind
 column_record_applied change shapes s r = describing_applied change shapes s r r.action

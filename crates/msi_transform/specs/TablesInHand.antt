@@ -1,5 +1,5 @@
 -- A table while a transform is applied.
-use Rattle.std.specs.Prelude.{ℕ, ◌≤◌, ⊤, List, length, map}
+use Rattle.std.specs.Prelude.{◌≡◌, ℕ, ◌≤◌, ⊤, ℤ, pos, int_le, true, List, length, map}
 use Rattle.std.specs.Borrow.{Bor}
 use Rattle.msi_table_values.specs.Columns.{ColumnDef}
 use Rattle.msi_transform.specs.declared.schema.Standing.{Standing}
@@ -11,6 +11,9 @@ use Rattle.msi_transform.specs.declared.schema.Standing.TheVariants as stands
 pub record TableInHand : Type 0 where
   pub standing : Standing
   pub added : List ColumnDef
+
+abbrev pub table_with : Standing → List ColumnDef → TableInHand
+table_with standing added = record { standing = standing; added = added }
 
 -- A package's table has at most 32767 columns, and one with 32 or more gets no further one: so the numbers of columns,
 -- and the next number, which is at most one past them, fit a cell of numbers
@@ -25,6 +28,10 @@ HasSmallNumber (stands.Found next) = next ≤ most_numbers
 HasSmallNumber stands.Kept = ⊤
 HasSmallNumber stands.Added = ⊤
 HasSmallNumber stands.Gone = ⊤
+
+-- where a column of this number comes, or is there, the next number is still small
+abbrev pub IsNextSmall : ℤ → Standing → Type 0
+IsNextSmall number standing = int_le number (pos 32799) ≡ true → HasSmallNumber standing
 
 pub record IsSmall (t : TableInHand) : Type 0 where
   pub few : length t.added ≤ most_added

@@ -2,6 +2,7 @@
 #![tactic(auto)]
 
 pub mod conditions;
+mod describing;
 pub mod keyed;
 mod listing;
 mod reasons;

@@ -100,7 +100,7 @@ impl<'a> SchemaChange<'a> {
         let count = self.columns_of(name, table.standing()).len() + table.added().len();
         let mut keys = Vec::new(self.alloc);
         for i in 0..count {
-            keys.push(self.describing_key(name, i as i32 + 1)?)?;
+            keys.push(self.describing_key(name, (i + 1) as i32)?)?;
         }
         Ok(keys)
     }

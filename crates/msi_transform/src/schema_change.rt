@@ -6,6 +6,8 @@ ghost use Rattle.msi_base.specs.Results.{OnlyMemory};
 ghost use Rattle.msi_table_values.specs.Columns.{most_columns};
 ghost use Rattle.msi_table_values.specs.Views.{seen_value};
 ghost use Rattle.msi_table_values.specs.declared.value.Value.TheVariants.{Int, Str};
+ghost use Rattle.msi_table_cells.specs.CellValues.{row_values};
+ghost use Rattle.msi_table_cells.specs.KeyOrder.{key_of};
 ghost use Rattle.msi_database_schema.specs.Schema.{table_with, value_at};
 ghost use Rattle.msi_database_schema.specs.System.{validation_columns as columns_of_validation, validation_name};
 ghost use Rattle.msi_database_changes.specs.Database.{has_table, rows_of, table_at};
@@ -15,9 +17,10 @@ ghost use Rattle.msi_transform.specs.InHand.{in_hand};
 ghost use Rattle.msi_transform.specs.SchemaChanges.{change_over, columns_of_package, is_unlisted as has_rows_already};
 ghost use Rattle.msi_transform.specs.SchemaChanges.{rows_of_package, table_in_hand, untold_table};
 ghost use Rattle.msi_transform.specs.TablesInHand.{HasSmallNumber};
-ghost use Rattle.msi_transform.specs.Transforms.{value_in};
+ghost use Rattle.msi_transform.specs.Transforms.{record_key, value_in};
 
 use crate::conditions::ErrorConditions;
+use crate::keyed::key_of_cells;
 use crate::schema::{SchemaInHand, Standing, TableInHand};
 use msi_base::errors::Error;
 use msi_base::text::Items;
@@ -33,6 +36,8 @@ use msi_table_cells::cell::ValueRef;
 use msi_table_cells::parts::view_of_cell;
 use msi_table_values::column::Column;
 use msi_table_values::parts::ValueView;
+use msi_transform_records::parts::key_cells;
+use msi_transform_records::{Record, Shape};
 use std::alloc::Global;
 use std::marker::Model;
 
@@ -112,6 +117,29 @@ impl<'a> SchemaChange<'a> {
             Some(cell) => view_of_cell(self.texts, *cell),
             None => ValueView::Null,
         }
+    }
+
+    /// Returns the first value of the key that a record tells: null where there is none.
+    pub(crate) fn key_name(
+        &self,
+        shapes: &[Shape],
+        record: &Record,
+    ) -> Result<ValueView<'a>, Error>
+        ensures ok { IfOk result (λ name.
+            seen_value name ≡ value_at 0 (record_key self.now.by shapes.now «record».now)) }
+        ensures kind { OnlyMemory result }
+    {
+        let key = key_cells(self.alloc, shapes, record)?;
+        Ok(self.view_at(key.as_slice(), 0))
+    }
+
+    /// Returns the key of a row of a table of the package.
+    pub(crate) fn key_of_row(&self, columns: &[Column], row: &[ValueRef]) -> Result<Key<'a>, Error>
+        ensures ok { IfOk result (λ key.
+            key ≡ key_of columns.now (row_values self.now.database.pool.places row.now)) }
+        ensures kind { OnlyMemory result }
+    {
+        key_of_cells(self.alloc, self.pool, columns, row)
     }
 
     fn has_table(&self, name: &str) -> bool
