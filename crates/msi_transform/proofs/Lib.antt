@@ -1,2 +1,3 @@
 pub mod ApplyingRows
 pub mod KeyedRowsLemmas
+pub mod RowStreamsLemmas

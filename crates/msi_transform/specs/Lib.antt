@@ -3,5 +3,7 @@ pub mod Transforms
 pub mod RowStreams
 pub mod KeyOfRows
 pub mod RowChanges
+pub mod RowsInHand
+pub mod RecordRefusals
 pub mod SchemaChanges
 pub mod Applying
