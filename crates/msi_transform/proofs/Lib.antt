@@ -4,4 +4,6 @@ pub mod ColumnStepsLemmas
 pub mod InHandLemmas
 pub mod KeyedRowsLemmas
 pub mod PackagePartsLemmas
+pub mod RowStreamsLemmas
 pub mod TablesByNameLemmas
+pub mod TextsAloneLemmas

@@ -4,6 +4,8 @@ pub mod RowStreams
 pub mod KeyOfRows
 pub mod RowChanges
 pub mod TablesInHand
+pub mod RowsInHand
+pub mod RecordRefusals
 pub mod SchemaChanges
 pub mod InHand
 pub mod Applying

@@ -1,4 +1,4 @@
-//! Why a transform is refused: a sentence for each rule.
+//! Why a transform isn't applied: a sentence for each rule.
 
 use msi_base::errors::Reason;
 
@@ -49,3 +49,15 @@ pub(crate) const COLUMN_KEY: Reason = Reason(
 );
 
 pub(crate) const COLUMNS_MANY: Reason = Reason("the transform adds a column past the 32nd");
+
+pub(crate) const STREAM_MISSING: Reason = Reason(
+    "the transform brings the stream of a row, and has no stream of its name",
+);
+
+pub(crate) const REMOVED_ROW_MISSING: Reason = Reason("a row that is to be removed isn't there");
+
+pub(crate) const CHANGED_ROW_MISSING: Reason = Reason("a row that is to be changed isn't there");
+
+pub(crate) const ADDED_ROW_EXISTS: Reason = Reason("a row that is to be added is there");
+
+pub(crate) const TOO_MANY_ROWS: Reason = Reason("a table has at most 65536 rows");

@@ -1,14 +1,15 @@
 //! The tables that a transform tells of, by their names.
 
-ghost use Rattle.std.specs.Prelude.{◌≡◌, [], OnOk, length, option_copied};
+ghost use Rattle.std.specs.Prelude.{◌≡◌, [], OnOk, option_copied};
 ghost use Rattle.std.specs.FinMap.{entries, find, put};
 ghost use Rattle.msi_base.specs.Lists.{list_cmp};
 ghost use Rattle.msi_base.specs.Results.{OnlyMemory};
+ghost use Rattle.msi_transform.specs.TablesInHand.{named};
 
 use crate::schema::TableInHand;
 use msi_base::errors::Error;
 use std::alloc::Global;
-use std::collections::BTreeMap;
+use std::collections::{BTreeMap, btree_map};
 use std::marker::Model;
 
 /// The tables that a transform tells of, in the order of their names, which are borrowed from where they lie.
@@ -58,5 +59,12 @@ impl<'a> TablesByName<'a> {
     {
         self.map.insert(name, table)?;
         Ok(())
+    }
+
+    /// Returns the tables with their names, in the order of these.
+    pub fn iter(&self) -> btree_map::Iter<'_, &'a str, TableInHand>
+        ensures { named result ≡ entries self.now }
+    {
+        self.map.iter()
     }
 }

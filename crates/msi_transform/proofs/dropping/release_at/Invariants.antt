@@ -2,7 +2,7 @@ use Rattle.std.proofs.Common.{◌≡◌, drop}
 use Rattle.std.specs.FinMap.{entries}
 use Rattle.msi_database_changes.specs.Texts.{in_use}
 use Rattle.msi_transform.specs.SchemaChanges.{released_at}
-use Rattle.msi_transform.proofs.listing.release_at.Given as goal
+use Rattle.msi_transform.proofs.dropping.release_at.Given as goal
 
 abbrev pub invariant-loop-key : goal.invariant-loop-key
 invariant-loop-key l = record {
