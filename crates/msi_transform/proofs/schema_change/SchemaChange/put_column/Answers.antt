@@ -12,5 +12,5 @@ returns-in_err-refuse_new_column-clause-kind c = let told = c.args.told in let d
     let same : c.columns_of-columns.result.now ++ c.as_slice.result.now ≡ columns_in_hand d told.table.now t =
     ap (λ (cs : List ColumnDef). cs ++ c.as_slice.result.now) c.columns_of-columns.ensures.value
     ∙ ap (λ (cs : List ColumnDef). columns_of_package d told.table.now told.standing ++ cs) c.as_slice.ensures in
-    put_refused told.table.now t (columns_in_hand d told.table.now t) (c.columns_of-columns.result.now ++ c.as_slice.result.now) told.column told.number told.row (in_hand c.args.hand.now)
+    put_refused tt told.table.now t (columns_in_hand d told.table.now t) (c.columns_of-columns.result.now ++ c.as_slice.result.now) told.column told.number told.row (in_hand c.args.hand.now)
     c.from_residual.result c.in_err-refuse_new_column.field-0.0 same c.in_err-refuse_new_column.ensures.value c.from_residual.ensures.1
