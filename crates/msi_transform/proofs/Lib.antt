@@ -1,3 +1,4 @@
 pub mod ApplyingRows
 pub mod KeyedRowsLemmas
 pub mod RowStreamsLemmas
+pub mod ToldValuesLemmas
