@@ -7,3 +7,4 @@ pub mod PackagePartsLemmas
 pub mod RowStreamsLemmas
 pub mod TablesByNameLemmas
 pub mod TextsAloneLemmas
+pub mod ToldValuesLemmas

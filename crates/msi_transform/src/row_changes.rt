@@ -1,6 +1,6 @@
 //! What the records of a transform do to the rows of a table.
 
-ghost use Rattle.std.specs.Prelude.{◌≡◌, IfErr, OnOk, Ok, Some, not};
+ghost use Rattle.std.specs.Prelude.{◌≡◌, ◌∷◌, [], IfErr, OnOk, Ok, Some};
 ghost use Rattle.std.specs.FinMap.{entries};
 ghost use Rattle.msi_base.specs.Refusals.{IsRefusal, or_refused, unless_refused};
 ghost use Rattle.msi_base.specs.declared.errors.ErrorKind.TheVariants.{InvalidInput};
@@ -23,10 +23,9 @@ use msi_database_changes::keys::Key;
 use msi_database_changes::setting::exchange_cell;
 use msi_database_changes::texts::PoolInUse;
 use msi_table_cells::cell::ValueRef;
+use msi_table_cells::parts::MAX_ROWS;
 use msi_transform_records::parts::{added_cells, changed_cells};
 use msi_transform_records::{Action, Record};
-
-const MAX_ROWS: usize = 65536;
 
 fn refuse_if(holds: bool, kind: ErrorKind, reason: Reason) -> Result<(), Error>
     ensures { result ≡ unless_refused ((holds, kind) ∷ []) tt }

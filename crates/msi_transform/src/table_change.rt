@@ -4,7 +4,7 @@ ghost use Rattle.std.specs.Prelude.{◌≡◌, IfErr, IfOk, Ok, map, option_to_l
 ghost use Rattle.std.specs.FinMap.{entries};
 ghost use Rattle.msi_base.specs.Refusals.{IsRefusal};
 ghost use Rattle.msi_base.specs.Results.{OnlyMemory};
-ghost use Rattle.msi_transform.specs.RowChanges.{TableChange as ChangeOf, held_in, parts_for_rows, streams_without, values_told};
+ghost use Rattle.msi_transform.specs.RowChanges.{held_in, parts_for_rows, streams_without, values_told};
 ghost use Rattle.msi_transform.specs.RowStreams.{row_stream_stored};
 ghost use Rattle.msi_transform.specs.Transforms.{record_key, shapes_of as shapes_in, value_in};
 
@@ -86,8 +86,8 @@ impl<'a, 'b> TableChange<'a, 'b> {
         passing: ErrorConditions,
     ) -> Result<TableChange<'a, 'b>, Error>
         ensures ok { let by = parts_for_rows pool.now (entries streams.now) in
-            IfOk result (λ change. change ≡ ChangeOf.record {
-              name = name.now; columns = columns.now; by = by; passing = passing }) }
+            IfOk result (λ change. change
+                ≡ record { name = name.now; columns = columns.now; by = by; passing = passing }) }
         ensures kind { OnlyMemory result }
     {
         let shapes = shapes_of(alloc, columns)?;
