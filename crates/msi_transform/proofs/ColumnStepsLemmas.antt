@@ -14,11 +14,12 @@ use Rattle.msi_transform.specs.SchemaChanges.{SchemaChange, SchemaInHand, column
 use Rattle.msi_transform.specs.TablesInHand.{TableInHand, table_with}
 
 -- a column that is refused behind the others
-pub put_refused : {A B : Type 0} (x : B) (name : List ℕ) (t : TableInHand) (columns all : List ColumnDef) (column : ColumnDef) (number : ℤ) (row : List Value) (s : SchemaInHand) (r : Result A ErrorKind) (k : ErrorKind)
-    → all ≡ columns → Err k ≡ unless_refused (new_column_refusals t.standing all number column) x → IsErrAnd r (λ e. e ≡ k) → IfErr r (IsRefusal (column_put name t columns column number row s))
-put_refused {B = B} x name t columns all column number row s r k same refused is =
+pub put_refused : {A B : Type 0} {given : ℤ} (x : B) (name : List ℕ) (t : TableInHand) (columns all : List ColumnDef) (column : ColumnDef) (number : ℤ) (row : List Value) (s : SchemaInHand) (r : Result A ErrorKind) (k : ErrorKind)
+    → all ≡ columns → given ≡ number → Err k ≡ unless_refused (new_column_refusals t.standing all given column) x → IsErrAnd r (λ e. e ≡ k) → IfErr r (IsRefusal (column_put name t columns column number row s))
+put_refused {B = B} x name t columns all column number row s r k same whole refused is =
     let e : ◌≡◌ {A = Result B ErrorKind} (Err k) (unless_refused (new_column_refusals t.standing columns number column) x) =
-        subst (λ (cs : List ColumnDef). ◌≡◌ {A = Result B ErrorKind} (Err k) (unless_refused (new_column_refusals t.standing cs number column) x)) same refused in
+        subst (λ (cs : List ColumnDef). ◌≡◌ {A = Result B ErrorKind} (Err k) (unless_refused (new_column_refusals t.standing cs number column) x)) same
+        (subst (λ (n : ℤ). ◌≡◌ {A = Result B ErrorKind} (Err k) (unless_refused (new_column_refusals t.standing all n column) x)) whole refused) in
     err_passed r k (column_put name t columns column number row s) is
     (goes_on-Err (unless_refused (new_column_refusals t.standing columns number column) s)
       (λ s. or_refused InvalidInput (in_turn (cell_put true) s.pool row) >>= λ r. Ok (with_column name t column number s r)) k

@@ -4,7 +4,8 @@ use Rattle.msi_base.specs.declared.errors.ErrorKind.{ErrorKind}
 use Rattle.msi_base.specs.Refusals.{IsRefusal}
 use Rattle.msi_table_values.specs.Columns.{ColumnDef}
 use Rattle.msi_transform.specs.InHand.{in_hand}
-use Rattle.msi_transform.specs.SchemaChanges.{SchemaInHand, is_gone}
+use Rattle.msi_database_schema.specs.Schema.{value_at}
+use Rattle.msi_transform.specs.SchemaChanges.{SchemaInHand, counted_on, is_gone}
 use Rattle.msi_transform.specs.TablesInHand.{TableInHand, table_with}
 use Rattle.msi_transform.specs.Transforms.{value_in}
 use Rattle.msi_transform.specs.declared.schema.Standing.{Standing}
@@ -22,6 +23,7 @@ returns-clause-kind c = let told = c.in_ok-told.told in let t = c.in_ok-table.ta
         number_is = c.in_ok-told.ensures.number;
         values_are = c.in_ok-told.ensures.row;
         table_is = c.in_ok-told.ensures.table;
-        told_is = ap (λ (s : Standing). table_with s told.added) c.in_ok-told.ensures.standing ∙ ap (λ (cs : List ColumnDef). table_with _ cs) c.in_ok-told.ensures.added;
+        told_is = ap (λ (s : Standing). table_with s told.added) c.in_ok-told.ensures.standing
+            ∙ ap (λ (cs : List ColumnDef). table_with (counted_on (value_at 1 row) t.standing) cs) c.in_ok-told.ensures.added;
       })))
     c.add_numbered.ensures.kind
