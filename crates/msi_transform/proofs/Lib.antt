@@ -2,3 +2,4 @@ pub mod ApplyingRows
 pub mod KeyedRowsLemmas
 pub mod RowStreamsLemmas
 pub mod ToldValuesLemmas
+pub mod RowChangesLemmas
