@@ -3,3 +3,4 @@ pub mod KeyedRowsLemmas
 pub mod RowStreamsLemmas
 pub mod ToldValuesLemmas
 pub mod RowChangesLemmas
+pub mod PartsLemmas

@@ -1,3 +1,5 @@
+use Rattle.msi_transform.proofs.ApplyingRows.{rows_change, two_keys}
+use Rattle.msi_transform.proofs.PartsLemmas.{parts_suffice_in_turn}
 use Rattle.std.proofs.Common.{◌∙◌, ap, sym}
 use Rattle.std.specs.Prelude.{IfErr}
 use Rattle.std.proofs.lemmas.Result.{on_ok_weaker}
