@@ -8,3 +8,5 @@ pub mod RowStreamsLemmas
 pub mod TablesByNameLemmas
 pub mod TextsAloneLemmas
 pub mod ToldValuesLemmas
+pub mod RowChangesLemmas
+pub mod PartsLemmas
