@@ -18,12 +18,12 @@ pub put_refused : {A B : Type 0} {given : ℤ} (x : B) (name : List ℕ) (t : Ta
     → all ≡ columns → given ≡ number → Err k ≡ unless_refused (new_column_refusals t.standing all given column) x → IsErrAnd r (λ e. e ≡ k) → IfErr r (IsRefusal (column_put name t columns column number row s))
 put_refused {B = B} x name t columns all column number row s r k same whole refused is =
     let e : ◌≡◌ {A = Result B ErrorKind} (Err k) (unless_refused (new_column_refusals t.standing columns number column) x) =
-        subst (λ (cs : List ColumnDef). ◌≡◌ {A = Result B ErrorKind} (Err k) (unless_refused (new_column_refusals t.standing cs number column) x)) same
-        (subst (λ (n : ℤ). ◌≡◌ {A = Result B ErrorKind} (Err k) (unless_refused (new_column_refusals t.standing all n column) x)) whole refused) in
+    subst (λ (cs : List ColumnDef). ◌≡◌ {A = Result B ErrorKind} (Err k) (unless_refused (new_column_refusals t.standing cs number column) x)) same
+    (subst (λ (n : ℤ). ◌≡◌ {A = Result B ErrorKind} (Err k) (unless_refused (new_column_refusals t.standing all n column) x)) whole refused) in
     err_passed r k (column_put name t columns column number row s) is
     (goes_on-Err (unless_refused (new_column_refusals t.standing columns number column) s)
-      (λ s. or_refused InvalidInput (in_turn (cell_put true) s.pool row) >>= λ r. Ok (with_column name t column number s r)) k
-      (inr (refusals-Err (new_column_refusals t.standing columns number column) x s k e)))
+    (λ s. or_refused InvalidInput (in_turn (cell_put true) s.pool row) >>= λ r. Ok (with_column name t column number s r)) k
+    (inr (refusals-Err (new_column_refusals t.standing columns number column) x s k e)))
 
 module _ (change : SchemaChange) (row : List Value) (s : SchemaInHand) (name : List ℕ) where
   abbrev added_to : TableInHand → Result SchemaInHand ErrorKind
@@ -46,9 +46,9 @@ module _ (change : SchemaChange) (row : List Value) (s : SchemaInHand) (name : L
       → added_to t ≡ numbered_column_added change table told column number values s
   steps_at t told table column number values f =
       let known : added_to t ≡ numbered_column_added change name (table_with (counted_on (value_at 1 row) t.standing) t.added) column
-          (number_told t.standing (length (columns_in_hand change.database name t)) (value_at 1 row))
-          (describing_row name (number_told t.standing (length (columns_in_hand change.database name t)) (value_at 1 row)) (value_at 2 row) (value_at 3 row)) s
-          = rw (f.there, f.column_is) refl in
+      (number_told t.standing (length (columns_in_hand change.database name t)) (value_at 1 row))
+      (describing_row name (number_told t.standing (length (columns_in_hand change.database name t)) (value_at 1 row)) (value_at 2 row) (value_at 3 row)) s
+      = rw (f.there, f.column_is) refl in
       known ∙ sym (rw (f.values_are, f.number_is, f.table_is, f.told_is) refl)
 
   -- what a column that is told does, with its number

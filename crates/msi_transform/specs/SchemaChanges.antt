@@ -302,7 +302,8 @@ was_dropped s (Int n) = false
 was_dropped s Binary = false
 
 -- a record of `_Columns`
-abbrev pub describing_applied : SchemaChange → List Shape → SchemaInHand → Record → Action → Result SchemaInHand ErrorKind
+abbrev pub describing_applied : SchemaChange → List Shape → SchemaInHand → Record → Action
+    → Result SchemaInHand ErrorKind
 describing_applied change shapes s r Remove = unless_refused
     ((not (was_dropped s (value_at 0 (record_key change.by shapes r))), InvalidInput) ∷ []) s
 describing_applied change shapes s r (Change m) = Err InvalidInput

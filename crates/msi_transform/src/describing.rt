@@ -16,8 +16,10 @@ ghost use Rattle.msi_transform.specs.InHand.{in_hand};
 ghost use Rattle.msi_transform.specs.SchemaChanges.{column_added, column_put, column_record_applied, column_row_added};
 ghost use Rattle.msi_transform.specs.SchemaChanges.{column_told as told_column, columns_in_hand, numbered_column_added};
 ghost use Rattle.msi_transform.specs.SchemaChanges.{counted_on as counted, describing_row as row_of};
-ghost use Rattle.msi_transform.specs.SchemaChanges.{has_number as is_taken, is_described as is_told, is_next as follows};
-ghost use Rattle.msi_transform.specs.SchemaChanges.{new_column_refusals, next_number as following, number_told as told_number};
+ghost use Rattle.msi_transform.specs.SchemaChanges.{has_number as is_taken, is_described as is_told};
+ghost use Rattle.msi_transform.specs.SchemaChanges.{is_next as follows};
+ghost use Rattle.msi_transform.specs.SchemaChanges.{new_column_refusals, next_number as following};
+ghost use Rattle.msi_transform.specs.SchemaChanges.{number_told as told_number};
 ghost use Rattle.msi_transform.specs.SchemaChanges.{old_column_refusals, was_dropped as was_away, with_table};
 ghost use Rattle.msi_transform.specs.TablesInHand.{HasSmallNumber, IsNextSmall, most_added, most_numbers, table_with};
 ghost use Rattle.msi_transform.specs.Transforms.{record_key, value_in};
@@ -255,7 +257,8 @@ impl<'a> SchemaChange<'a> {
         ensures ok { let t = table_with told.entry.standing told.entry.added in
             let described = is_told (in_hand hand.old) told.entry.table.now told.entry.number told.entry.row in
             let refusals = old_column_refusals self.now described in
-            OnOk result (unless_refused refusals (with_table told.entry.table.now t (in_hand hand.old)) ≡ Ok (in_hand hand.new)) }
+            let put = unless_refused refusals (with_table told.entry.table.now t (in_hand hand.old)) in
+            OnOk result (put ≡ Ok (in_hand hand.new)) }
         ensures kind { let t = table_with told.entry.standing told.entry.added in
             let described = is_told (in_hand hand.old) told.entry.table.now told.entry.number told.entry.row in
             let refusals = old_column_refusals self.now described in
@@ -285,12 +288,14 @@ impl<'a> SchemaChange<'a> {
         requires number { IsNextSmall told.number told.standing }
         ensures ok { let t = table_with told.entry.standing told.entry.added in
             let columns = columns_in_hand self.now.database told.entry.table.now t in
-            OnOk result (column_put told.entry.table.now t columns told.entry.column told.entry.number told.entry.row (in_hand hand.old)
+            let s = in_hand hand.old in OnOk result
+            (column_put told.entry.table.now t columns told.entry.column told.entry.number told.entry.row s
             ≡ Ok (in_hand hand.new)) }
         ensures kind { let t = table_with told.entry.standing told.entry.added in
             let columns = columns_in_hand self.now.database told.entry.table.now t in
             let s = in_hand hand.old in
-            IfErr result (IsRefusal (column_put told.entry.table.now t columns told.entry.column told.entry.number told.entry.row s)) }
+            IfErr result (IsRefusal
+            (column_put told.entry.table.now t columns told.entry.column told.entry.number told.entry.row s)) }
         ensures page { hand.new.pool.pool.page ≡ hand.old.pool.pool.page }
         ensures long { hand.new.pool.pool.long ≡ hand.old.pool.pool.long }
     {
@@ -362,12 +367,13 @@ impl<'a> SchemaChange<'a> {
         requires number { IsNextSmall told.number told.standing }
         ensures ok { let t = table_with told.entry.standing told.entry.added in
             let s = in_hand hand.old in
-            OnOk result (numbered_column_added self.now told.entry.table.now t told.entry.column told.entry.number told.entry.row s
+            let table = told.entry.table.now in OnOk result
+            (numbered_column_added self.now table t told.entry.column told.entry.number told.entry.row s
             ≡ Ok (in_hand hand.new)) }
         ensures kind { let t = table_with told.entry.standing told.entry.added in
             let s = in_hand hand.old in
-            IfErr result (IsRefusal
-            (numbered_column_added self.now told.entry.table.now t told.entry.column told.entry.number told.entry.row s)) }
+            let table = told.entry.table.now in IfErr result (IsRefusal
+            (numbered_column_added self.now table t told.entry.column told.entry.number told.entry.row s)) }
         ensures page { hand.new.pool.pool.page ≡ hand.old.pool.pool.page }
         ensures long { hand.new.pool.pool.long ≡ hand.old.pool.pool.long }
     {

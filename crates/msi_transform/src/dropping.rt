@@ -31,11 +31,7 @@ use msi_table_cells::cell::ValueRef;
 use msi_table_values::column::Column;
 
 /// Gives the texts of the rows of keys back, of those that there are.
-fn release_at<'a>(
-    pool: &mut PoolInUse,
-    rows: &KeyedRows<'a>,
-    keys: &[Key<'a>],
-) -> Result<(), Error>
+fn release_at<'a>(pool: &mut PoolInUse, rows: &KeyedRows<'a>, keys: &[Key<'a>]) -> Result<(), Error>
     ensures ok { OnOk result (in_use pool.new ≡ released_at (entries rows.now) (in_use pool.old) keys.now) }
     ensures kind { OnlyMemory result }
     ensures page { pool.new.pool.page ≡ pool.old.pool.page }
@@ -183,7 +179,12 @@ impl<'a> SchemaChange<'a> {
         let rows = self.rows_of(name, table.standing())?;
         let columns = self.column_keys(table, name)?;
         let listing = Vec::from_array(self.alloc, [self.listing_key(name)?])?;
-        self.release_table(hand, rows.as_slice(), columns.as_slice(), listing.as_slice())?;
+        self.release_table(
+            hand,
+            rows.as_slice(),
+            columns.as_slice(),
+            listing.as_slice(),
+        )?;
         remove_keys(&mut hand.described, columns.as_slice());
         remove_keys(&mut hand.listed, listing.as_slice());
         self.drop_streams(&mut hand.streams, name, table.standing(), rows.as_slice())?;

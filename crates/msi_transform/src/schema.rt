@@ -131,8 +131,8 @@ impl TableInHand {
     }
 }
 
-/// The tables that records tell of, the rows of `_Tables` and of `_Columns`, the pool, and what becomes of streams, while
-/// a transform is applied. After a call that fails they may be in any state.
+/// The tables that records tell of, the rows of `_Tables` and of `_Columns`, the pool, and what becomes of streams,
+/// while a transform is applied. After a call that fails they may be in any state.
 #[derive(Drop)]
 pub struct SchemaInHand<'a> {
     /// The tables that records tell of.

@@ -120,11 +120,7 @@ impl<'a> SchemaChange<'a> {
     }
 
     /// Returns the first value of the key that a record tells: null where there is none.
-    pub(crate) fn key_name(
-        &self,
-        shapes: &[Shape],
-        record: &Record,
-    ) -> Result<ValueView<'a>, Error>
+    pub(crate) fn key_name(&self, shapes: &[Shape], record: &Record) -> Result<ValueView<'a>, Error>
         ensures ok { IfOk result (λ name.
             seen_value name ≡ value_at 0 (record_key self.now.by shapes.now «record».now)) }
         ensures kind { OnlyMemory result }
@@ -155,7 +151,12 @@ impl<'a> SchemaChange<'a> {
         ensures kind { OnlyMemory result }
     {
         let columns = validation_columns(self.alloc)?;
-        named_table(self.alloc, VALIDATION, columns, self.pool.long_string_refs())
+        named_table(
+            self.alloc,
+            VALIDATION,
+            columns,
+            self.pool.long_string_refs(),
+        )
     }
 
     fn has_unlisted_rows(&self) -> Result<bool, Error>

@@ -15,12 +15,12 @@ pub returns-in-Some-table_rows-clause-ok : goal.returns-in-Some-table_rows-claus
 returns-in-Some-table_rows-clause-ok c = let p = c.self.inside in let t = c.in-Some.table.now in
     IfOk-weaker c.all.result _ _ (λ rows is. is
     ∙ rows_found p.pool.now p.tables.now (entries p.streams.now) c.args.name.now t (Some c.in-Some-table_rows.rows.rows) c.self.invariant.1 c.in-Some.ensures.found
-      (some_read t.columns (stored_rows (entries p.streams.now) t.long t.columns t.name) c.in-Some-table_rows.rows c.in-Some-table_rows.ensures)
+    (some_read t.columns (stored_rows (entries p.streams.now) t.long t.columns t.name) c.in-Some-table_rows.rows c.in-Some-table_rows.ensures)
     ∙ ap (λ (d : SchemaChange). rows_at d.database c.args.name.now) c.self.view_is) c.all.ensures.ok
 
 pub returns-in-None-clause-ok : goal.returns-in-None-clause-ok
 returns-in-None-clause-ok c = let p = c.self.inside in let t = c.in-Some.table.now in
     c.new-in-None.ensures.items
     ∙ rows_found p.pool.now p.tables.now (entries p.streams.now) c.args.name.now t None c.self.invariant.1 c.in-Some.ensures.found
-      (none_read t.columns (stored_rows (entries p.streams.now) t.long t.columns t.name) c.in-None.ensures)
+    (none_read t.columns (stored_rows (entries p.streams.now) t.long t.columns t.name) c.in-None.ensures)
     ∙ ap (λ (d : SchemaChange). rows_at d.database c.args.name.now) c.self.view_is
