@@ -1,2 +1,13 @@
 pub mod ApplyingRows
 pub mod MakingRows
+pub mod ColumnKeysLemmas
+pub mod ColumnStepsLemmas
+pub mod InHandLemmas
+pub mod KeyedRowsLemmas
+pub mod PackagePartsLemmas
+pub mod RowStreamsLemmas
+pub mod TablesByNameLemmas
+pub mod TextsAloneLemmas
+pub mod ToldValuesLemmas
+pub mod RowChangesLemmas
+pub mod PartsLemmas

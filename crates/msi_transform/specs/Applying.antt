@@ -33,6 +33,7 @@ use Rattle.msi_database_storage.specs.Widening.{streams_widened}
 use Rattle.msi_transform_records.specs.declared.records.Record.{Record}
 use Rattle.msi_transform_records.specs.declared.shape.Shape.{Shape}
 use Rattle.msi_transform_records.specs.Records.{leading, records_in}
+pub use Rattle.msi_transform.specs.RecordRefusals.{◌>>=◌, Refusal, RecordPlace, at_record, in_turn_from, nowhere}
 use Rattle.msi_transform.specs.Transforms.{TransformDef, records_for, shapes_of, tables_of_rows}
 use Rattle.msi_transform.specs.RowStreams.{brought, has_streams, is_of_streams, row_stream, row_stream_gone}
 use Rattle.msi_transform.specs.RowChanges.{Rows, RowsInHand, TableChange, by_key, keyed, record_applied}
@@ -43,38 +44,6 @@ use Rattle.msi_transform.specs.declared.conditions.ErrorConditions.{ErrorConditi
 use Rattle.msi_transform.specs.declared.row.RowInHand.{RowInHand}
 use Rattle.msi_transform.specs.declared.row.RowStream.{RowStream}
 use Rattle.msi_transform.specs.declared.row.RowStream.TheVariants.{AsBefore, Gone, Brought}
-
--- REFUSALS AND THEIR PLACES
-
--- a record by the place of its table among those of the transform, and by its own among the table's, from 0 on
-pub record RecordPlace : Type 0 where
-  pub table : ℕ
-  pub record_number : ℕ
-
-pub record Refusal : Type 0 where
-  pub kind : ErrorKind
-  pub place : Option RecordPlace
-
--- steps that each may be refused
-infixl 10 ◌>>=◌
-abbrev pub ◌>>=◌ : {A B : Type 0} → Result A Refusal → (A → Result B Refusal) → Result B Refusal
-(Ok x) >>= f = f x
-(Err refusal) >>= f = Err refusal
-
--- what is refused at no record, and at this one
-abbrev pub nowhere : {A : Type 0} → Result A ErrorKind → Result A Refusal
-nowhere (Ok x) = Ok x
-nowhere (Err kind) = Err (record { kind = kind; place = None })
-
-abbrev pub at_record : {A : Type 0} → ℕ → ℕ → Result A ErrorKind → Result A Refusal
-at_record table n (Ok x) = Ok x
-at_record table n (Err kind) = Err (record { kind = kind; place = Some (record { table = table; record_number = n }) })
-
--- records in turn, the first of which has the number n
-abbrev pub in_turn_from : {S : Type 0} → ℕ → (S → Record → Result S ErrorKind) → ℕ → S → List Record → Result S Refusal
-in_turn_from table step n s [] = Ok s
-in_turn_from table step n s (r ∷ rs) =
-    at_record table n (step s r) >>= λ s. in_turn_from table step (n + 1) s rs
 
 -- a table's records, all read before the first is applied
 abbrev pub read_for : ℕ → TransformDef → List ColumnDef → List ℕ → Result (List Record) Refusal

@@ -1,5 +1,6 @@
 -- The streams of rows: a row with cells of streams has one, whose name is the table's and the key's values.
 use Rattle.std.specs.Prelude.{ℕ, Bool, true, false, List, [], ◌∷◌, ◌++◌, Option, Some, None, option_and_then, unwrap_or}
+use Rattle.std.specs.Prelude.{map, slice_get, zip}
 use Rattle.std.specs.Prelude.{if◌then◌else◌, Result, Ok, Err}
 use Rattle.std.specs.List.{flat_map, list_any}
 use Rattle.std.specs.Fmt.{signed_decimal}
@@ -12,7 +13,7 @@ use Rattle.msi_table_values.specs.declared.value.Value.{Value}
 use Rattle.msi_table_values.specs.declared.value.Value.TheVariants.{Null, Int, Str, Binary}
 use Rattle.msi_table_values.specs.declared.column.ColumnType.{ColumnType}
 use Rattle.msi_table_values.specs.declared.column.ColumnType.TheVariants as coltype
-use Rattle.msi_table_values.specs.Columns.{ColumnDef}
+use Rattle.msi_table_values.specs.Columns.{ColumnDef, types_of}
 use Rattle.msi_database_schema.specs.Keys.{is_stream_name, stream_key}
 use Rattle.msi_database_changes.specs.declared.storing.Stored.{Stored}
 use Rattle.msi_database_storage.specs.Streams.{stream_at}
@@ -40,21 +41,41 @@ abbrev pub stream_text : List ℕ → List Value → List ℕ
 stream_text table key = table ++ flat_map (λ v. 46 ∷ key_text v) key
 
 -- the container's name of a row's stream; none where no stream may have it
+abbrev pub name_of_text : List ℕ → Option (List ℕ)
+name_of_text text = if is_stream_name text then Some (stream_key text) else None
+
 abbrev pub row_stream : List ℕ → List Value → Option (List ℕ)
-row_stream table key = let text = stream_text table key in if is_stream_name text then Some (stream_key text) else None
+row_stream table key = name_of_text (stream_text table key)
 
 -- the stream that the transform has for a row
 abbrev pub brought : TransformDef → List ℕ → List Value → Option (List ℕ)
 brought t table key = option_and_then (λ name. stream_at name t.streams) (row_stream table key)
 
--- what a row's cells of streams say: a stream comes where one of them isn't null
+-- What a row's cells of streams say: a stream comes where one of them isn't null
+abbrev pub is_stream : ValueRef → Bool
+is_stream cell.Binary = true
+is_stream cell.Null = false
+is_stream (cell.Int n) = false
+is_stream (cell.Str number) = false
+
+-- of one cell, where the others say so much
+abbrev pub told_beside : Option RowStream → ColumnType × ValueRef → Option RowStream
+told_beside others e = if is_of_streams e.0
+    then Some (if is_stream e.1 then Brought else unwrap_or others Gone) else others
+
 abbrev pub told_stream : List (ColumnType × ValueRef) → Option RowStream
 told_stream [] = None
-told_stream ((coltype.Binary, cell.Binary) ∷ cells) = Some Brought
-told_stream ((coltype.Binary, c) ∷ cells) = Some (unwrap_or (told_stream cells) Gone)
-told_stream ((coltype.Int16, c) ∷ cells) = told_stream cells
-told_stream ((coltype.Int32, c) ∷ cells) = told_stream cells
-told_stream ((coltype.Str n, c) ∷ cells) = told_stream cells
+told_stream (e ∷ cells) = told_beside (told_stream cells) e
+
+-- of the cells of a whole row, and of cells that are each behind the number of their column
+abbrev pub told_by_row : List ColumnDef → List ValueRef → Option RowStream
+told_by_row columns cells = told_stream (zip (types_of columns) cells)
+
+abbrev pub type_in : List ColumnDef → ℕ → ColumnType
+type_in columns i = unwrap_or (slice_get (types_of columns) i) coltype.Int16
+
+abbrev pub told_by_changes : List ColumnDef → List (ℕ × ValueRef) → Option RowStream
+told_by_changes columns told = told_stream (map (λ e. (type_in columns e.0, e.1)) told)
 
 -- the stream of a row becomes these bytes, or goes
 abbrev pub stored_as : Option (List ℕ) → Option (List ℕ) → List Stored

@@ -1,5 +1,5 @@
 -- What a transform's records of `_Tables` and `_Columns` do: tables go and come, and get columns.
-use Rattle.std.specs.Prelude.{ℕ, ℤ, pos, negsuc, ◌+◌, Bool, true, false, not, List, [], ◌∷◌, ◌++◌, map, length}
+use Rattle.std.specs.Prelude.{ℕ, ℤ, pos, int_le, int_lt, ◌+◌, Bool, true, false, not, List, [], ◌∷◌, ◌++◌, map, length}
 use Rattle.std.specs.Prelude.{Option, Some, None, option_map, unwrap_or, if◌then◌else◌, nat_le, nat_lt, bytes_eq}
 use Rattle.std.specs.Prelude.{◌&&◌, ◌||◌, ◌==◌, filter_map, Result, Ok, Err}
 use Rattle.std.specs.Int.{w16, cast_unsigned}
@@ -18,12 +18,16 @@ use Rattle.msi_table_values.specs.declared.value.Value.{Value}
 use Rattle.msi_table_values.specs.declared.value.Value.TheVariants.{Null, Int, Str, Binary}
 use Rattle.msi_table_values.specs.Columns.{ColumnDef, begun_column, column_of_bits, has_column}
 use Rattle.msi_database_schema.specs.Keys.{is_table_name, table_key}
-use Rattle.msi_database_schema.specs.Schema.{value_at}
+use Rattle.msi_database_schema.specs.Schema.{is_of_16_bits, value_at}
 use Rattle.msi_database_schema.specs.System.{is_schema_table, validation_name}
 use Rattle.msi_database_changes.specs.Database.{Database, has_table, rows_of, table_at}
 use Rattle.msi_database_changes.specs.Texts.{PoolInUse, cell_put, cell_released, in_turn, rows_released}
 use Rattle.msi_database_changes.specs.declared.storing.Stored.{Stored}
+use Rattle.msi_database_storage.specs.Kept.{database_kept}
 use Rattle.msi_database_storage.specs.Storing.{stream_gone}
+use Rattle.msi_database_storage.specs.Streams.{Streams}
+use Rattle.msi_pool.specs.Pool.{Pool}
+use Rattle.msi_table.specs.Tables.{TableDef}
 use Rattle.msi_transform_records.specs.declared.records.Record.{Record}
 use Rattle.msi_transform_records.specs.declared.action.Action.{Action}
 use Rattle.msi_transform_records.specs.declared.action.Action.TheVariants.{Add, Remove, Change}
@@ -31,19 +35,13 @@ use Rattle.msi_transform_records.specs.declared.shape.Shape.{Shape}
 use Rattle.msi_transform_records.specs.RecordCells.{added_cells}
 use Rattle.msi_transform.specs.Transforms.{TransformDef, record_key, value_in}
 use Rattle.msi_transform.specs.RowStreams.{has_streams, row_stream_gone}
+pub use Rattle.msi_transform.specs.TablesInHand.{TableInHand}
 use Rattle.msi_transform.specs.RowChanges.{Rows, row_at, with_row_at, without_row_at}
 use Rattle.msi_transform.specs.declared.conditions.ErrorConditions.{ErrorConditions}
 use Rattle.msi_transform.specs.declared.row.RowInHand.{RowInHand}
 use Rattle.msi_transform.specs.declared.row.RowStream.TheVariants.{AsBefore}
 use Rattle.msi_transform.specs.declared.schema.Standing.{Standing}
 use Rattle.msi_transform.specs.declared.schema.Standing.TheVariants as stands
-
--- What the transform does to a table: how it stands, and the columns that are added to it.
--- It is kept from the package, or was found there when it was to be added, and then columns that are told without a
--- number have the numbers from 1 on; or it is added, or gone
-pub record TableInHand : Type 0 where
-  pub standing : Standing
-  pub added : List ColumnDef
 
 -- the tables that records tell of, the rows of `_Tables` and of `_Columns`, the pool, and what becomes of streams
 pub record SchemaInHand : Type 0 where
@@ -58,6 +56,17 @@ pub record SchemaChange : Type 0 where
   pub database : Database
   pub by : TransformDef
   pub passing : ErrorConditions
+
+-- the same of a package's parts, as far as its tables and columns go: of the transform that takes the texts alone
+abbrev pub texts_alone : Pool → TransformDef
+texts_alone pool = record { page_id = 0; pool = pool; tables = []; streams = [] }
+
+abbrev pub change_over : Pool → List TableDef → Streams → Pool → ErrorConditions → SchemaChange
+change_over pool tables streams texts passing = record {
+  database = database_kept pool tables streams;
+  by = texts_alone texts;
+  passing = passing;
+}
 
 -- how a table of a name stands, told of or not
 abbrev pub untold_table : Database → List ℕ → TableInHand
@@ -197,31 +206,31 @@ text_told Null = None
 text_told (Int n) = None
 text_told Binary = None
 
--- a column as its row of `_Columns` tells it: nothing without a name, or where the bits are no type
+-- a column as its row of `_Columns` tells it: nothing without a name, or where the bits, which are 16, are no type
 abbrev pub column_told : Value → Value → Option ColumnDef
-column_told (Str name) (Int bits) = if length name == 0 then None
+column_told (Str name) (Int bits) = if (length name == 0) || not (is_of_16_bits bits) then None
     else column_of_bits (begun_column name) (cast_unsigned w16 bits)
 column_told _ _ = None
 
-abbrev pub next_number : Standing → List ColumnDef → ℕ
-next_number (stands.Found next) columns = next
-next_number stands.Kept columns = length columns + 1
-next_number stands.Added columns = length columns + 1
-next_number stands.Gone columns = length columns + 1
+abbrev pub next_number : Standing → ℕ → ℕ
+next_number (stands.Found next) count = next
+next_number stands.Kept count = count + 1
+next_number stands.Added count = count + 1
+next_number stands.Gone count = count + 1
 
-abbrev pub number_told : Standing → List ColumnDef → Value → ℤ
-number_told standing columns (Int n) = n
-number_told standing columns _ = pos (next_number standing columns)
+-- the number of a column that comes to so many
+abbrev pub number_told : Standing → ℕ → Value → ℤ
+number_told standing count (Int n) = n
+number_told standing count _ = pos (next_number standing count)
 
 -- where a table was found, the next column without a number has the next one
 abbrev pub counted_on : Value → Standing → Standing
 counted_on Null (stands.Found next) = stands.Found (next + 1)
 counted_on number standing = standing
 
--- whether columns have one of this number, from 1 on
-abbrev pub has_number : List ColumnDef → ℤ → Bool
-has_number columns (pos n) = nat_lt 0 n && nat_le n (length columns)
-has_number columns (negsuc n) = false
+-- whether one of so many columns has this number, from 1 on
+abbrev pub has_number : ℕ → ℤ → Bool
+has_number count number = int_lt (pos 0) number && int_le number (pos count)
 
 -- the row that describes a column, and whether `_Columns` has it
 abbrev pub describing_row : List ℕ → ℤ → Value → Value → List Value
@@ -237,11 +246,11 @@ abbrev pub old_column_refusals : SchemaChange → Bool → Refusals
 old_column_refusals change described =
     (not described, InvalidInput) ∷ (not change.passing.added_table_exists, AlreadyExists) ∷ []
 
-abbrev pub is_next : ℤ → List ColumnDef → Bool
-is_next number columns = is_eq (int_cmp number (pos (length columns + 1)))
+abbrev pub is_next : ℕ → ℤ → Bool
+is_next count number = is_eq (int_cmp number (pos (count + 1)))
 
 abbrev pub new_column_refusals : Standing → List ColumnDef → ℤ → ColumnDef → Refusals
-new_column_refusals standing columns number column = (not (is_next number columns), InvalidData)
+new_column_refusals standing columns number column = (not (is_next (length columns) number), InvalidData)
     ∷ (has_column column.name columns, InvalidData)
     ∷ (column.is_primary_key && not (is_added standing), InvalidInput)
     ∷ (nat_le 32 (length columns), InvalidInput) ∷ []
@@ -267,7 +276,7 @@ abbrev pub numbered_column_added : SchemaChange → List ℕ → TableInHand →
     → Result SchemaInHand ErrorKind
 numbered_column_added change name t column number row s =
     let columns = columns_in_hand change.database name t in
-    if has_number columns number
+    if has_number (length columns) number
     then unless_refused (old_column_refusals change (is_described s name number row)) (with_table name t s)
     else column_put name t columns column number row s
 
@@ -275,12 +284,15 @@ numbered_column_added change name t column number row s =
 abbrev pub column_added : SchemaChange → List Value → SchemaInHand → List ℕ → Result SchemaInHand ErrorKind
 column_added change row s name =
     let t = table_in_hand change.database s name in
-    let number = number_told t.standing (columns_in_hand change.database name t) (value_at 1 row) in
+    let number = number_told t.standing (length (columns_in_hand change.database name t)) (value_at 1 row) in
     unless_refused ((is_gone t.standing, NotFound) ∷ []) s >>=
     λ s. or_refused InvalidData (column_told (value_at 2 row) (value_at 3 row)) >>=
     λ column. numbered_column_added change name
     (record { standing = counted_on (value_at 1 row) t.standing; added = t.added })
     column number (describing_row name number (value_at 2 row) (value_at 3 row)) s
+
+abbrev pub column_row_added : SchemaChange → List Value → SchemaInHand → Result SchemaInHand ErrorKind
+column_row_added change row s = or_refused NotFound (text_told (value_at 0 row)) >>= column_added change row s
 
 -- the rows of a table that the transform has dropped are gone
 abbrev pub was_dropped : SchemaInHand → Value → Bool
@@ -290,12 +302,13 @@ was_dropped s (Int n) = false
 was_dropped s Binary = false
 
 -- a record of `_Columns`
-abbrev pub describing_applied : SchemaChange → List Shape → SchemaInHand → Record → Action → Result SchemaInHand ErrorKind
+abbrev pub describing_applied : SchemaChange → List Shape → SchemaInHand → Record → Action
+    → Result SchemaInHand ErrorKind
 describing_applied change shapes s r Remove = unless_refused
     ((not (was_dropped s (value_at 0 (record_key change.by shapes r))), InvalidInput) ∷ []) s
 describing_applied change shapes s r (Change m) = Err InvalidInput
-describing_applied change shapes s r (Add k) = let row = map (value_in change.by) (added_cells shapes r) in
-    or_refused NotFound (text_told (value_at 0 row)) >>= column_added change row s
+describing_applied change shapes s r (Add k) =
+    column_row_added change (map (value_in change.by) (added_cells shapes r)) s
 
 abbrev pub column_record_applied : SchemaChange → List Shape → SchemaInHand → Record → Result SchemaInHand ErrorKind
 column_record_applied change shapes s r = describing_applied change shapes s r r.action

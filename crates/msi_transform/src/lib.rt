@@ -2,7 +2,21 @@
 #![tactic(auto)]
 
 pub mod conditions;
+mod describing;
+mod dropping;
+pub mod keyed;
+mod listing;
+mod reasons;
+pub mod refusal;
 pub mod row;
+pub mod row_changes;
+pub mod row_streams;
+pub mod rows_in_hand;
 pub mod schema;
+pub mod schema_change;
+mod schema_records;
+pub mod table_change;
+pub mod tables_by_name;
 
 pub use conditions::ErrorConditions;
+pub use refusal::{RecordPlace, Refusal};
