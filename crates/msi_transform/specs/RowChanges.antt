@@ -1,6 +1,6 @@
 -- What the records of a transform do to the rows of a table.
-use Rattle.std.specs.Prelude.{ℕ, ◌+◌, Bool, true, false, not, List, [], ◌∷◌, ◌++◌, map, filter, zip, length, Option, Some, None}
-use Rattle.std.specs.Prelude.{option_map, option_and_then, unwrap_or, if◌then◌else◌, nat_lt, Result, Ok, Err}
+use Rattle.std.specs.Prelude.{ℕ, ◌+◌, true, not, List, [], ◌∷◌, ◌++◌, map, filter, zip, length, Option, Some}
+use Rattle.std.specs.Prelude.{option_and_then, unwrap_or, if◌then◌else◌, nat_lt, Result, Ok}
 use Rattle.std.specs.List.{fold}
 use Rattle.std.specs.Option.{option_map_or}
 use Rattle.std.specs.FinMap.{find, put}
@@ -31,7 +31,7 @@ use Rattle.msi_transform.specs.RowStreams.{has_streams, is_of_streams, row_strea
 use Rattle.msi_transform.specs.declared.conditions.ErrorConditions.{ErrorConditions}
 use Rattle.msi_transform.specs.declared.row.RowInHand.{RowInHand}
 use Rattle.msi_transform.specs.declared.row.RowStream.{RowStream}
-use Rattle.msi_transform.specs.declared.row.RowStream.TheVariants.{AsBefore, Gone, Brought}
+use Rattle.msi_transform.specs.declared.row.RowStream.TheVariants.{AsBefore}
 
 -- rows by their keys, in the order of keys
 abbrev pub Rows : Type 0

@@ -28,10 +28,8 @@ pub struct KeyedRows<'a> {
 }
 
 impl<'a> Model for KeyedRows<'a> {
-    ghost use Rattle.std.specs.Prelude.{List};
     ghost use Rattle.std.specs.Coded.{codes};
     ghost use Rattle.std.specs.FinMap as finite;
-    ghost use Rattle.msi_table_values.specs.declared.value.Value.{Value as ValueOf};
     ghost use Rattle.msi_transform.specs.KeyOfRows.{key_cmp};
     ghost use Rattle.msi_transform.specs.declared.row.RowInHand.{RowInHand};
 

@@ -40,9 +40,7 @@ pub(crate) fn is_of_streams(coltype: ColumnType) -> bool
 pub fn has_streams(columns: &[Column]) -> bool
     ensures { result ≡ some_stream columns.now }
 {
-    columns
-        .iter()
-        .any(|column| is_of_streams(column.coltype()))
+    columns.iter().any(|column| is_of_streams(column.coltype()))
 }
 
 fn push_key_value(text: &mut String, value: ValueView) -> Result<(), AllocError>
@@ -155,11 +153,7 @@ fn stream_named<'a>(streams: &'a StreamMap, name: &Option<Name>) -> Option<&'a B
 }
 
 /// Returns a copy of the bytes of a stream. Fails with `NotFound` if there is none.
-fn copied_stream(
-    alloc: Global,
-    streams: &StreamMap,
-    name: &Option<Name>,
-) -> Result<Bytes, Error>
+fn copied_stream(alloc: Global, streams: &StreamMap, name: &Option<Name>) -> Result<Bytes, Error>
     ensures ok { IfOk result (λ bytes.
         option_and_then (λ name. stream_at name (entries streams.now)) name.now ≡ Some bytes) }
     ensures kind { let bytes = option_and_then (λ name. stream_at name (entries streams.now)) name.now in
