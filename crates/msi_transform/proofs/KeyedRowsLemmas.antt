@@ -11,12 +11,10 @@ use Rattle.std.specs.FinMap.Entries.{below_all, find, find-where_key, is_some-fi
 use Rattle.std.specs.List.Sorted.{IsStrictlySortedBy}
 use Rattle.std.specs.Map.{keys_of, lookup}
 use Rattle.std.specs.Ordering.{eq_by_cmp, is_lt}
-use Rattle.std.specs.declared.cmp.Ordering.{Ordering}
 use Rattle.std.specs.declared.cmp.Ordering.TheVariants.{Less}
 use Rattle.std.proofs.lemmas.Bool.{or_right}
 use Rattle.std.proofs.lemmas.List.{append_assoc}
 use Rattle.msi_base.specs.Lists.{has_pair}
-use Rattle.msi_base.proofs.BoolLemmas.{or_first}
 use Rattle.msi_table_values.specs.declared.value.Value.{Value}
 use Rattle.msi_table_values.specs.OrderLaws.{value_cmp-total, values_tie}
 use Rattle.msi_table_cells.specs.KeyOrder.{same_key}

@@ -1,9 +1,8 @@
 -- Records are applied to rows by the pool and the streams of a transform alone.
 use Rattle.std.proofs.Common.{◌≡◌, ℕ, true, not, List, [], ◌∷◌, refl}
-use Rattle.std.specs.Prelude.{Option, Ok, Result, option_and_then, unwrap_or}
+use Rattle.std.specs.Prelude.{Ok, option_and_then, unwrap_or}
 use Rattle.std.specs.Option.{option_map_or}
-use Rattle.msi_base.specs.declared.errors.ErrorKind.{ErrorKind}
-use Rattle.msi_base.specs.declared.errors.ErrorKind.TheVariants.{AlreadyExists, InvalidInput, NotFound}
+use Rattle.msi_base.specs.declared.errors.ErrorKind.TheVariants.{InvalidInput, NotFound}
 use Rattle.msi_base.specs.Refusals.{or_refused, unless_refused, ◌>>=◌}
 use Rattle.msi_table_cells.specs.declared.cell.ValueRef.{ValueRef}
 use Rattle.msi_table_values.specs.declared.value.Value.{Value}
@@ -16,7 +15,7 @@ use Rattle.msi_transform_records.specs.RecordCells.{added_cells, changes_of_reco
 use Rattle.msi_transform.specs.Transforms.{TransformDef, record_key, shapes_of}
 use Rattle.msi_transform.specs.RowStreams.{row_stream_stored, told_by_changes, told_by_row}
 use Rattle.msi_transform.specs.RowChanges.{RowsInHand, TableChange, action_applied, cell_changed, cells_changed, parts_for_rows, pool_for, record_applied, row_added, row_at, row_changed, values_told, with_changes, with_row}
-use Rattle.msi_transform.specs.RecordRefusals.{Refusal, in_turn_from}
+use Rattle.msi_transform.specs.RecordRefusals.{in_turn_from}
 use Rattle.msi_transform.specs.declared.conditions.ErrorConditions.{ErrorConditions}
 use Rattle.msi_transform.specs.declared.row.RowInHand.{RowInHand}
 use Rattle.msi_transform.specs.declared.row.RowStream.{RowStream}

@@ -1,6 +1,6 @@
 -- Records applied to rows: rows that aren't there, cells one after the other, and what is refused on the way.
 use Rattle.std.proofs.Common.{◌≡◌, ℕ, ◌+◌, ◌<◌, Bool, true, false, cond, not, List, [], ◌∷◌, length, drop, get_or, refl, sym, ap, subst, ◌∙◌, inl, inr}
-use Rattle.std.specs.Prelude.{Option, None, Some, Result, Ok, Err, OnOk, T, is_some, option_and_then}
+use Rattle.std.specs.Prelude.{Option, None, Some, Result, Ok, OnOk, T, is_some, option_and_then}
 use Rattle.std.specs.FinMap.Entries.{find}
 use Rattle.std.specs.Option.{option_map_or}
 use Rattle.std.specs.Ordering.{eq_by_cmp}

@@ -1,5 +1,5 @@
 -- The streams of rows: their names, value by value, and what cells say of them, cell by cell.
-use Rattle.std.proofs.Common.{◌≡◌, ℕ, ◌+◌, ◌<◌, ◌≤◌, Bool, true, false, List, [], ◌∷◌, ◌++◌, length, map, drop, get_or, zip, refl, sym, ap, ◌∙◌, ◌⊎◌, inl, inr}
+use Rattle.std.proofs.Common.{◌≡◌, ℕ, ◌+◌, ◌<◌, ◌≤◌, Bool, true, false, List, [], ◌∷◌, ◌++◌, length, drop, get_or, zip, refl, sym, ap, ◌∙◌, ◌⊎◌, inl, inr}
 use Rattle.std.specs.Prelude.{Option, Some, None, unwrap_or, if◌then◌else◌}
 use Rattle.std.specs.FinMap.{FinMap, entries, get, get-entries}
 use Rattle.std.specs.List.{flat_map, fold}
@@ -13,7 +13,7 @@ use Rattle.msi_table_values.specs.Columns.{ColumnDef, types_of}
 use Rattle.msi_table_values.specs.Views.{seen_value}
 use Rattle.msi_database_changes.specs.Views.{seen_row}
 use Rattle.msi_database_storage.specs.Streams.{stream_at}
-use Rattle.msi_transform.specs.RowStreams.{is_of_streams, is_stream, key_text, stream_text, told_beside, told_stream}
+use Rattle.msi_transform.specs.RowStreams.{is_of_streams, is_stream, key_text, told_beside, told_stream}
 use Rattle.msi_transform.specs.declared.row.RowStream.{RowStream}
 use Rattle.msi_transform.specs.declared.row.RowStream.TheVariants.{Gone, Brought}
 

@@ -1,6 +1,6 @@
 -- What the records of a transform do to the rows of a table.
-use Rattle.std.specs.Prelude.{ℕ, ◌+◌, Bool, true, false, not, List, [], ◌∷◌, ◌++◌, map, filter, zip, length, Option, Some, None}
-use Rattle.std.specs.Prelude.{option_map, option_and_then, unwrap_or, if◌then◌else◌, nat_lt, Result, Ok, Err}
+use Rattle.std.specs.Prelude.{ℕ, ◌+◌, true, not, List, [], ◌∷◌, ◌++◌, map, filter, zip, length, Option, Some}
+use Rattle.std.specs.Prelude.{option_and_then, unwrap_or, if◌then◌else◌, nat_lt, Result, Ok}
 use Rattle.std.specs.List.{fold}
 use Rattle.std.specs.Option.{option_map_or}
 use Rattle.std.specs.FinMap.{find, put}
@@ -27,13 +27,14 @@ use Rattle.msi_transform_records.specs.declared.shape.Shape.{Shape}
 use Rattle.msi_transform_records.specs.RecordCells.{added_cells, changes_of_record}
 use Rattle.msi_transform.specs.KeyOfRows.{key_cmp}
 use Rattle.msi_transform.specs.Transforms.{TransformDef, record_key, shapes_of, value_in}
-use Rattle.msi_transform.specs.RowStreams.{has_streams, is_of_streams, row_stream_gone, row_stream_stored, told_by_changes, told_by_row, type_in}
+use Rattle.msi_transform.specs.RowStreams.{has_streams, is_of_streams, row_stream_gone, row_stream_stored}
+use Rattle.msi_transform.specs.RowStreams.{told_by_changes, told_by_row, type_in}
 use Rattle.msi_transform.specs.declared.conditions.ErrorConditions.{ErrorConditions}
 use Rattle.msi_transform.specs.declared.row.RowInHand.{RowInHand}
 use Rattle.msi_transform.specs.declared.row.RowStream.{RowStream}
-use Rattle.msi_transform.specs.declared.row.RowStream.TheVariants.{AsBefore, Gone, Brought}
+use Rattle.msi_transform.specs.declared.row.RowStream.TheVariants.{AsBefore}
 
--- rows by their keys, in the order of keys
+-- rows beside their keys, in the order of keys
 abbrev pub Rows : Type 0
 Rows = List (List Value × RowInHand)
 

@@ -1,7 +1,7 @@
 -- The streams of rows: a row with cells of streams has one, whose name is the table's and the key's values.
 use Rattle.std.specs.Prelude.{ℕ, Bool, true, false, List, [], ◌∷◌, ◌++◌, Option, Some, None, option_and_then, unwrap_or}
 use Rattle.std.specs.Prelude.{map, slice_get, zip}
-use Rattle.std.specs.Prelude.{if◌then◌else◌, Result, Ok, Err}
+use Rattle.std.specs.Prelude.{if◌then◌else◌, Result, Ok}
 use Rattle.std.specs.List.{flat_map, list_any}
 use Rattle.std.specs.Fmt.{signed_decimal}
 use Rattle.msi_base.specs.declared.errors.ErrorKind.{ErrorKind}

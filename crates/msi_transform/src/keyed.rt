@@ -7,7 +7,8 @@ ghost use Rattle.msi_base.specs.Results.{OnlyMemory};
 ghost use Rattle.msi_table_cells.specs.KeyOrder.{key_of, same_key};
 ghost use Rattle.msi_table_cells.specs.CellValues.{row_values};
 ghost use Rattle.msi_database_changes.specs.KeySets.{keys_of_rows};
-ghost use Rattle.msi_transform.specs.RowChanges.{by_key, cells_in_hand, cells_of, keyed, row_at, with_row_at, without_row_at};
+ghost use Rattle.msi_transform.specs.RowChanges.{by_key, cells_in_hand, cells_of, keyed};
+ghost use Rattle.msi_transform.specs.RowChanges.{row_at, with_row_at, without_row_at};
 
 use crate::row::RowInHand;
 use msi_base::errors::Error;
@@ -28,10 +29,8 @@ pub struct KeyedRows<'a> {
 }
 
 impl<'a> Model for KeyedRows<'a> {
-    ghost use Rattle.std.specs.Prelude.{List};
     ghost use Rattle.std.specs.Coded.{codes};
     ghost use Rattle.std.specs.FinMap as finite;
-    ghost use Rattle.msi_table_values.specs.declared.value.Value.{Value as ValueOf};
     ghost use Rattle.msi_transform.specs.KeyOfRows.{key_cmp};
     ghost use Rattle.msi_transform.specs.declared.row.RowInHand.{RowInHand};
 

@@ -1,6 +1,7 @@
 //! The streams of rows: a row with cells of streams has one, whose name is the table's and the key's values.
 
-ghost use Rattle.std.specs.Prelude.{◌≡◌, ◌++◌, ◌∷◌, IfErr, IfOk, OnOk, Ok, Some, option_and_then, option_copied, option_to_list, string_bytes};
+ghost use Rattle.std.specs.Prelude.{◌≡◌, ◌++◌, ◌∷◌, IfErr, IfOk, OnOk, Ok, Some, string_bytes};
+ghost use Rattle.std.specs.Prelude.{option_and_then, option_copied, option_to_list};
 ghost use Rattle.std.specs.FinMap.{entries};
 ghost use Rattle.msi_base.specs.Refusals.{IsRefusal, or_refused};
 ghost use Rattle.msi_base.specs.declared.errors.ErrorKind.TheVariants.{NotFound};
@@ -10,7 +11,8 @@ ghost use Rattle.msi_table_values.specs.Views.{seen_value};
 ghost use Rattle.msi_database_changes.specs.Views.{seen_row};
 ghost use Rattle.msi_transform.specs.RowStreams.{has_streams as some_stream, is_of_streams as holds_stream, key_text};
 ghost use Rattle.msi_transform.specs.RowStreams.{row_stream as name_of_stream, row_stream_gone, row_stream_stored};
-ghost use Rattle.msi_transform.specs.RowStreams.{name_of_text, stored_as, stream_text as text_of_stream, told_beside, type_in};
+ghost use Rattle.msi_transform.specs.RowStreams.{name_of_text, stored_as, stream_text as text_of_stream};
+ghost use Rattle.msi_transform.specs.RowStreams.{told_beside, type_in};
 ghost use Rattle.msi_transform.specs.RowStreams.{told_by_changes as told_of_changes, told_by_row as told_of_row};
 ghost use Rattle.msi_transform.specs.Transforms.{TransformDef};
 
@@ -40,9 +42,7 @@ pub(crate) fn is_of_streams(coltype: ColumnType) -> bool
 pub fn has_streams(columns: &[Column]) -> bool
     ensures { result ≡ some_stream columns.now }
 {
-    columns
-        .iter()
-        .any(|column| is_of_streams(column.coltype()))
+    columns.iter().any(|column| is_of_streams(column.coltype()))
 }
 
 fn push_key_value(text: &mut String, value: ValueView) -> Result<(), AllocError>
@@ -155,11 +155,7 @@ fn stream_named<'a>(streams: &'a StreamMap, name: &Option<Name>) -> Option<&'a B
 }
 
 /// Returns a copy of the bytes of a stream. Fails with `NotFound` if there is none.
-fn copied_stream(
-    alloc: Global,
-    streams: &StreamMap,
-    name: &Option<Name>,
-) -> Result<Bytes, Error>
+fn copied_stream(alloc: Global, streams: &StreamMap, name: &Option<Name>) -> Result<Bytes, Error>
     ensures ok { IfOk result (λ bytes.
         option_and_then (λ name. stream_at name (entries streams.now)) name.now ≡ Some bytes) }
     ensures kind { let bytes = option_and_then (λ name. stream_at name (entries streams.now)) name.now in

@@ -1,6 +1,6 @@
 //! A table to whose rows the records of a transform are applied.
 
-ghost use Rattle.std.specs.Prelude.{◌≡◌, IfErr, IfOk, Ok, map, option_to_list};
+ghost use Rattle.std.specs.Prelude.{◌≡◌, IfErr, IfOk, Ok, option_to_list};
 ghost use Rattle.std.specs.FinMap.{entries};
 ghost use Rattle.msi_base.specs.Refusals.{IsRefusal};
 ghost use Rattle.msi_base.specs.Results.{OnlyMemory};
@@ -87,7 +87,7 @@ impl<'a, 'b> TableChange<'a, 'b> {
     ) -> Result<TableChange<'a, 'b>, Error>
         ensures ok { let by = parts_for_rows pool.now (entries streams.now) in
             IfOk result (λ change. change
-                ≡ record { name = name.now; columns = columns.now; by = by; passing = passing }) }
+            ≡ record { name = name.now; columns = columns.now; by = by; passing = passing }) }
         ensures kind { OnlyMemory result }
     {
         let shapes = shapes_of(alloc, columns)?;

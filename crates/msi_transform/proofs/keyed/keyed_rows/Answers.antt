@@ -18,7 +18,7 @@ returns-then-is_some-clause-distinct c =
     let left = into_iter_items c.next.new.self in
     let key_is = c.in_ok-key.ensures.ok ∙ ap (λ cells. key_of columns (row_values places cells)) c.as_slice.ensures in
     let there = ap (λ (rows : Rows). is_some (row_at c.in_ok-key.key rows)) (sym c.loop-row.invariant.rows)
-        ∙ ap is_some (sym c.get.ensures) ∙ is_some-copied c.get.result ∙ sym c.is_some.ensures ∙ c.if-is_some.true in
+    ∙ ap is_some (sym c.get.ensures) ∙ is_some-copied c.get.result ∙ sym c.is_some.ensures ∙ c.if-is_some.true in
     let given : c.args.rows.items ≡ into_iter_items c.into_iter-row-iterator.result = search rules in
     let all = given ∙ yielded_more (into_iter_items c.into_iter-row-iterator.result) yielded (into_iter_items c.loop-row.row-iterator) left c.in-Some.row c.loop-row.invariant.whole c.in-Some.ensures.steps.0 in
     sym (ap (λ (rows : List RowInHand). not (has_pair same_key (keys_of_rows places columns (cells_in_hand rows)))) all
@@ -32,7 +32,7 @@ loop-row-preserved c =
     let left = into_iter_items c.next.new.self in
     let key_is = c.in_ok-key.ensures.ok ∙ ap (λ cells. key_of columns (row_values places cells)) c.as_slice.ensures in
     let missing = ap (λ (rows : Rows). is_some (row_at c.in_ok-key.key rows)) (sym c.loop-row.invariant.rows)
-        ∙ ap is_some (sym c.get.ensures) ∙ is_some-copied c.get.result ∙ sym c.is_some.ensures ∙ c.if-is_some.false in
+    ∙ ap is_some (sym c.get.ensures) ∙ is_some-copied c.get.result ∙ sym c.is_some.ensures ∙ c.if-is_some.false in
     record {
       rows = c.in_ok-insert.ensures.ok ∙ ap (with_row_at c.in_ok-key.key c.in-Some.row) c.loop-row.invariant.rows
           ∙ row_pushed columns places yielded c.in-Some.row c.in_ok-key.key key_is missing;

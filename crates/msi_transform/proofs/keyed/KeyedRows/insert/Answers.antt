@@ -1,4 +1,3 @@
-use Rattle.std.proofs.lemmas.Result.{on_ok_weaker}
 use Rattle.msi_transform.proofs.KeyedRowsLemmas.{entries_updated}
 use Rattle.msi_transform.proofs.keyed.KeyedRows.insert.Goals as goal
 

@@ -1,4 +1,4 @@
-use Rattle.std.proofs.Common.{◌≡◌, ◌++◌, ◌∙◌, List, [], ap, map, rules, sym}
+use Rattle.std.proofs.Common.{◌≡◌, ◌++◌, ◌∙◌, List, ap, map, rules, sym}
 use Rattle.std.proofs.lemmas.List.{append-nil}
 use Rattle.msi_transform.specs.declared.row.RowInHand.{RowInHand}
 use Rattle.msi_transform.proofs.KeyedRowsLemmas.{all_cells}
