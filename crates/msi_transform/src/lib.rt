@@ -2,7 +2,14 @@
 #![tactic(auto)]
 
 pub mod conditions;
+pub mod kept_texts;
+mod reasons;
+pub mod records_by_table;
 pub mod row;
 pub mod schema;
+pub mod stored_pool;
+pub mod table_streams;
+pub mod transform;
 
 pub use conditions::ErrorConditions;
+pub use transform::Transform;
