@@ -1,2 +1,4 @@
+pub mod ReadStepLemmas
+pub mod StoredPoolLemmas
 pub mod ApplyingRows
 pub mod MakingRows
