@@ -1,4 +1,6 @@
 pub mod ReadStepLemmas
 pub mod StoredPoolLemmas
+pub mod RecordsByTableLemmas
+pub mod TableStreamsLemmas
 pub mod ApplyingRows
 pub mod MakingRows

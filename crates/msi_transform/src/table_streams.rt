@@ -1,6 +1,6 @@
 //! The streams of tables among those of a container, taken out of them by the tables' names.
 
-ghost use Rattle.std.specs.Prelude.{◌≡◌, IfOk, OnOk, bytes_eq};
+ghost use Rattle.std.specs.Prelude.{◌≡◌, ◌++◌, IfOk, OnOk, bytes_eq, option_to_list};
 ghost use Rattle.std.specs.FinMap.{entries};
 ghost use Rattle.msi_base.specs.Results.{OnlyMemory};
 ghost use Rattle.msi_database_schema.specs.Keys.{table_key as key_of_table};
@@ -45,25 +45,24 @@ fn table_streams(alloc: Global, streams: &StreamMap) -> Result<Vec<TableStream>,
 {
     let mut found = Vec::new(alloc);
     for (key, _) in streams.iter() {
-        if let Some(stream) = table_stream(alloc, key)? {
-            found.push(stream)?;
-        }
+        push_table_stream(alloc, &mut found, key)?;
     }
     Ok(found)
 }
 
-fn table_stream(alloc: Global, key: &Name) -> Result<Option<TableStream>, Error>
-    ensures ok { IfOk result (λ stream. stream ≡ table_stream_of key.now) }
+/// Adds the stream of a name to those of tables, if it is one.
+fn push_table_stream(alloc: Global, found: &mut Vec<TableStream>, key: &Name) -> Result<(), Error>
+    ensures ok { OnOk result (found.new.items ≡ found.old.items ++ option_to_list (table_stream_of key.now)) }
     ensures kind { OnlyMemory result }
 {
     let name = name_of(alloc, key)?;
-    if !is_key_of(key, name.as_str()) {
-        return Ok(None);
+    if is_key_of(key, name.as_str()) {
+        found.push(TableStream {
+            key: key.duplicate(),
+            name,
+        })?;
     }
-    Ok(Some(TableStream {
-        key: key.duplicate(),
-        name,
-    }))
+    Ok(())
 }
 
 /// Returns the text that a container's name stands for.
@@ -79,8 +78,9 @@ fn name_of(alloc: Global, key: &Name) -> Result<Text, Error>
 fn is_key_of(key: &Name, name: &str) -> bool
     ensures { result ≡ bytes_eq (key_of_table name.now) key.now }
 {
+    let units = key.units();
     match table_key(name) {
-        Some(encoded) => encoded == *key,
+        Some(encoded) => encoded.units() == units,
         None => false,
     }
 }
