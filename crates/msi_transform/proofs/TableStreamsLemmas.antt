@@ -9,13 +9,13 @@ use Rattle.std.specs.Char.Utf16.{utf16_lossy_chars}
 use Rattle.std.specs.Cmp.Lexicographic.{bytes_decides, nat_list_cmp_total}
 use Rattle.std.specs.Cmp.{alike_right, eq_by_cmp_equiv}
 use Rattle.std.specs.FinMap.{entries, entries_sorted, find, get, get-entries, get-remove, put, remove}
-use Rattle.std.specs.FinMap.Entries.{find-where_key, is_sorted-where_key, same_entries}
+use Rattle.std.specs.FinMap.Entries.{below_all, find-where_key, is_sorted, is_sorted-where_key, same_entries}
 use Rattle.std.proofs.lemmas.List.{append-nil}
-use Rattle.msi_base.proofs.BoolLemmas.{cond_not}
+use Rattle.msi_base.proofs.BoolLemmas.{T_second, cond_not}
 use Rattle.msi_container_format.specs.Streams as finite
-use Rattle.std.specs.List.{AllByRecursion, list_any}
+use Rattle.std.specs.List.{AllByRecursion, cons_option}
 use Rattle.std.specs.Ordering.{eq_by_cmp, is_eq}
-use Rattle.std.specs.Prelude.{T, bytes_eq, encode_utf8_all, length, if◌then◌else◌}
+use Rattle.std.specs.Prelude.{T, bytes_eq, encode_utf8_all, length, if◌then◌else◌, is_some, ◌≢◌, ◌-◌, take}
 use Rattle.std.specs.Str.{IsUtf8}
 use Rattle.msi_base.specs.Lists.{list_cmp}
 use Rattle.msi_container_format.specs.Names.{is_name_length, name_cmp, named, units_of}
@@ -25,6 +25,7 @@ use Rattle.msi_container_format.proofs.SpelledUnitsLemmas.{units_spell}
 use Rattle.msi_database_schema.specs.Keys.{is_pool_name, table_key}
 use Rattle.msi_database_storage.specs.Streams.{Streams, stream_at, without_stream}
 use Rattle.msi_database_storage.proofs.MapLemmas as maps
+use Rattle.msi_database_storage.proofs.StreamLemmas.{AreSorted, sorted_removed}
 use Rattle.msi_transform.specs.declared.table_streams.TableStream.{TableStream}
 use Rattle.msi_transform.specs.TransformFiles.{by_names, is_records_key, is_table_key, others_among, records_among, text_of_key}
 use Rattle.msi_transform.specs.TableStreams.{records_taken, table_stream_of, table_streams_among, with_records, without_tables}
@@ -89,6 +90,10 @@ with_pool t o bytes tables there is_pool =
 pub with_none : (t : TableStream) (o : Option (List ℕ)) (tables : List (List ℕ × List ℕ)) → o ≡ None → tables ≡ with_records t o tables
 with_none t o tables none = ap (λ (p : Option (List ℕ)). with_records t p tables) (sym none)
 
+-- nothing is left where nothing can be popped
+pub none_left : (left rest : List TableStream) (n : ℕ) → left ≡ rest ++ [] → rest ≡ take (n - 1) left → n ≡ 0 → left ≡ []
+none_left left rest n whole is none = whole ∙ append-nil rest ∙ is ∙ ap (λ k. take (k - 1) left) none
+
 -- those that are taken out, the last first
 abbrev pub IsTaken : List TableStream → List TableStream → Streams → List (List ℕ × List ℕ) → Streams → Type 0
 IsTaken found left streams tables before = (done : List TableStream) × (left ++ done ≡ found)
@@ -112,3 +117,100 @@ pub all_taken : (found left : List TableStream) (streams before : Streams) (tabl
 all_taken found left streams before tables (done, whole, streams_are, tables_are) none =
     let all : done ≡ found = ap (λ (ts : List TableStream). ts ++ done) (sym none) ∙ whole in
     (streams_are ∙ ap (λ (ts : List TableStream). without_tables ts before) all, tables_are ∙ ap (λ (ts : List TableStream). records_taken ts before) all)
+
+-- WHAT IS LEFT AND WHAT IS TAKEN, where the tables' streams among some are taken out of more
+
+-- the streams without the tables' streams among these
+abbrev left_by : Streams → Streams → Streams
+left_by es ss = without_tables (table_streams_among es) ss
+
+left_sorted : (es ss : Streams) → AreSorted ss → AreSorted (left_by es ss)
+left_sorted [] ss h = h
+left_sorted (e ∷ es) ss h =
+    elim (is_table_key e.0) as (λ b. AreSorted (without_tables (cons_option (if b then Some (record { key = e.0; name = text_of_key e.0 }) else None) (table_streams_among es)) ss)) [
+      | true ↦ sorted_removed e.0 (left_by es ss) (left_sorted es ss h)
+      | false ↦ left_sorted es ss h
+    ]
+
+and_false : (b : Bool) → (b && false) ≡ false
+and_false true = refl
+and_false false = refl
+
+-- one that is there, and that isn't taken out
+abbrev Stays : List ℕ → Streams → Streams → Option (List ℕ) → Type 0
+Stays q es ss o = o ≡ cond (is_table_key q && is_some (stream_at q es)) None (stream_at q ss)
+
+-- one more, of a table or not, of the name that is looked up or not
+stays_taken : (q k bytes : List ℕ) (es ss : Streams) (tied : Bool) (o : Option (List ℕ)) → eq_by_cmp name_cmp q k ≡ tied → is_table_key k ≡ true → Stays q es ss o
+    → cond (not tied) o None ≡ cond (is_table_key q && is_some (cond tied (Some bytes) (stream_at q es))) None (stream_at q ss)
+stays_taken q k bytes es ss true o tie of_table h =
+    ap (λ b. cond (b && true) None (stream_at q ss)) (sym of_table ∙ ap is_table_key (sym (maps.tied_is names_total exact_names q k tie)))
+stays_taken q k bytes es ss false o tie of_table h = h
+
+stays_other : (q k bytes : List ℕ) (es ss : Streams) (tied : Bool) (o : Option (List ℕ)) → eq_by_cmp name_cmp q k ≡ tied → is_table_key k ≡ false → Stays q es ss o
+    → o ≡ cond (is_table_key q && is_some (cond tied (Some bytes) (stream_at q es))) None (stream_at q ss)
+stays_other q k bytes es ss true o tie of_none h =
+    let none : is_table_key q ≡ false = ap is_table_key (maps.tied_is names_total exact_names q k tie) ∙ of_none in
+    h ∙ ap (λ b. cond (b && is_some (stream_at q es)) None (stream_at q ss)) none ∙ ap (λ b. cond (b && true) None (stream_at q ss)) (sym none)
+stays_other q k bytes es ss false o tie of_none h = h
+
+pub left_found : (q : List ℕ) (es ss : Streams) → Stays q es ss (stream_at q (left_by es ss))
+left_found q [] ss = ap (λ b. cond b None (stream_at q ss)) (sym (and_false (is_table_key q)))
+left_found q (e ∷ es) ss =
+    elim (is_table_key e.0) as (λ b. is_table_key e.0 ≡ b
+    → Stays q (e ∷ es) ss (stream_at q (without_tables (cons_option (if b then Some (record { key = e.0; name = text_of_key e.0 }) else None) (table_streams_among es)) ss))) [
+      | true ↦ λ of_table.
+          maps.find_where names_total exact_names (λ k. not (eq_by_cmp name_cmp e.0 k)) q (left_by es ss)
+          ∙ ap (λ b. cond (not b) (stream_at q (left_by es ss)) None) ((eq_by_cmp_equiv names_total).symm e.0 q)
+          ∙ stays_taken q e.0 e.1 es ss (eq_by_cmp name_cmp q e.0) (stream_at q (left_by es ss)) refl of_table (left_found q es ss)
+      | false ↦ λ of_none. stays_other q e.0 e.1 es ss (eq_by_cmp name_cmp q e.0) (stream_at q (left_by es ss)) refl of_none (left_found q es ss)
+    ] refl
+
+none_of_tables : (of_table : Bool) (o : Option (List ℕ)) → cond (of_table && is_some o) None o ≡ cond (not of_table) o None
+none_of_tables true None = refl
+none_of_tables true (Some x) = refl
+none_of_tables false o = refl
+
+-- all but the tables' streams are left
+pub left_are_others : (ss : Streams) → AreSorted ss → left_by ss ss ≡ others_among ss
+left_are_others ss h =
+    same_entries name_cmp names_total exact_names (left_by ss ss) (others_among ss) (left_sorted ss ss h) (maps.sorted_where names_total exact_names (λ k. not (is_table_key k)) ss h)
+    (λ q. left_found q ss ss ∙ none_of_tables (is_table_key q) (stream_at q ss) ∙ sym (maps.find_where names_total exact_names (λ k. not (is_table_key k)) q ss))
+
+not_found : (q : List ℕ) (es : Streams) → AllByRecursion (λ f. q ≢ f.0) es → stream_at q es ≡ None
+not_found q [] apart = refl
+not_found q (e ∷ es) apart = ap (λ b. cond b (Some e.1) (stream_at q es)) (maps.untied names_total exact_names q e.0 apart.0) ∙ not_found q es apart.1
+
+-- the stream of a table is still there when those behind it are taken out
+still_there : (e : List ℕ × List ℕ) (es ss : Streams) → AreSorted (e ∷ es) → stream_at e.0 ss ≡ Some e.1 → stream_at e.0 (left_by es ss) ≡ Some e.1
+still_there e es ss h there =
+    left_found e.0 es ss
+    ∙ ap (λ (o : Option (List ℕ)). cond (is_table_key e.0 && is_some o) None (stream_at e.0 ss)) (not_found e.0 es (maps.head_apart names_total exact_names e es h))
+    ∙ ap (λ b. cond b None (stream_at e.0 ss)) (and_false (is_table_key e.0)) ∙ there
+
+-- a table's records, in the order of names
+abbrev named_records : List ℕ × List ℕ → List ℕ × List ℕ
+named_records s = (text_of_key s.0, s.1)
+
+record_of : (e : List ℕ × List ℕ) (is_pool : Bool) (rest : Streams) → (if is_pool then by_names (map named_records rest) else put list_cmp (text_of_key e.0) e.1 (by_names (map named_records rest)))
+    ≡ by_names (map named_records (cond (not is_pool) (e ∷ rest) rest))
+record_of e true rest = refl
+record_of e false rest = refl
+
+behind_sorted : (e : List ℕ × List ℕ) (es : Streams) → AreSorted (e ∷ es) → AreSorted es
+behind_sorted e es h = T_second (below_all name_cmp e.0 es) (is_sorted name_cmp es) h
+
+taken_so : (es ss : Streams) → AreSorted es → AllByRecursion (λ e. stream_at e.0 ss ≡ Some e.1) es → records_taken (table_streams_among es) ss ≡ records_among es
+taken_so [] ss h there = refl
+taken_so (e ∷ es) ss h there =
+    elim (is_table_key e.0) as (λ b. records_taken (cons_option (if b then Some (record { key = e.0; name = text_of_key e.0 }) else None) (table_streams_among es)) ss
+    ≡ by_names (map named_records (cond (b && not (is_pool_name (text_of_key e.0))) (e ∷ filter (λ s. is_records_key s.0) es) (filter (λ s. is_records_key s.0) es)))) [
+      | true ↦ ap (λ (o : Option (List ℕ)). with_records (record { key = e.0; name = text_of_key e.0 }) o (records_taken (table_streams_among es) ss)) (still_there e es ss h there.0)
+          ∙ ap (λ (tables : List (List ℕ × List ℕ)). if is_pool_name (text_of_key e.0) then tables else put list_cmp (text_of_key e.0) e.1 tables) (taken_so es ss (behind_sorted e es h) there.1)
+          ∙ record_of e (is_pool_name (text_of_key e.0)) (filter (λ s. is_records_key s.0) es)
+      | false ↦ taken_so es ss (behind_sorted e es h) there.1
+    ]
+
+-- each table's stream is taken from those that had it
+pub taken_are_records : (ss : Streams) → AreSorted ss → records_taken (table_streams_among ss) ss ≡ records_among ss
+taken_are_records ss h = taken_so ss ss h (maps.found_each names_total exact_names ss h)

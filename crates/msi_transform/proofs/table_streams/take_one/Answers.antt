@@ -16,11 +16,12 @@ returns-clause-tables c =
       | in-Some+then-not-is_pool_name+in_ok-insert w ↦
           ap entries w.tables-is
           ∙ with_put t at w.in-Some.bytes _ tables _ (held streams t.key (Some w.in-Some.bytes) w.in-Some.ensures.held)
-          ? w.into_string.ensures w.in_ok-insert.ensures.ok
+          (ap is_pool_name (sym w.as_str.ensures) ∙ sym w.is_pool_name.ensures ∙ w.if-not-is_pool_name.true) w.into_string.ensures w.in_ok-insert.ensures.ok
       | in-Some+else-not-is_pool_name w ↦
-          ap entries w.tables-is ∙ with_pool t at w.in-Some.bytes tables (held streams t.key (Some w.in-Some.bytes) w.in-Some.ensures.held) ?
+          ap entries w.tables-is ∙ with_pool t at w.in-Some.bytes tables (held streams t.key (Some w.in-Some.bytes) w.in-Some.ensures.held)
+          (ap is_pool_name (sym w.as_str.ensures) ∙ sym w.is_pool_name.ensures ∙ w.if-not-is_pool_name.false)
       | in_default w ↦
-          ap entries w.tables-is ∙ with_none t at tables (held streams t.key None ?)
+          ap entries w.tables-is ∙ with_none t at tables (held streams t.key None (sym w.in_default.is ∙ c.remove.ensures.held))
     ]
 
 pub returns-clause-streams : goal.returns-clause-streams
