@@ -1,3 +1,7 @@
+pub mod ReadStepLemmas
+pub mod StoredPoolLemmas
+pub mod RecordsByTableLemmas
+pub mod TableStreamsLemmas
 pub mod ApplyingRows
 pub mod MakingRows
 pub mod ColumnKeysLemmas

@@ -1,5 +1,10 @@
 -- The words of this crate.
 pub mod Transforms
+pub mod ReadSteps
+pub mod StoredPools
+pub mod RecordsByTable
+pub mod TransformFiles
+pub mod TableStreams
 pub mod RowStreams
 pub mod KeyOfRows
 pub mod RowChanges

@@ -1,4 +1,4 @@
-//! Why a transform isn't applied: a sentence for each rule.
+//! Why a transform isn't read, or isn't applied: a sentence for each rule.
 
 use msi_base::errors::Reason;
 
@@ -61,3 +61,9 @@ pub(crate) const CHANGED_ROW_MISSING: Reason = Reason("a row that is to be chang
 pub(crate) const ADDED_ROW_EXISTS: Reason = Reason("a row that is to be added is there");
 
 pub(crate) const TOO_MANY_ROWS: Reason = Reason("a table has at most 65536 rows");
+
+pub(crate) const NO_TRANSFORM: Reason = Reason("the root's CLSID is not that of a transform");
+
+pub(crate) const NO_POOL: Reason = Reason("a stream of the transform's string pool is missing");
+
+pub(crate) const TEXTS_NOT_UTF8: Reason = Reason("a text of the transform isn't in UTF-8");
