@@ -1,7 +1,6 @@
 pub mod ApplyingRows
 pub mod ColumnKeysLemmas
 pub mod ColumnStepsLemmas
-pub mod InHandLemmas
 pub mod KeyedRowsLemmas
 pub mod PackagePartsLemmas
 pub mod RowStreamsLemmas
