@@ -13,6 +13,11 @@ use Rattle.msi_database_changes.specs.Texts.{PoolInUse, cell_put, in_turn}
 use Rattle.msi_transform.specs.SchemaChanges.{SchemaChange, SchemaInHand, column_added, column_put, column_told, columns_in_hand, counted_on, describing_row, is_gone, new_column_refusals, number_told, numbered_column_added, table_in_hand, with_column}
 use Rattle.msi_transform.specs.TablesInHand.{TableInHand, table_with}
 
+-- what goes on alike comes to the same
+pub goes_on_alike : {A B : Type 0} (r : Result A ErrorKind) (f g : A → Result B ErrorKind) → ((x : A) → f x ≡ g x) → (r >>= f) ≡ (r >>= g)
+goes_on_alike (Ok x) f g alike = alike x
+goes_on_alike (Err k) f g alike = refl
+
 -- a column that is refused behind the others
 pub put_refused : {A B : Type 0} {given : ℤ} (x : B) (name : List ℕ) (t : TableInHand) (columns all : List ColumnDef) (column : ColumnDef) (number : ℤ) (row : List Value) (s : SchemaInHand) (r : Result A ErrorKind) (k : ErrorKind)
     → all ≡ columns → given ≡ number → Err k ≡ unless_refused (new_column_refusals t.standing all given column) x → IsErrAnd r (λ e. e ≡ k) → IfErr r (IsRefusal (column_put name t columns column number row s))

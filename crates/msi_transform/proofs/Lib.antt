@@ -6,7 +6,6 @@ pub mod ApplyingRows
 pub mod MakingRows
 pub mod ColumnKeysLemmas
 pub mod ColumnStepsLemmas
-pub mod InHandLemmas
 pub mod KeyedRowsLemmas
 pub mod PackagePartsLemmas
 pub mod RowStreamsLemmas

@@ -3,7 +3,6 @@ use Rattle.std.proofs.Common.{◌≡◌, ℕ, ◌+◌, List, [], ◌∷◌, Resu
 use Rattle.std.specs.Prelude.{map}
 use Rattle.msi_base.specs.declared.errors.ErrorKind.{ErrorKind}
 use Rattle.msi_base.specs.declared.errors.ErrorKind.TheVariants.{InvalidData}
-use Rattle.msi_base.specs.Refusals as one
 use Rattle.msi_base.specs.Refusals.{or_refused}
 use Rattle.msi_database_schema.specs.Schema.{value_at}
 use Rattle.msi_database_changes.specs.Database.{Database}
@@ -14,11 +13,8 @@ use Rattle.msi_transform_records.specs.declared.shape.Shape.{Shape}
 use Rattle.msi_transform.specs.RecordRefusals.{Refusal, at_record, in_turn_from, ◌>>=◌}
 use Rattle.msi_transform.specs.SchemaChanges.{SchemaChange, SchemaInHand, column_record_applied, describing_applied, listing_applied, name_to_list, table_record_applied, texts_alone}
 use Rattle.msi_transform.specs.Transforms.{TransformDef, record_key}
+use Rattle.msi_transform.proofs.ColumnStepsLemmas.{goes_on_alike}
 use Rattle.msi_transform.specs.declared.conditions.ErrorConditions.{ErrorConditions}
-
-goes_on_alike : {A B : Type 0} (r : Result A ErrorKind) (f g : A → Result B ErrorKind) → ((x : A) → f x ≡ g x) → (r one.>>= f) ≡ (r one.>>= g)
-goes_on_alike (Ok x) f g alike = alike x
-goes_on_alike (Err k) f g alike = refl
 
 follows_alike : {A B : Type 0} (r : Result A Refusal) (f g : A → Result B Refusal) → ((x : A) → f x ≡ g x) → (r >>= f) ≡ (r >>= g)
 follows_alike (Ok x) f g alike = alike x
