@@ -3,6 +3,7 @@
 
 pub mod conditions;
 pub mod kept_texts;
+pub mod laws;
 mod reasons;
 pub mod records_by_table;
 pub mod row;
