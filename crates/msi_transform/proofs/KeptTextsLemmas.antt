@@ -33,7 +33,7 @@ next_text places at number text rest below is text_is =
     let found = there places at below in
     let same : number - 1 ≡ at = omega (arith, is) in
     let told : text ≡ found.0.text = text_is ∙ ap (λ n. option_map_or (λ (p : Place). p.text) (slice_get places n) []) same
-        ∙ ap (λ (o : Option Place). option_map_or (λ (p : Place). p.text) o []) found.1 in
+    ∙ ap (λ (o : Option Place). option_map_or (λ (p : Place). p.text) o []) found.1 in
     ap (λ (ps : List Place). begin_with_texts ps rest) (drop_given places at found.0 found.1)
     ∙ begin_with_both found.0.text (flat_map (λ (p : Place). p.text) (drop (at + 1) places)) rest
     ∙ ap (λ t. bytes_eq (take (length t) rest) t && begin_with_texts (drop (at + 1) places) (drop (length t) rest)) (sym told)
