@@ -72,3 +72,7 @@ module _ {S T : Type 0} (f : S → T) (Passes : T → Type 0) (kind_of : T → E
 pub all_mapped : {S T : Type 0} (f : S → T) (P : T → Type 0) (steps : List S) → AllByRecursion (λ s. P (f s)) steps → AllByRecursion P (map f steps)
 all_mapped f P [] h = tt
 all_mapped f P (s ∷ ss) h = (h.0, all_mapped f P ss h.1)
+
+pub all_both : {S : Type 0} (P : S → Type 0) (steps more : List S) → AllByRecursion P steps → AllByRecursion P more → AllByRecursion P (steps ++ more)
+all_both P [] more h k = k
+all_both P (s ∷ ss) more h k = (h.0, all_both P ss more h.1 k)

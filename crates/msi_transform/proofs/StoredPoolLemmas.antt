@@ -1,13 +1,11 @@
 -- The pool that two streams hold is the one that is read of them.
-use Rattle.std.proofs.Common.{◌≡◌, ℕ, List, [], ◌∷◌, ◌++◌, Option, Some, None, Result, Ok, Err, refl, sym, subst, ◌∙◌}
-use Rattle.std.proofs.Common.{inl, inr}
+use Rattle.std.proofs.Common.{◌≡◌, ℕ, List, [], ◌∷◌, Option, Some, None, Result, Ok, Err, refl, sym, subst, ◌∙◌}
 use Rattle.std.specs.Prelude.{◌⊎◌, ◌%◌, ◌^◌, IfErr, IfOk, IsSome, IsSomeAnd}
 use Rattle.std.specs.List.{AllByRecursion}
-use Rattle.std.specs.Option.{option_map_or}
 use Rattle.std.specs.FinMap.{entries, get, get-entries}
 use Rattle.msi_base.specs.declared.errors.ErrorKind.{ErrorKind}
 use Rattle.msi_base.specs.declared.errors.ErrorKind.TheVariants.{InvalidData, NotFound, OutOfMemory}
-use Rattle.msi_pool.specs.Pool.{Pool, PoolStream, Entry, IsPool, IsPoolStream, SpellsPool, SpellsTexts, pool_with}
+use Rattle.msi_pool.specs.Pool.{Pool, PoolStream, Entry, IsPool, IsPoolStream, SpellsTexts, pool_with}
 use Rattle.msi_pool.specs.Pool as pools
 use Rattle.msi_base.specs.Results.{IsUnlessMemory}
 use Rattle.msi_base.proofs.OptionLemmas.{is_some_by, none_not, some_of}

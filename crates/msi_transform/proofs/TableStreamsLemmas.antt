@@ -1,12 +1,10 @@
 -- The streams of tables among those of a container.
-use Rattle.std.proofs.Common.{◌≡◌, ℕ, Bool, true, false, cond, not, ◌&&◌, List, [], ◌∷◌, ◌++◌, String, Option, Some, None, map, filter, chars, string_bytes, refl, sym, ap, subst, ◌∙◌, ◌<◌, ◌≤◌, arith, append_assoc}
+use Rattle.std.proofs.Common.{◌≡◌, ℕ, Bool, true, false, cond, not, ◌&&◌, List, [], ◌∷◌, ◌++◌, String, Option, Some, None, map, filter, chars, string_bytes, refl, sym, ap, ◌∙◌, ◌<◌, ◌≤◌, arith, append_assoc}
 use Rattle.std.proofs.lemmas.Str.{encodes-chars, IsUtf8-string_bytes, scalars-chars}
 use Rattle.std.proofs.lemmas.Bool.{true≢false}
 use Rattle.std.proofs.lemmas.Bool.Decides.{nat_tests}
-use Rattle.std.proofs.lemmas.Map.Text.{is_eq-slice_cmp}
-use Rattle.std.proofs.lemmas.Map.Lookups.{exact_bytes}
 use Rattle.std.specs.Char.Utf16.{utf16_lossy_chars}
-use Rattle.std.specs.Cmp.Lexicographic.{bytes_decides, nat_list_cmp_total}
+use Rattle.std.specs.Cmp.Lexicographic.{bytes_decides}
 use Rattle.std.specs.Cmp.{alike_right, eq_by_cmp_equiv}
 use Rattle.std.specs.FinMap.{entries, entries_sorted, find, get, get-entries, get-remove, put, remove}
 use Rattle.std.specs.FinMap.Entries.{below_all, find-where_key, is_sorted, is_sorted-where_key, same_entries}
@@ -15,20 +13,20 @@ use Rattle.msi_base.proofs.BoolLemmas.{T_second, cond_not}
 use Rattle.msi_container_format.specs.Streams as finite
 use Rattle.std.specs.List.{AllByRecursion, cons_option}
 use Rattle.std.specs.Ordering.{eq_by_cmp, is_eq}
-use Rattle.std.specs.Prelude.{T, bytes_eq, encode_utf8_all, length, if◌then◌else◌, is_some, ◌≢◌, ◌-◌, take}
+use Rattle.std.specs.Prelude.{bytes_eq, encode_utf8_all, length, if◌then◌else◌, is_some, ◌≢◌, ◌-◌, take}
 use Rattle.std.specs.Str.{IsUtf8}
 use Rattle.msi_base.specs.Lists.{list_cmp}
 use Rattle.msi_container_format.specs.Names.{is_name_length, name_cmp, named, units_of}
 use Rattle.msi_container_format.specs.StreamNames.{decoded_name}
 use Rattle.msi_container_format.proofs.NamesLemmas.{exact_names, names_total}
 use Rattle.msi_container_format.proofs.SpelledUnitsLemmas.{units_spell}
-use Rattle.msi_database_schema.specs.Keys.{is_pool_name, table_key}
+use Rattle.msi_database_schema.specs.Keys.{is_pool_name}
 use Rattle.msi_database_storage.specs.Streams.{Streams, stream_at, without_stream}
 use Rattle.msi_database_storage.proofs.MapLemmas as maps
 use Rattle.msi_database_storage.proofs.StreamLemmas.{AreSorted, sorted_removed}
 use Rattle.msi_transform.specs.declared.table_streams.TableStream.{TableStream}
 use Rattle.msi_transform.specs.TransformFiles.{by_names, is_records_key, is_table_key, others_among, records_among, text_of_key}
-use Rattle.msi_transform.specs.TableStreams.{records_taken, table_stream_of, table_streams_among, with_records, without_tables}
+use Rattle.msi_transform.specs.TableStreams.{records_taken, table_streams_among, with_records, without_tables}
 
 -- NAMES
 

@@ -1,7 +1,6 @@
 -- The string pool in the streams of a container, and why there is none.
-use Rattle.std.specs.Prelude.{◌≡◌, ℕ, ◌%◌, ◌^◌, List, [], ◌∷◌, Bool, IsSome, IsSomeAnd}
+use Rattle.std.specs.Prelude.{ℕ, ◌%◌, ◌^◌, List, [], ◌∷◌, IsSome, IsSomeAnd}
 use Rattle.std.specs.Option.{option_map_or}
-use Rattle.msi_base.specs.declared.codepage.CodePage.{CodePage}
 use Rattle.msi_base.specs.declared.errors.ErrorKind.{ErrorKind}
 use Rattle.msi_base.specs.declared.errors.ErrorKind.TheVariants.{InvalidData, NotFound}
 use Rattle.msi_pool.specs.Pool.{IsPool, IsPoolStream, Pool, PoolStream}

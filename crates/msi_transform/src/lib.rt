@@ -6,6 +6,7 @@ mod describing;
 mod dropping;
 pub mod kept_texts;
 pub mod keyed;
+pub mod laws;
 mod listing;
 mod reasons;
 pub mod records_by_table;

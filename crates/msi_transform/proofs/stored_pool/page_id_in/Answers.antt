@@ -10,7 +10,7 @@ pub returns-in-Some : goal.returns-in-Some
 returns-in-Some c =
     let streams = entries c.args.streams.now in
     let held = ap (λ name. stream_at name streams) (sym c.string_pool_key.ensures)
-        ∙ stream_got c.args.streams.now c.string_pool_key.result (Some c.in-Some.bytes.now) c.in-Some.ensures in
+    ∙ stream_got c.args.streams.now c.string_pool_key.result (Some c.in-Some.bytes.now) c.in-Some.ensures in
     ap (λ n. n % 2 ^ 31) (c.number32.ensures ∙ ap (λ bytes. number32 bytes 0) c.as_slice.ensures)
     ∙ page_id_of streams c.in-Some.bytes.now held
 

@@ -1,4 +1,3 @@
-use Rattle.std.proofs.Common.{◌≡◌, ◌∙◌, [], ap, rules, sym}
 use Rattle.std.specs.FinMap.{entries}
 use Rattle.msi_transform.proofs.TableStreamsLemmas.{all_taken, none_left, none_taken, one_taken}
 use Rattle.msi_transform.proofs.table_streams.take_each.Goals as goal

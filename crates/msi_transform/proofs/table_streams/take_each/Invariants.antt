@@ -1,4 +1,3 @@
-use Rattle.std.proofs.Common.{length}
 use Rattle.std.specs.FinMap.{entries}
 use Rattle.msi_transform.proofs.TableStreamsLemmas.{IsTaken}
 use Rattle.msi_transform.proofs.table_streams.take_each.Given as goal

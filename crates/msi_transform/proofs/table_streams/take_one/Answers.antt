@@ -1,7 +1,7 @@
-use Rattle.std.proofs.Common.{◌∙◌, Some, None, ap, rules, sym}
+use Rattle.std.proofs.Common.{◌∙◌, Some, None, ap, sym}
 use Rattle.std.specs.FinMap.{entries}
 use Rattle.msi_database_schema.specs.Keys.{is_pool_name}
-use Rattle.msi_database_storage.specs.Streams.{stream_at, without_stream}
+use Rattle.msi_database_storage.specs.Streams.{stream_at}
 use Rattle.msi_transform.proofs.TableStreamsLemmas.{held, removed, with_none, with_pool, with_put}
 use Rattle.msi_transform.proofs.table_streams.take_one.Goals as goal
 use Rattle.msi_transform.proofs.table_streams.take_one.Goals.{in-Some+then-not-is_pool_name+in_ok-insert, in-Some+else-not-is_pool_name, in_default}
