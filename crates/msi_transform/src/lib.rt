@@ -11,6 +11,7 @@ pub mod schema;
 pub mod stored_pool;
 pub mod table_streams;
 pub mod transform;
+pub mod written;
 
 pub use conditions::ErrorConditions;
 pub use transform::Transform;
