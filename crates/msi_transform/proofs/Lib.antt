@@ -4,5 +4,6 @@ pub mod RecordsByTableLemmas
 pub mod TableStreamsLemmas
 pub mod KeptTextsLemmas
 pub mod TransformFileLemmas
+pub mod WrittenLemmas
 pub mod ApplyingRows
 pub mod MakingRows

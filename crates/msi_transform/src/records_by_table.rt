@@ -84,7 +84,7 @@ impl RecordsByTable {
     /// # Errors
     /// Fails with `OutOfMemory`.
     pub fn put_into(self, streams: &mut StreamMap) -> Result<(), Error>
-        ensures ok { OnOk result (entries streams.new ≡ with_table_streams (entries self.entry) (entries streams.old)) }
+        ensures ok { OnOk result (entries streams.new ≡ with_table_streams (entries self) (entries streams.old)) }
         ensures kind { OnlyMemory result }
     {
         let RecordsByTable { map } = self;

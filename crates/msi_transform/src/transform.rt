@@ -2,7 +2,6 @@
 
 ghost use Rattle.std.specs.Prelude.{◌≡◌, ◌⊎◌, ◌∷◌, [], IfErr, IfOk, IsErrOf, IsTrue, Ok, OnOk, length, option_copied, true};
 ghost use Rattle.std.specs.FinMap.{entries};
-ghost use Rattle.msi_base.specs.Refusals.{IsRefusal, unless_refused};
 ghost use Rattle.msi_base.specs.Results.{OnlyMemory};
 ghost use Rattle.msi_base.specs.declared.errors.ErrorKind.TheVariants.{InvalidInput, OutOfMemory};
 ghost use Rattle.msi_container_format.specs.Container.{Holds};
@@ -123,7 +122,8 @@ impl Transform {
     pub fn into_contents(self, alloc: Global) -> Result<Contents, Error>
         ensures ok { IfOk result (AreWritten self) }
         ensures refused { IsTrue (is_unwritable self) → IsErrOf result InvalidInput }
-        ensures kind { IfErr result (IsRefusal (unless_refused ((is_unwritable self, InvalidInput) ∷ []) tt)) }
+        ensures kind { IfErr result (λ kind.
+            (kind ≡ OutOfMemory) ⊎ (kind ≡ InvalidInput) × IsTrue (is_unwritable self)) }
     {
         let Transform {
             page_id,

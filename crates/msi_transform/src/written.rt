@@ -1,10 +1,10 @@
 //! The streams of a transform's file.
 
-ghost use Rattle.std.specs.Prelude.{◌≡◌, ◌∷◌, [], IfErr, IfOk, OnOk, Some, not};
+ghost use Rattle.std.specs.Prelude.{◌≡◌, ◌⊎◌, ◌∷◌, [], IfErr, IfOk, IsTrue, OnOk, Some, not};
 ghost use Rattle.std.specs.FinMap.{entries};
 ghost use Rattle.std.specs.List.{list_any};
-ghost use Rattle.msi_base.specs.declared.errors.ErrorKind.TheVariants.{InvalidInput};
-ghost use Rattle.msi_base.specs.Refusals.{IsRefusal, unless_refused};
+ghost use Rattle.msi_base.specs.declared.errors.ErrorKind.TheVariants.{InvalidInput, OutOfMemory};
+ghost use Rattle.msi_base.specs.Refusals.{unless_refused};
 ghost use Rattle.msi_base.specs.Results.{OnlyMemory};
 ghost use Rattle.msi_database_schema.specs.Keys.{is_table_name as is_of_table};
 ghost use Rattle.msi_pool.specs.PoolWriting.{is_refused};
@@ -68,7 +68,8 @@ pub fn put_pool(
     pool: &StringPool,
 ) -> Result<(), Error>
     ensures ok { OnOk result (with_pool page_id pool.now (entries streams.old) ≡ Some (entries streams.new)) }
-    ensures kind { IfErr result (IsRefusal (unless_refused ((is_refused pool.now, InvalidInput) ∷ []) tt)) }
+    ensures kind { IfErr result (λ kind.
+        (kind ≡ OutOfMemory) ⊎ (kind ≡ InvalidInput) × IsTrue (is_refused pool.now)) }
 {
     let listed = pool_stream_of(pool)?;
     let texts = data_stream_of(pool)?;
