@@ -4,6 +4,7 @@ pub mod RecordsByTableLemmas
 pub mod TableStreamsLemmas
 pub mod KeptTextsLemmas
 pub mod TransformFileLemmas
+pub mod WrittenLemmas
 pub mod ApplyingRows
 pub mod MakingRows
 pub mod ColumnKeysLemmas

@@ -5,6 +5,7 @@ pub mod StoredPools
 pub mod RecordsByTable
 pub mod TransformFiles
 pub mod TableStreams
+pub mod WrittenTransforms
 pub mod RowStreams
 pub mod KeyOfRows
 pub mod RowChanges

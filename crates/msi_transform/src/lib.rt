@@ -23,6 +23,7 @@ pub mod table_change;
 pub mod table_streams;
 pub mod tables_by_name;
 pub mod transform;
+pub mod written;
 
 pub use conditions::ErrorConditions;
 pub use refusal::{RecordPlace, Refusal};

@@ -67,3 +67,5 @@ pub(crate) const NO_TRANSFORM: Reason = Reason("the root's CLSID is not that of 
 pub(crate) const NO_POOL: Reason = Reason("a stream of the transform's string pool is missing");
 
 pub(crate) const TEXTS_NOT_UTF8: Reason = Reason("a text of the transform isn't in UTF-8");
+
+pub(crate) const TABLE_NAME: Reason = Reason("no table may have this name");

@@ -5,9 +5,11 @@ ghost use Rattle.std.specs.FinMap.{entries, find, put};
 ghost use Rattle.msi_base.specs.Lists.{list_cmp};
 ghost use Rattle.msi_base.specs.Results.{OnlyMemory};
 ghost use Rattle.msi_transform.specs.RecordsByTable.{by_text};
+ghost use Rattle.msi_transform.specs.WrittenTransforms.{with_table_streams};
 
+use crate::written::put_records;
 use msi_base::errors::Error;
-use msi_container_format::contents::Bytes;
+use msi_container_format::contents::{Bytes, StreamMap};
 use std::alloc::Global;
 use std::collections::{BTreeMap, btree_map};
 use std::marker::Model;
@@ -75,5 +77,20 @@ impl RecordsByTable {
         ensures len { length result ≡ length (entries self.now) }
     {
         self.map.iter()
+    }
+    /// Puts the records among streams, each table's in one of its own, if its name isn't too long for a container. After
+    /// an error any streams may be there.
+    ///
+    /// # Errors
+    /// Fails with `OutOfMemory`.
+    pub fn put_into(self, streams: &mut StreamMap) -> Result<(), Error>
+        ensures ok { OnOk result (entries streams.new ≡ with_table_streams (entries self) (entries streams.old)) }
+        ensures kind { OnlyMemory result }
+    {
+        let RecordsByTable { map } = self;
+        for (name, records) in map {
+            put_records(streams, name.as_str(), records)?;
+        }
+        Ok(())
     }
 }

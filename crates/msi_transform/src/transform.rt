@@ -1,23 +1,30 @@
 //! Transforms as they are read from their files.
 
-ghost use Rattle.std.specs.Prelude.{◌≡◌, ◌∷◌, [], IfErr, IfOk, Ok, OnOk, length, option_copied, true};
+ghost use Rattle.std.specs.Prelude.{◌≡◌, ◌⊎◌, ◌∷◌, [], IfErr, IfOk, IsErrOf, IsTrue, Ok, OnOk, length, option_copied, true};
 ghost use Rattle.std.specs.FinMap.{entries};
 ghost use Rattle.msi_base.specs.Results.{OnlyMemory};
+ghost use Rattle.msi_base.specs.declared.errors.ErrorKind.TheVariants.{InvalidInput, OutOfMemory};
+ghost use Rattle.msi_container_format.specs.Container.{Holds};
+ghost use Rattle.msi_container_format.specs.declared.contents.Contents.{Contents};
 ghost use Rattle.msi_transform.specs.RecordsByTable.{by_text};
 ghost use Rattle.msi_transform.specs.StoredPools.{PoolIs};
 ghost use Rattle.msi_transform.specs.TransformFiles.{IsReadRefusal, IsTransform, ReadStopsAmong, ReadsTo};
 ghost use Rattle.msi_transform.specs.TransformFiles.{keeps_texts as are_texts_kept, knows_clsid, pool_read_steps};
 ghost use Rattle.msi_transform.specs.TransformFiles.{read_steps, transform_clsid, transform_in};
 ghost use Rattle.msi_transform.specs.Transforms.{records_for};
+ghost use Rattle.msi_transform.specs.WrittenTransforms.{AreWritten, is_unwritable};
 
 use crate::kept_texts::keeps_texts;
 use crate::reasons;
 use crate::records_by_table::RecordsByTable;
 use crate::stored_pool::{page_id_in, pool_in};
 use crate::table_streams::take_records;
+use crate::written::{check_names, put_pool};
 use msi_base::errors::{Error, ErrorKind};
 use msi_container_format::contents::{Bytes, Contents, StreamMap};
 use msi_container_read::read_shared;
+use msi_container_write::write;
+use msi_pool::parts::check_texts;
 use msi_pool::stringpool::StringPool;
 use std::alloc::Global;
 use std::collections::btree_map;
@@ -82,6 +89,71 @@ impl Transform {
         check_clsid(&contents)?;
         let pool = kept_pool_in(alloc, &contents)?;
         transform_with(alloc, pool, contents.streams)
+    }
+
+    /// Returns a transform of these parts. `page_id` is the id of the pool's page, or 0 for UTF-8 where the page is to be
+    /// neutral.
+    pub fn from_parts(
+        page_id: u32,
+        pool: StringPool,
+        tables: RecordsByTable,
+        streams: StreamMap,
+    ) -> Transform
+        ensures parts { result ≡ record {
+          page_id = page_id;
+          pool = pool;
+          tables = entries tables;
+          streams = entries streams;
+        } }
+    {
+        Transform {
+            page_id,
+            pool,
+            tables,
+            streams,
+        }
+    }
+
+    /// Returns the contents of a file that holds the transform.
+    ///
+    /// # Errors
+    /// Fails with `InvalidInput` if a table's name is none that a table may have, or the page can't encode a text in
+    /// use, or its encoding has 2^32 bytes or more. Otherwise it fails with `OutOfMemory`.
+    pub fn into_contents(self, alloc: Global) -> Result<Contents, Error>
+        ensures ok { IfOk result (AreWritten self) }
+        ensures refused { IsTrue (is_unwritable self) → IsErrOf result InvalidInput }
+        ensures kind { IfErr result (λ kind.
+            (kind ≡ OutOfMemory) ⊎ (kind ≡ InvalidInput) × IsTrue (is_unwritable self)) }
+    {
+        let Transform {
+            page_id,
+            pool,
+            tables,
+            streams,
+        } = self;
+        check_names(&tables)?;
+        check_texts(&pool)?;
+        let mut written = streams;
+        tables.put_into(&mut written)?;
+        put_pool(alloc, &mut written, page_id, &pool)?;
+        Ok(Contents {
+            clsid: CLSID,
+            streams: written,
+            has_storages: false,
+        })
+    }
+
+    /// Returns the bytes of a file that holds the transform.
+    ///
+    /// # Errors
+    /// Fails with `InvalidInput` as `into_contents` does, or if the file would pass 2^31 bytes. Otherwise it fails with
+    /// `OutOfMemory`.
+    pub fn into_bytes(self, alloc: Global) -> Result<Vec<u8>, Error>
+        ensures ok { IfOk result (λ image. (c : Contents) × AreWritten self c × Holds image.items c) }
+        ensures kinds { IfErr result (λ kind. (kind ≡ InvalidInput) ⊎ (kind ≡ OutOfMemory)) }
+    {
+        let contents = self.into_contents(alloc)?;
+        write(alloc, &contents, 0)
     }
 
     /// Returns the id of the page as the transform stores it: it may be 0 for UTF-8, where the page is neutral.
