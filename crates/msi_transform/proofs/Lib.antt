@@ -5,5 +5,7 @@ pub mod TableStreamsLemmas
 pub mod KeptTextsLemmas
 pub mod TransformFileLemmas
 pub mod WrittenLemmas
+pub mod TableKeyLemmas
+pub mod ReadBackLemmas
 pub mod ApplyingRows
 pub mod MakingRows
