@@ -5,7 +5,7 @@ use Rattle.std.proofs.lemmas.Bool.Decides.{nat_tests}
 use Rattle.std.proofs.lemmas.Map.Lookups.{exact_bytes}
 use Rattle.std.specs.Cmp.{tied_itself}
 use Rattle.std.specs.Cmp.Lexicographic.{bytes_decides, nat_list_cmp_total}
-use Rattle.std.specs.FinMap.{entries, find, is_sorted, put}
+use Rattle.std.specs.FinMap.{entries, find, is_sorted}
 use Rattle.std.specs.FinMap.Entries.{below_all, by_order, find-put, is_sorted-put, same_entries}
 use Rattle.std.specs.Int.{to_le_bytes, w32}
 use Rattle.std.specs.List.{AllByRecursion, flat_map, list_any}
@@ -15,7 +15,6 @@ use Rattle.std.specs.Prelude.{◌==◌, IfOk, IsSomeAnd, T, bytes_eq, if◌then�
 use Rattle.std.specs.declared.cmp.Ordering.{Ordering}
 use Rattle.std.specs.declared.cmp.Ordering.TheVariants.{Less, Equal, Greater}
 use Rattle.msi_base.specs.Lists.{all_present, list_cmp}
-use Rattle.msi_base.specs.Numbers.{number_at}
 use Rattle.msi_base.specs.Pages.{page_id, page_with_id}
 use Rattle.msi_base.specs.declared.errors.ErrorKind.{ErrorKind}
 use Rattle.msi_base.specs.declared.codepage.CodePage.{CodePage}
@@ -39,8 +38,8 @@ use Rattle.msi_pool.proofs.ForgottenLemmas.{empty_places}
 use Rattle.msi_pool.proofs.PoolReadBackLemmas.{pools_read_back}
 use Rattle.msi_transform.specs.StoredPools.{PoolIs, data_key, pool_key, stored_page_id}
 use Rattle.msi_transform.specs.Transforms.{TransformDef}
-use Rattle.msi_transform.specs.TransformFiles.{IsTransform, ReadsTo, begin_with_texts, by_names, is_records_key, is_table_key, is_utf8, keeps_texts, others_among, records_among, text_of_key}
-use Rattle.msi_transform.specs.WrittenTransforms.{AreWritten, IsMade, WrittenTransformsReadBack, is_unwritable, with_page_id, with_pool, with_table_stream, with_table_streams}
+use Rattle.msi_transform.specs.TransformFiles.{ReadsTo, begin_with_texts, by_names, is_records_key, is_table_key, is_utf8, keeps_texts, others_among, records_among, text_of_key}
+use Rattle.msi_transform.specs.WrittenTransforms.{AreWritten, IsMade, WrittenTransformsReadBack, is_unwritable, with_page_id, with_table_stream, with_table_streams}
 use Rattle.msi_transform.proofs.StoredPoolLemmas.{at_bytes}
 use Rattle.msi_transform.proofs.TableKeyLemmas.{data_no_records, data_passes, pool_no_records, pool_passes, records_pass, table_back, table_named, table_passes}
 use Rattle.msi_transform.proofs.TransformFileLemmas.{transform_is}
@@ -322,7 +321,7 @@ module _ (t : TransformDef) (made : IsMade t) (writable : is_unwritable t ≡ fa
 pub written_transforms_read_back : WrittenTransformsReadBack
 written_transforms_read_back t c made writable written =
     let (listed, texts, listed_is, texts_are, same) = both_there (pool_stream t.pool) (data_stream t.pool)
-        (λ l ts. with_stream data_key ts (with_stream pool_key (with_page_id t.page_id t.pool.long l) (with_table_streams t.tables t.streams))) (entries c.streams) written.streams in
+    (λ l ts. with_stream data_key ts (with_stream pool_key (with_page_id t.page_id t.pool.long l) (with_table_streams t.tables t.streams))) (entries c.streams) written.streams in
     record {
       clsid = written.clsid;
       pool = subst (λ (ss : Streams). PoolIs ss t.pool) (sym same) (pool_back t made writable listed texts listed_is texts_are);

@@ -1,14 +1,14 @@
 -- The names of tables, and the container's names of their streams.
-use Rattle.std.proofs.Common.{◌≡◌, ℕ, ◌<◌, suc, zero, Bool, true, false, not, ◌&&◌, List, [], ◌∷◌, Some, chars, None, refl, sym, ap, ◌∙◌, arith}
+use Rattle.std.proofs.Common.{◌≡◌, ℕ, ◌<◌, suc, zero, Bool, true, false, not, ◌&&◌, List, [], ◌∷◌, Some, chars, None, refl, ap, ◌∙◌, arith}
 use Rattle.std.proofs.lemmas.Bool.{and_parts}
 use Rattle.std.proofs.lemmas.Str.{IsUtf8-from_ascii, encodes-chars, scalars-chars}
 use Rattle.std.specs.Char.Utf16.{utf16_lossy_chars}
 use Rattle.std.specs.Cmp.Lexicographic.{bytes_decides}
 use Rattle.std.specs.List.{AllByRecursion}
-use Rattle.std.specs.Prelude.{bytes_eq, encode_utf8_all, if◌then◌else◌, length, nat_le}
+use Rattle.std.specs.Prelude.{bytes_eq, encode_utf8_all, if◌then◌else◌, nat_le}
 use Rattle.std.specs.Str.{IsAscii, IsUtf8}
 use Rattle.msi_categories.specs.CategoryRules.{is_identifier}
-use Rattle.msi_container_format.specs.Names.{is_name_length, named}
+use Rattle.msi_container_format.specs.Names.{named}
 use Rattle.msi_container_format.specs.StreamNames.{decoded_name, encoded_name, encoded_units}
 use Rattle.msi_container_format.proofs.AcceptedNamesLemmas.{accepted_is}
 use Rattle.msi_container_format.proofs.PackedNamesLemmas.{encoded_scalars}
