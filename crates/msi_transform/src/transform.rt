@@ -67,8 +67,8 @@ impl Transform {
     /// Fails with the first of these that applies: `InvalidData` if the bytes are no compound file, or the root's CLSID
     /// isn't that of a transform; `NotFound` if the stream of the pool is missing, `InvalidData` if it doesn't have its
     /// form; `NotFound` if that of its texts is missing, `InvalidData` if it has no such texts; `InvalidData` if the
-    /// page is UTF-8 and a text has bytes that aren't. If none applies, it fails with `OutOfMemory`, which may also
-    /// come in place of the others.
+    /// page is UTF-8 and that stream doesn't begin with the texts as they are, since bytes that encode no character
+    /// were read as U+FFFD. If none applies, it fails with `OutOfMemory`, which may also come in place of the others.
     pub fn read(alloc: Global, bytes: Vec<u8>) -> Result<Transform, Error>
         ensures ok { IfOk result (λ transform. ReadsTo bytes.items (Ok transform)) }
         ensures kind { IfErr result (IsReadRefusal bytes.items) }
