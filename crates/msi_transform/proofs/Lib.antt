@@ -5,6 +5,8 @@ pub mod TableStreamsLemmas
 pub mod KeptTextsLemmas
 pub mod TransformFileLemmas
 pub mod WrittenLemmas
+pub mod TableKeyLemmas
+pub mod ReadBackLemmas
 pub mod ApplyingRows
 pub mod MakingRows
 pub mod ColumnKeysLemmas

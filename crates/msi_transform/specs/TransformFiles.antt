@@ -54,8 +54,8 @@ abbrev pub begin_with_texts : List Place → List ℕ → Bool
 begin_with_texts places bytes =
     let texts = flat_map (λ (p : Place). p.text) places in bytes_eq (take (length texts) bytes) texts
 
--- In UTF-8 bytes that encode no character read as U+FFFD. No text of a transform may be read so: the texts stand in
--- their stream as they are
+-- In UTF-8 bytes that encode no character read as U+FFFD, by which a transform would change texts: so its stream of
+-- texts has to begin with them as they are
 abbrev pub is_utf8 : CodePage → Bool
 is_utf8 page = page_id page == page_id Utf8
 

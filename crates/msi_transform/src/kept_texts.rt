@@ -1,4 +1,4 @@
-//! Whether the texts of a pool in UTF-8 stand in their stream as they are.
+//! Whether the texts of a pool in UTF-8 are in their stream as they are.
 
 ghost use Rattle.std.specs.Prelude.{◌≡◌};
 ghost use Rattle.std.specs.FinMap.{entries};
@@ -10,8 +10,8 @@ use msi_database_schema::names::string_data_key;
 use msi_pool::parts::string_ref;
 use msi_pool::stringpool::StringPool;
 
-/// Returns whether no text of the pool was read with U+FFFD in place of bytes: in UTF-8 the stream of texts begins with
-/// them as they are, and other pages read no byte so.
+/// Returns whether the stream of texts begins with the pool's texts as they are, one behind another. In another page than
+/// UTF-8 texts are stored otherwise, and it returns true.
 pub fn keeps_texts(pool: &StringPool, streams: &StreamMap) -> bool
     ensures { result ≡ are_kept pool.now (entries streams.now) }
 {

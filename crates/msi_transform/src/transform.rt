@@ -1,6 +1,6 @@
 //! Transforms as they are read from their files.
 
-ghost use Rattle.std.specs.Prelude.{◌≡◌, ◌⊎◌, ◌∷◌, [], IfErr, IfOk, IsErrOf, IsTrue, Ok, OnOk, length, option_copied, true};
+ghost use Rattle.std.specs.Prelude.{◌≡◌, ◌⊎◌, ◌∷◌, [], IfErr, IfOk, IsErrOf, IsTrue, Ok, OnOk, false, length, option_copied, true};
 ghost use Rattle.std.specs.FinMap.{entries};
 ghost use Rattle.msi_base.specs.Results.{OnlyMemory};
 ghost use Rattle.msi_base.specs.declared.errors.ErrorKind.TheVariants.{InvalidInput, OutOfMemory};
@@ -12,7 +12,7 @@ ghost use Rattle.msi_transform.specs.TransformFiles.{IsReadRefusal, IsTransform,
 ghost use Rattle.msi_transform.specs.TransformFiles.{keeps_texts as are_texts_kept, knows_clsid, pool_read_steps};
 ghost use Rattle.msi_transform.specs.TransformFiles.{read_steps, transform_clsid, transform_in};
 ghost use Rattle.msi_transform.specs.Transforms.{records_for};
-ghost use Rattle.msi_transform.specs.WrittenTransforms.{AreWritten, is_unwritable};
+ghost use Rattle.msi_transform.specs.WrittenTransforms.{AreWritten, IsMade, is_unwritable};
 
 use crate::kept_texts::keeps_texts;
 use crate::reasons;
@@ -67,8 +67,8 @@ impl Transform {
     /// Fails with the first of these that applies: `InvalidData` if the bytes are no compound file, or the root's CLSID
     /// isn't that of a transform; `NotFound` if the stream of the pool is missing, `InvalidData` if it doesn't have its
     /// form; `NotFound` if that of its texts is missing, `InvalidData` if it has no such texts; `InvalidData` if the
-    /// page is UTF-8 and a text has bytes that aren't. If none applies, it fails with `OutOfMemory`, which may also
-    /// come in place of the others.
+    /// page is UTF-8 and that stream doesn't begin with the texts as they are, since bytes that encode no character
+    /// were read as U+FFFD. If none applies, it fails with `OutOfMemory`, which may also come in place of the others.
     pub fn read(alloc: Global, bytes: Vec<u8>) -> Result<Transform, Error>
         ensures ok { IfOk result (λ transform. ReadsTo bytes.items (Ok transform)) }
         ensures kind { IfErr result (IsReadRefusal bytes.items) }
@@ -121,6 +121,7 @@ impl Transform {
     /// use, or its encoding has 2^32 bytes or more. Otherwise it fails with `OutOfMemory`.
     pub fn into_contents(self, alloc: Global) -> Result<Contents, Error>
         ensures ok { IfOk result (AreWritten self) }
+        ensures writable { OnOk result (is_unwritable self ≡ false) }
         ensures refused { IsTrue (is_unwritable self) → IsErrOf result InvalidInput }
         ensures kind { IfErr result (λ kind.
             (kind ≡ OutOfMemory) ⊎ (kind ≡ InvalidInput) × IsTrue (is_unwritable self)) }
@@ -143,13 +144,16 @@ impl Transform {
         })
     }
 
-    /// Returns the bytes of a file that holds the transform.
+    /// Returns the bytes of a file that holds the transform, which `read` reads as it. That presumes that the page has
+    /// the id, that its texts can be written in the page and read back, that free places have none, and that none of the
+    /// streams has the name of a table's.
     ///
     /// # Errors
     /// Fails with `InvalidInput` as `into_contents` does, or if the file would pass 2^31 bytes. Otherwise it fails with
     /// `OutOfMemory`.
     pub fn into_bytes(self, alloc: Global) -> Result<Vec<u8>, Error>
         ensures ok { IfOk result (λ image. (c : Contents) × AreWritten self c × Holds image.items c) }
+        ensures reads { IsMade self → IfOk result (λ image. ReadsTo image.items (Ok self)) }
         ensures kinds { IfErr result (λ kind. (kind ≡ InvalidInput) ⊎ (kind ≡ OutOfMemory)) }
     {
         let contents = self.into_contents(alloc)?;

@@ -1,4 +1,4 @@
-use Rattle.std.proofs.Common.{◌≡◌, ◌∙◌, Bool, List, ap, ℕ}
+use Rattle.std.proofs.Common.{◌∙◌, List, ap, ℕ}
 use Rattle.std.specs.FinMap.{entries}
 use Rattle.msi_database_storage.specs.Streams.{with_stream}
 use Rattle.msi_transform.specs.StoredPools.{data_key, pool_key}

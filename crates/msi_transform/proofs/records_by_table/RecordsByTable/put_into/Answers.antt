@@ -1,4 +1,4 @@
-use Rattle.std.proofs.Common.{◌≡◌, ◌∙◌, ap, sym}
+use Rattle.std.proofs.Common.{◌∙◌, ap}
 use Rattle.std.specs.FinMap.{entries}
 use Rattle.msi_transform.specs.RecordsByTable.{by_text}
 use Rattle.msi_transform.specs.WrittenTransforms.{with_table_streams}
