@@ -4,7 +4,7 @@ pub use msi_container_device::{Buffered, Device, Memory, Metered, Source};
 pub use msi_container_format::contents::{Bytes, Contents, StreamMap};
 pub use msi_container_format::name::Name;
 pub use msi_container_read::{
-    Listing, Sizes, Steps, Storage, list, list_storages, path_to, read, read_counted, read_shared,
+    Listing, Sizes, Steps, Storage, list, list_storages, read, read_counted, read_shared,
     read_storage,
 };
 pub use msi_container_write::{is_writable, write, write_to};

@@ -1,7 +1,7 @@
 -- All storages below the root, in one list (MS-CFB 2.6): first those that lie in the root, then those that lie in the
 -- first of these, and so on. Those that lie in one storage are in the order of its tree.
 use Rattle.std.specs.Prelude.{◌≡◌, ℕ, ◌+◌, ◌-◌, ◌<◌, ◌==◌, ◌↔◌, if◌then◌else◌, List, [], ◌∷◌, ◌++◌, length}
-use Rattle.std.specs.Prelude.{map, replicate, slice_index, slice_get, reverse, Option, Some, None}
+use Rattle.std.specs.Prelude.{map, replicate, slice_index, Option, Some, None}
 use Rattle.std.specs.List.{flat_map, range_with_len}
 use Rattle.msi_container_format.specs.Chains.{AreDistinct}
 use Rattle.msi_container_format.specs.Trees.{Tree, members}
@@ -100,14 +100,3 @@ abbrev pub NumberedAreReached : Type 0
 NumberedAreReached = (bytes directory : List ℕ) (trees : List Tree) → AreAllStorages bytes directory trees
     → (k : ℕ) → IsAmong (numbered bytes directory trees) k
     ↔ ((path : List (List ℕ)) × IsPath bytes directory path (Some k))
-
--- the names from a storage of a list up to the root: its own, that of the one that it lies in, and so on
-abbrev pub ClimbsBy : List Storage → List (List ℕ) → Option ℕ → Type 0
-ClimbsBy list [] place = place ≡ None
-ClimbsBy list (q ∷ names) place =
-    (k : ℕ) × (storage : Storage) × (place ≡ Some k) × (slice_get list k ≡ Some storage) × (storage.name ≡ q)
-    × ClimbsBy list names storage.parent
-
--- and from the root down to it
-abbrev pub IsPathTo : List Storage → ℕ → List (List ℕ) → Type 0
-IsPathTo list place path = (names : List (List ℕ)) × ClimbsBy list names (Some place) × (path ≡ reverse names)

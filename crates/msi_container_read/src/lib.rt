@@ -21,5 +21,5 @@ mod walks;
 pub use listing::list;
 pub use reading::{read, read_counted, read_shared, read_storage};
 pub use sizes::{Listing, Sizes};
-pub use storages::{Storage, list_storages, path_to};
+pub use storages::{Storage, list_storages};
 pub use table::Steps;

@@ -8,10 +8,6 @@ pub(crate) const NO_ROOT: Reason = Reason("the first directory entry is not the 
 
 pub(crate) const NO_STORAGE: Reason = Reason("there is no storage of this name");
 
-pub(crate) const PARENT_BEHIND: Reason = Reason(
-    "a storage of a list is before the one that it lies in",
-);
-
 pub(crate) const NAME_LENGTH: Reason = Reason("a name is odd, empty or too long");
 
 pub(crate) const NAME_TEXT: Reason = Reason("a name is not well-formed UTF-16");

@@ -1,8 +1,8 @@
 //! Listing the storages of a compound file (MS-CFB 2.6.3).
 
 ghost use Rattle.std.specs.Prelude.{◌≡◌, ℕ, List, [], ◌∷◌, ◌+◌, ◌<◌, ◌≤◌, ◌^◌, ◌++◌, length, slice_index, replicate};
-ghost use Rattle.std.specs.Prelude.{vec_len, IfOk, OnOk, IsErr, IsErrOf, true, ◌⊎◌};
-ghost use Rattle.msi_base.specs.declared.errors.ErrorKind.TheVariants.{InvalidData, InvalidInput, OutOfMemory};
+ghost use Rattle.std.specs.Prelude.{vec_len, IfOk, OnOk, IsErr, IsErrOf, true};
+ghost use Rattle.msi_base.specs.declared.errors.ErrorKind.TheVariants.{InvalidData, OutOfMemory};
 ghost use Rattle.msi_container_format.specs.Chains.{AreBelow};
 ghost use Rattle.msi_container_format.specs.Container as container;
 ghost use Rattle.msi_container_format.specs.Trees.{Tree, members};
@@ -64,33 +64,6 @@ pub fn list_storages(alloc: Global, bytes: &[u8]) -> Result<Vec<Storage>, Error>
     };
     let found = find_all(alloc, &directory)?;
     list_found(alloc, &directory, &found)
-}
-
-/// Returns the path of names that leads from the root to the storage at a place of a list of `list_storages`.
-///
-/// # Errors
-/// Fails with `InvalidInput` if there is no such place, or if a storage of the list isn't behind the one that it lies
-/// in. Fails with `OutOfMemory`.
-pub fn path_to(alloc: Global, list: &[Storage], place: usize) -> Result<Vec<Name>, Error>
-    ensures found { IfOk result (λ path. lists.IsPathTo list.now place path.items) }
-    ensures kinds { IsErr result → IsErrOf result InvalidInput ⊎ IsErrOf result OutOfMemory }
-{
-    let mut names = Vec::new(alloc);
-    let mut next = Some(place);
-    let mut limit = list.len();
-    while let Some(at) = next {
-        let Some(storage) = list.get(at) else {
-            return Err(Error::new(ErrorKind::InvalidInput, reasons::NO_STORAGE));
-        };
-        if at >= limit {
-            return Err(Error::new(ErrorKind::InvalidInput, reasons::PARENT_BEHIND));
-        }
-        names.push(storage.name.duplicate())?;
-        next = storage.parent;
-        limit = at;
-    }
-    names.reverse();
-    Ok(names)
 }
 
 fn read_directory(alloc: Global, bytes: &[u8]) -> Result<Start, Error>
