@@ -9,7 +9,7 @@ ghost use Rattle.msi_container_format.specs.Streams.{with_or_without};
 
 use crate::name::Name;
 use msi_base::parts::Part;
-use std::alloc::{AllocFailed, Global};
+use std::alloc::{AllocError, AllocFailed, Global};
 use std::collections::{BTreeMap, btree_map};
 use std::fmt;
 use std::marker::Model;
@@ -79,6 +79,18 @@ impl Bytes {
         match &self.held {
             Held::Alone(bytes) => bytes.as_slice(),
             Held::Part(part) => part.as_slice(),
+        }
+    }
+}
+
+/// The same bytes once more: a part of a file's takes no memory for them, and bytes of one stream are copied.
+impl Clone for Bytes {
+    ghost is_clone = { λ bytes copy. copy ≡ bytes };
+
+    fn clone(&self) -> Result<Bytes, AllocError> {
+        match &self.held {
+            Held::Alone(bytes) => Ok(Bytes::from_vec(bytes.clone()?)),
+            Held::Part(part) => Ok(Bytes::from_part(part.clone()?)),
         }
     }
 }

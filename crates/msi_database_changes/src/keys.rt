@@ -62,6 +62,20 @@ impl<'a> Key<'a> {
         let values = key_values(alloc, columns, row)?;
         Ok(Key { values })
     }
+
+    /// Returns the key that has these values.
+    pub fn of_values(values: Vec<ValueView<'a>>) -> Key<'a>
+        ensures { result ≡ seen_row values.entry.items }
+    {
+        Key { values }
+    }
+
+    /// Returns the values of the key, borrowed from where they lie.
+    pub fn values(&self) -> &[ValueView<'a>]
+        ensures { seen_row result.now ≡ self.now }
+    {
+        self.values.as_slice()
+    }
 }
 
 fn key_values<'a>(

@@ -73,7 +73,30 @@ fn set_cell(row: &mut Vec<ValueRef>, place: usize, cell: ValueRef)
     }
 }
 
-/// The pool gets the old text back before the new one is taken from it. Fails with `InvalidInput` if the pool is full.
+/// Exchanges a cell of a row for that of a value, whose text is moved in: the pool gets the old text back before the
+/// new one is taken from it.
+///
+/// # Errors
+/// Fails with `InvalidInput` if the pool is full, or with `OutOfMemory`, which may come before.
+pub fn exchange_cell(
+    pool: &mut PoolInUse,
+    row: &mut Vec<ValueRef>,
+    place: usize,
+    value: Value,
+) -> Result<(), Error>
+    ensures ok { OnOk result (cell_exchanged true (in_use pool.old) row.old.items place value
+        ≡ Some (row.new.items, in_use pool.new)) }
+    ensures kind { IfErr result (IsRefusal (or_refused InvalidInput
+        (cell_exchanged true (in_use pool.old) row.old.items place value))) }
+    ensures page { pool.new.pool.page ≡ pool.old.pool.page }
+    ensures long { pool.new.pool.long ≡ pool.old.pool.long }
+{
+    pool.release(cell_at(row.as_slice(), place))?;
+    let cell = pool.put(value)?;
+    set_cell(row, place, cell);
+    Ok(())
+}
+
 fn exchange(
     alloc: Global,
     pool: &mut PoolInUse,
@@ -88,10 +111,7 @@ fn exchange(
     ensures page { pool.new.pool.page ≡ pool.old.pool.page }
     ensures long { pool.new.pool.long ≡ pool.old.pool.long }
 {
-    pool.release(cell_at(row.as_slice(), place))?;
-    let cell = pool.put(value.clone(alloc)?)?;
-    set_cell(row, place, cell);
-    Ok(())
+    exchange_cell(pool, row, place, value.clone(alloc)?)
 }
 
 /// Returns a row of cells with new values, at the places of their columns, one after another: the pool gets the old

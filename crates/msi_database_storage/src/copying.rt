@@ -16,7 +16,7 @@ pub fn copied_bytes(alloc: Global, bytes: &[u8]) -> Result<Bytes, AllocError>
     Ok(Bytes::from_vec(held))
 }
 
-/// Returns a copy of streams.
+/// Returns a copy of streams. Those that share a file's bytes share them on.
 ///
 /// # Errors
 /// Fails with `OutOfMemory`.
@@ -26,7 +26,7 @@ pub fn copied_streams(alloc: Global, streams: &StreamMap) -> Result<StreamMap, E
 {
     let mut copy = StreamMap::new(alloc);
     for (name, bytes) in streams.iter() {
-        copy.insert(name.duplicate(), copied_bytes(alloc, bytes.as_slice())?)?;
+        copy.insert(name.duplicate(), bytes.clone()?)?;
     }
     Ok(copy)
 }

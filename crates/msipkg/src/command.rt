@@ -33,6 +33,11 @@ pub(crate) enum Command<'a, 'b> {
         is_forced: bool,
     },
     Change(Change<'a, 'b>),
+    /// It prints a transform, beside the package that it is for.
+    ShowTransform {
+        base: Option<&'a str>,
+        is_json: bool,
+    },
     /// It carries out the statements of a file.
     Script(&'a str),
     Batch,
@@ -103,6 +108,10 @@ impl<'a, 'b> Command<'a, 'b> {
                 other: asked.text("OTHER"),
                 is_json,
             },
+            Verb::ShowTransform => Command::ShowTransform {
+                base: asked.option("BASE"),
+                is_json,
+            },
             Verb::Batch => Command::Batch,
         })
     }
@@ -112,7 +121,11 @@ impl<'a, 'b> Command<'a, 'b> {
         match self {
             Command::Diff { .. } | Command::Incomplete(_) => 2,
             Command::Look { task, .. } => task.failure_status(),
-            Command::New { .. } | Command::Change(_) | Command::Script(_) | Command::Batch => 1,
+            Command::New { .. }
+            | Command::Change(_)
+            | Command::ShowTransform { .. }
+            | Command::Script(_)
+            | Command::Batch => 1,
         }
     }
 }

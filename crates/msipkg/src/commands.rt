@@ -7,11 +7,12 @@ use crate::looking::look_at_each;
 use clap::ArgMatches;
 use clap::error::ErrorKind;
 use msipkg_changes::{Change, change_file, create_file, prepare_statements, read_script};
-use msipkg_cli::{matches_of, verb_named};
+use msipkg_cli::{given_verb, matches_of};
 use msipkg_diff::compare_files;
 use msipkg_format::{Failure, Output, Shown, Style, System};
 use msipkg_packages::Purpose;
 use msipkg_queries::{MarkValue, mark_values};
+use msipkg_transforms::show_transform;
 use std::alloc::{AllocError, Global};
 
 /// The exit status where the reader of the output has gone away: that of a program which the signal for it ended.
@@ -76,7 +77,7 @@ fn run_matched(
 
 /// Returns the values that are given for marks.
 fn given_values(alloc: Global, matches: &ArgMatches<'_>) -> Result<Vec<MarkValue>, AllocError> {
-    match matches.subcommand() {
+    match given_verb(matches) {
         Some((_, given)) => {
             mark_values(
                 alloc,
@@ -133,8 +134,7 @@ fn asked_of<'a, 'b>(
     values: &'b [MarkValue],
     is_terminal: bool,
 ) -> Option<Asked<'a, 'b>> {
-    let (name, given) = matches.subcommand()?;
-    let verb = verb_named(name)?;
+    let (verb, given) = given_verb(matches)?;
     let style = Style {
         is_terminal,
         escapes: escapes_of(verb, given, is_terminal),
@@ -206,6 +206,20 @@ fn obey(
             Ok(0)
         }
         Command::Change(made) => change(rt, asked, made, output, errors),
+        Command::ShowTransform { base, is_json } => {
+            let base = base.map(|path| asked.package(path, Purpose::Look));
+            let transform = asked.file();
+            show_transform(
+                rt,
+                asked.style,
+                transform,
+                base.as_ref(),
+                is_json,
+                output,
+                errors,
+            )?;
+            Ok(0)
+        }
         Command::Script(path) => execute_script(rt, asked, path, output, errors),
         Command::Batch => Err(Failure::rule("batch is no command of a batch")),
         Command::Incomplete(usage) => {

@@ -20,7 +20,8 @@ pub(crate) fn escapes_of(verb: Verb, given: &ArgMatches<'_>, is_terminal: bool) 
         | Verb::Storages
         | Verb::Summary
         | Verb::Check
-        | Verb::Diff => line_escapes(given),
+        | Verb::Diff
+        | Verb::ShowTransform => line_escapes(given),
         Verb::Query => row_escapes(given),
         Verb::Extract
         | Verb::New

@@ -5,4 +5,4 @@ pub mod lines;
 pub mod words;
 
 pub use lines::words_of;
-pub use words::{QUERY_USAGE, Verb, matches_of, verb_named};
+pub use words::{QUERY_USAGE, Verb, given_verb, matches_of};

@@ -24,6 +24,7 @@ pub enum Verb {
     Export,
     Import,
     Diff,
+    ShowTransform,
     Batch,
 }
 
@@ -48,6 +49,8 @@ struct Argument {
 enum Form {
     /// A word, which has to be there.
     Word,
+    /// A word, which may be left out.
+    Optional,
     /// One word or more.
     Words,
     /// Any number of words.
@@ -557,6 +560,30 @@ static EXCHANGE_COMMANDS: [Row; 4] = [
 
 /// Returns the commands. Proofs go through all rows in each function that names a table, with a cost by their square.
 /// So there are five tables, and a function for each.
+static TRANSFORM_COMMANDS: [Row; 1] = [Row {
+    verb: Verb::ShowTransform,
+    name: "show",
+    about: "Prints what a transform adds, removes and changes",
+    arguments: &[
+        Argument {
+            id: "FILE",
+            form: Form::Word,
+            help: "The transform: a file, or a storage of one as PATH:NAME",
+        },
+        Argument {
+            id: "BASE",
+            form: Form::Optional,
+            help: "The package that it is for, whose columns and old values are shown, too",
+        },
+        JSON,
+        PAGE,
+        ESCAPE,
+    ],
+}];
+
+/// The name of the command that has those about transforms.
+const TRANSFORM: &str = "transform";
+
 fn commands() -> [&'static [Row]; 5] {
     [
         table_commands(),
@@ -587,6 +614,10 @@ fn exchange_commands() -> &'static [Row] {
     EXCHANGE_COMMANDS.as_slice()
 }
 
+fn transform_commands() -> &'static [Row] {
+    TRANSFORM_COMMANDS.as_slice()
+}
+
 /// Parses the words behind the program's name.
 ///
 /// # Errors
@@ -595,9 +626,23 @@ pub fn matches_of<'a>(alloc: Global, words: &'a [String]) -> Result<ArgMatches<'
     program(alloc)?.try_get_matches_from(words)
 }
 
-/// Returns the command of a name.
-pub fn verb_named(name: &str) -> Option<Verb> {
-    for row in commands().iter().copied().flatten() {
+/// Returns the command that was given, and its words.
+pub fn given_verb<'a, 'b>(matches: &'b ArgMatches<'a>) -> Option<(Verb, &'b ArgMatches<'a>)> {
+    let (name, given) = matches.subcommand()?;
+    if name == TRANSFORM {
+        let (name, given) = given.subcommand()?;
+        return Some((verb_among(transform_commands(), name)?, given));
+    }
+    for rows in commands() {
+        if let Some(verb) = verb_among(rows, name) {
+            return Some((verb, given));
+        }
+    }
+    None
+}
+
+fn verb_among(rows: &[Row], name: &str) -> Option<Verb> {
+    for row in rows {
         if row.name == name {
             return Some(row.verb);
         }
@@ -616,7 +661,17 @@ fn program<'a>(alloc: Global) -> Result<Command<'a>, AllocError> {
     for row in commands().iter().copied().flatten() {
         program = program.subcommand(command_of(alloc, row)?)?;
     }
-    Ok(program)
+    program.subcommand(transform_command(alloc)?)
+}
+
+fn transform_command<'a>(alloc: Global) -> Result<Command<'a>, AllocError> {
+    let mut command = Command::new(alloc, TRANSFORM)
+        .about("Prints transforms")
+        .subcommand_required(true);
+    for row in transform_commands() {
+        command = command.subcommand(command_of(alloc, row)?)?;
+    }
+    Ok(command)
 }
 
 fn command_of<'a>(alloc: Global, row: &Row) -> Result<Command<'a>, AllocError> {
@@ -635,6 +690,7 @@ fn arg_of<'a>(alloc: Global, argument: &Argument) -> Result<Arg<'a>, AllocError>
     let arg = Arg::new(alloc, id).help(argument.help);
     Ok(match argument.form {
         Form::Word => arg.required(true),
+        Form::Optional => arg,
         Form::Words => several(arg).required(true),
         Form::AnyWords => several(arg),
         Form::WordsOr(other) => several(arg)

@@ -47,14 +47,28 @@ fn compare_column(
     match old.or(new) {
         Some(column) if !removed.is_empty() || !added.is_empty() => {
             let change = Change::of(old.is_some(), new.is_some());
-            add_facts(table, column, change, &removed, &added, report)
+            add_facts(table.name(), column, change, &removed, &added, report)
         }
         _ => Ok(()),
     }
 }
 
+/// Adds a column that a table gets.
+///
+/// # Errors
+/// Fails if memory is refused.
+pub fn report_added_column(
+    table: &str,
+    column: &Column,
+    report: &mut Report<'_>,
+) -> Result<(), AllocError> {
+    let none = Vec::new(report.alloc);
+    let added = facts_beside(report.alloc, Some(column), None)?;
+    add_facts(table, column, Change::Added, &none, &added, report)
+}
+
 fn add_facts(
-    table: &Table,
+    table: &str,
     column: &Column,
     change: Change,
     removed: &[Fact],
@@ -66,7 +80,7 @@ fn add_facts(
     report.add(&Difference {
         change,
         kind: "column",
-        table: table.name(),
+        table,
         name: column.name(),
         old: old.as_slice(),
         new: new.as_slice(),

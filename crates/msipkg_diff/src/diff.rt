@@ -121,7 +121,7 @@ fn print_differences(
     output: &mut Output,
 ) -> Result<bool, Failure> {
     let mut report = Report::new(alloc, style, is_json, output);
-    report.begin(old.file, new.file);
+    report.begin(&[("old", old.file), ("new", new.file)]);
     match compare(old, new, &mut report) {
         Ok(()) => Ok(report.end()),
         Err(failure) => {

@@ -8,7 +8,7 @@ use std::fmt::{self, Display};
 
 /// How something differs.
 #[derive(Clone, Copy)]
-pub(crate) enum Change {
+pub enum Change {
     Added,
     Removed,
     Changed,
@@ -35,38 +35,40 @@ impl Change {
 
 /// What differs, with what either package has in its place, as far as that is shown.
 #[derive(Clone, Copy)]
-pub(crate) struct Difference<'a> {
-    pub(crate) change: Change,
+pub struct Difference<'a> {
+    pub change: Change,
     /// What kind of thing it is, as `row`.
-    pub(crate) kind: &'static str,
+    pub kind: &'static str,
     /// The table that it is of, or no name if it is of none.
-    pub(crate) table: &'a str,
-    pub(crate) name: &'a str,
-    pub(crate) old: &'a [Member<'a>],
-    pub(crate) new: &'a [Member<'a>],
+    pub table: &'a str,
+    pub name: &'a str,
+    pub old: &'a [Member<'a>],
+    pub new: &'a [Member<'a>],
 }
 
 /// A value under its name.
 #[derive(Clone, Copy)]
-pub(crate) struct Member<'a> {
-    pub(crate) name: &'a str,
-    pub(crate) content: Content<'a>,
+pub struct Member<'a> {
+    pub name: &'a str,
+    pub content: Content<'a>,
 }
 
 /// What stands under a name.
 #[derive(Clone, Copy)]
-pub(crate) enum Content<'a> {
+pub enum Content<'a> {
     Null,
     Value(&'a Value),
     Text(&'a str),
     Number(i64),
     Truth(bool),
+    /// A row's stream.
+    Stream,
     /// A text that is JSON already.
     Json(&'a str),
 }
 
 impl<'a> Content<'a> {
-    pub(crate) fn count(count: usize) -> Content<'a> {
+    pub fn count(count: usize) -> Content<'a> {
         Content::Number(i64::try_from(count).unwrap_or(i64::MAX))
     }
 }
@@ -120,7 +122,7 @@ impl Display for ShownContent<'_> {
             Content::Null | Content::Value(Value::Null) => Ok(()),
             Content::Value(Value::Int(number)) => write!(f, "{number}"),
             Content::Value(Value::Str(text)) => self.style.show(text.as_str()).fmt(f),
-            Content::Value(Value::Binary) => f.write_str("[stream]"),
+            Content::Stream | Content::Value(Value::Binary) => f.write_str("[stream]"),
             Content::Text(text) | Content::Json(text) => self.style.show(text).fmt(f),
             Content::Number(number) => write!(f, "{number}"),
             Content::Truth(holds) => f.write_str(if holds { "yes" } else { "no" }),
@@ -163,7 +165,7 @@ fn put_member(member: &Member<'_>, object: &mut JsonObject) {
         Content::Null | Content::Value(Value::Null) => object.put_text(name, None),
         Content::Value(Value::Int(number)) => object.put_number(name, Some(i64::from(*number))),
         Content::Value(Value::Str(text)) => object.put_text(name, Some(text.as_str())),
-        Content::Value(Value::Binary) => object.put_truth(name, true),
+        Content::Stream | Content::Value(Value::Binary) => object.put_truth(name, true),
         Content::Text(text) => object.put_text(name, Some(text)),
         Content::Number(number) => object.put_number(name, Some(number)),
         Content::Truth(holds) => object.put_truth(name, holds),

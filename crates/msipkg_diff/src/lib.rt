@@ -1,14 +1,17 @@
-//! `diff A B`: what differs between two packages.
+//! `diff A B`: what differs between two packages, and how differences are printed.
 #![tactic(auto)]
 
-mod columns;
+pub mod columns;
 pub mod diff;
-mod difference;
+pub mod difference;
 mod facts;
 mod numbering;
-mod report;
+pub mod report;
 mod rows;
 mod streams;
 mod tables;
 
+pub use columns::report_added_column;
 pub use diff::compare_files;
+pub use difference::{Change, Content, Difference, Member};
+pub use report::Report;

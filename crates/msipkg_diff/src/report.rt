@@ -7,7 +7,7 @@ use std::alloc::{AllocError, Global};
 
 /// Where differences are printed.
 #[derive(Drop)]
-pub(crate) struct Report<'a> {
+pub struct Report<'a> {
     pub(crate) alloc: Global,
     style: Style,
     is_json: bool,
@@ -17,12 +17,7 @@ pub(crate) struct Report<'a> {
 }
 
 impl<'a> Report<'a> {
-    pub(crate) fn new(
-        alloc: Global,
-        style: Style,
-        is_json: bool,
-        output: &'a mut Output,
-    ) -> Report<'a> {
+    pub fn new(alloc: Global, style: Style, is_json: bool, output: &'a mut Output) -> Report<'a> {
         Report {
             alloc,
             style,
@@ -32,18 +27,19 @@ impl<'a> Report<'a> {
         }
     }
 
-    pub(crate) fn begin(&mut self, old: &str, new: &str) {
+    /// Begins it with the names of what is compared. One that is empty is left out.
+    pub fn begin(&mut self, names: &[(&str, &str)]) {
         if !self.is_json {
             return;
         }
-        let object = object_of(self.alloc, old, new);
+        let object = object_of(self.alloc, names);
         match object.begun() {
             Ok(text) => write_text(self.style, text, self.output),
             Err(error) => self.output.refuse_memory(error),
         }
     }
 
-    pub(crate) fn add(&mut self, difference: &Difference<'_>) {
+    pub fn add(&mut self, difference: &Difference<'_>) {
         if self.is_json {
             if !self.is_equal {
                 self.output.push_str(",");
@@ -63,7 +59,7 @@ impl<'a> Report<'a> {
     }
 
     /// Ends the report, and returns whether nothing was found to differ.
-    pub(crate) fn end(&mut self) -> bool {
+    pub fn end(&mut self) -> bool {
         let is_equal = self.is_equal;
         if self.is_json {
             writeln!(self.output, "],\"equal\":{is_equal}}}");
@@ -71,7 +67,7 @@ impl<'a> Report<'a> {
         is_equal
     }
 
-    pub(crate) fn end_failed(&mut self, failure: &Failure) {
+    pub fn end_failed(&mut self, failure: &Failure) {
         if !self.is_json {
             return;
         }
@@ -84,10 +80,13 @@ impl<'a> Report<'a> {
     }
 }
 
-fn object_of(alloc: Global, old: &str, new: &str) -> JsonObject {
+fn object_of(alloc: Global, names: &[(&str, &str)]) -> JsonObject {
     let mut object = JsonObject::new(alloc);
-    object.put_text("old", Some(old));
-    object.put_text("new", Some(new));
+    for (what, name) in names {
+        if !name.is_empty() {
+            object.put_text(what, Some(name));
+        }
+    }
     object.open_list("differences");
     object
 }

@@ -316,7 +316,7 @@ fn push_content(content: Content<'_>, text: &mut String) -> Result<(), AllocErro
     match content {
         Content::Value(value) => push_key(ValueView::of(value), text),
         Content::Text(value) | Content::Json(value) => text.push_str(value),
-        Content::Null | Content::Number(_) | Content::Truth(_) => Ok(()),
+        Content::Null | Content::Number(_) | Content::Truth(_) | Content::Stream => Ok(()),
     }
 }
 

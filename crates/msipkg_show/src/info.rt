@@ -4,16 +4,18 @@ use crate::facts::Facts;
 use crate::product::add_product;
 use crate::summary::add_summary;
 use crate::tables::count_rows;
+use crate::transform_info::show_transform_info;
 use msipkg_format::Style;
-use msipkg_packages::msi::{CodePage, Error, Package};
+use msipkg_packages::msi::{CodePage, Error, Package, PackageType};
 use msipkg_packages::output::{Failure, Opened, Output, System};
 use msipkg_packages::{
-    Looked, PackageFile, StoredStreams, check_kind, file_page, kind_name, open_to_look,
+    Looked, PackageFile, StoredStreams, check_kind, file_page, is_list, kind_name, open_to_look,
     stored_streams, stream_bytes,
 };
 use std::alloc::Global;
 
-/// Prints what a file's package is, as lines or as JSON on one line, and returns whether all of it can be read.
+/// Prints what a file's package is, as lines or as JSON on one line, and returns whether all of it can be read. Of a
+/// transform with records it prints what that was made from and for.
 ///
 /// # Errors
 /// Fails as `open_to_look` does, and if a stream can't be found in the file.
@@ -28,7 +30,39 @@ pub fn show_info(
     check_kind(rt, file.path)?;
     // The file is read for its page first, so that its bytes are in memory once.
     let page = file_page(rt, file.path)?;
-    let mut looked = open_to_look(rt, file, notes)?;
+    match open_to_look(rt, file, notes) {
+        Ok(looked) if is_package(&looked.package) => {
+            show_package(rt, style, file, looked, page, is_json, output)
+        }
+        Ok(_) => {
+            show_transform_info(rt, style, file.path, is_json, output)?;
+            Ok(true)
+        }
+        Err(failure) => match show_transform_info(rt, style, file.path, is_json, output) {
+            Ok(()) => Ok(true),
+            Err(_) => Err(failure),
+        },
+    }
+}
+
+/// Returns whether the tables of a file are a package's: a transform has records in their place, and a new one, which
+/// is empty, reads as both.
+fn is_package(package: &Package<Opened>) -> bool {
+    match package.package_type() {
+        PackageType::Installer | PackageType::Patch => true,
+        PackageType::Transform => package.tables().any(|table| !is_list(table)),
+    }
+}
+
+fn show_package(
+    rt: &System,
+    style: Style,
+    file: &PackageFile<'_>,
+    mut looked: Looked,
+    page: Option<i32>,
+    is_json: bool,
+    output: &mut Output,
+) -> Result<bool, Failure> {
     let stored = stored_streams(rt, file.path, &looked.package)?;
     let mut facts = Facts::new(rt.alloc(), style, file.path, is_json);
     add_head(&looked.package, page, &mut facts);

@@ -18,6 +18,7 @@ pub mod storages;
 mod streams;
 mod summary;
 mod tables;
+mod transform_info;
 
 pub use info::show_info;
 pub use look::{Look, show};

@@ -7,8 +7,8 @@ loop-name-init c = nothing_copied c.new-copy.result c.args.streams.now c.into_it
 
 pub loop-name-preserved : goal.loop-name-preserved
 loop-name-preserved c =
-    copied_more c.loop-name.copy c.insert.new.self c.args.streams.now c.duplicate.result c.in_ok-copied_bytes.field-0 c.in-Some.name.now c.in-Some.bytes.now
-    c.loop-name.name-iterator c.next.new.self c.loop-name.invariant (search rules) c.in_ok-insert.ensures.ok c.duplicate.ensures (c.in_ok-copied_bytes.ensures ∙ c.as_slice.ensures)
+    copied_more c.loop-name.copy c.insert.new.self c.args.streams.now c.duplicate.result c.in_ok-clone.field-0 c.in-Some.name.now c.in-Some.bytes.now
+    c.loop-name.name-iterator c.next.new.self c.loop-name.invariant (search rules) c.in_ok-insert.ensures.ok c.duplicate.ensures c.in_ok-clone.ensures.cases
 
 pub returns-clause-ok : goal.returns-clause-ok
 returns-clause-ok c = copied_all c.loop-name.copy c.args.streams.now c.loop-name.name-iterator c.loop-name.invariant (search rules)

@@ -1,0 +1,9 @@
+pub mod ReadStepLemmas
+pub mod StoredPoolLemmas
+pub mod RecordsByTableLemmas
+pub mod TableStreamsLemmas
+pub mod KeptTextsLemmas
+pub mod TransformFileLemmas
+pub mod WrittenLemmas
+pub mod TableKeyLemmas
+pub mod ReadBackLemmas
