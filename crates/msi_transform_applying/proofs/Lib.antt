@@ -1,0 +1,9 @@
+pub mod ApplyingRows
+pub mod ColumnKeysLemmas
+pub mod ColumnStepsLemmas
+pub mod KeyedRowsLemmas
+pub mod PackagePartsLemmas
+pub mod RowStreamsLemmas
+pub mod TablesByNameLemmas
+pub mod ToldValuesLemmas
+pub mod RowChangesLemmas

@@ -1,0 +1,26 @@
+//! Applying a transform to the tables of a database.
+#![tactic(auto)]
+
+mod describing;
+mod dropping;
+pub mod keyed;
+pub mod leaving;
+mod listing;
+mod page;
+mod reasons;
+pub mod refusal;
+pub mod row;
+pub mod row_changes;
+pub mod row_streams;
+pub mod rows_in_hand;
+pub mod schema;
+pub mod schema_change;
+mod schema_applying;
+mod schema_records;
+pub mod tables_in_hand;
+mod table_applying;
+pub mod table_change;
+mod table_records;
+pub mod tables_by_name;
+
+pub use refusal::{RecordPlace, Refusal};

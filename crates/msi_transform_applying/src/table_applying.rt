@@ -1,0 +1,1 @@
+//! The records of tables, applied to their rows.
