@@ -7,3 +7,4 @@ pub mod RowStreamsLemmas
 pub mod TablesByNameLemmas
 pub mod ToldValuesLemmas
 pub mod RowChangesLemmas
+pub mod PlainRowsLemmas

@@ -1,6 +1,6 @@
 -- Applying a transform to a package's database: the pool and the streams that it leaves, or the first refusal.
 use Rattle.std.specs.Prelude.{ℕ, ◌+◌, Bool, true, false, not, List, [], ◌∷◌, ◌++◌, map, length, Option, Some, None}
-use Rattle.std.specs.Prelude.{option_and_then, option_map, unwrap_or, if◌then◌else◌, position, filter, bytes_eq, ◌&&◌, ◌||◌}
+use Rattle.std.specs.Prelude.{option_and_then, option_map, unwrap_or, if◌then◌else◌, filter, bytes_eq, ◌&&◌, ◌||◌}
 use Rattle.std.specs.Prelude.{is_none, is_some, ◌==◌, nat_lt, slice_get, Result, Ok, Err}
 use Rattle.std.specs.List.{flat_map, list_all, list_any}
 use Rattle.std.specs.Option.{option_map_or}
@@ -79,7 +79,7 @@ system_rows d name = unwrap_or (option_map rows_of (table_at name d)) []
 
 abbrev pub system_rows_by_key : Database → List ℕ → List ColumnDef → Rows
 system_rows_by_key d name columns =
-    by_key (map (λ row. keyed columns d.pool.places (plain_row row)) (system_rows d name))
+    by_key (map (keyed columns d.pool.places) (map plain_row (system_rows d name)))
 
 abbrev pub schema_begun : Database → SchemaInHand
 schema_begun d = record {
@@ -94,8 +94,12 @@ abbrev pub changes_schema : TransformDef → Bool
 changes_schema t = is_some (records_for tables_name t) || is_some (records_for columns_name t)
 
 -- the place of a table among those of the transform; where it has none, that behind the last
+abbrev pub place_among : List ℕ → List (List ℕ × List ℕ) → ℕ
+place_among name [] = 0
+place_among name (e ∷ es) = if bytes_eq e.0 name then 0 else place_among name es + 1
+
 abbrev pub number_of : TransformDef → List ℕ → ℕ
-number_of t name = unwrap_or (position (λ e. bytes_eq e.0 name) t.tables) (length t.tables)
+number_of t name = place_among name t.tables
 
 -- where there are two rows of `_Tables` or of `_Columns` with one key, nothing is changed in them
 abbrev pub schema_refusals : Database → Refusals

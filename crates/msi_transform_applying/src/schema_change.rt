@@ -46,10 +46,10 @@ use std::marker::Model;
 pub struct SchemaChange<'a> {
     pub(crate) alloc: Global,
     pub(crate) passing: ErrorConditions,
-    pool: &'a StringPool,
-    tables: &'a [Table],
-    streams: &'a StreamMap,
-    transform: &'a Transform,
+    pub(crate) pool: &'a StringPool,
+    pub(crate) tables: &'a [Table],
+    pub(crate) streams: &'a StreamMap,
+    pub(crate) transform: &'a Transform,
 }
 
 impl<'a> Model for SchemaChange<'a> {
@@ -244,7 +244,7 @@ impl<'a> SchemaChange<'a> {
     }
 
     /// Returns the rows of a table of the package: none where it has none of this name, or its stream can't be read.
-    fn rows_named(&self, name: &str) -> Result<Vec<Items<ValueRef>>, Error>
+    pub(crate) fn rows_named(&self, name: &str) -> Result<Vec<Items<ValueRef>>, Error>
         ensures ok { IfOk result (λ rows.
             rows.items ≡ unwrap_or (option_map rows_of (table_at name.now self.now.database)) []) }
         ensures kind { OnlyMemory result }
