@@ -7,3 +7,7 @@ pub mod RowStreamsLemmas
 pub mod TablesByNameLemmas
 pub mod ToldValuesLemmas
 pub mod RowChangesLemmas
+pub mod LeavingLemmas
+pub mod AgreeingLemmas
+pub mod StayingLemmas
+pub mod ReadBackLemmas

@@ -56,7 +56,7 @@ impl<'a> Model for ExpectedStream<'a> {
 }
 
 fn is_same_stream(held: Option<&Bytes>, expected: Option<&Bytes>) -> bool
-    ensures { result ≡ is_one_stream (option_copied held) (option_copied expected) }
+    ensures { result ≡ is_one_stream (option_copied held.entry) (option_copied expected.entry) }
 {
     match held {
         Some(held) => match expected {
@@ -75,6 +75,12 @@ impl<'a> ExpectedStream<'a> {
     }
 }
 
+fn are_met(expected: &[ExpectedStream], streams: &StreamMap) -> bool
+    ensures { result ≡ list_all (is_kept_to (entries streams.now)) expected.now }
+{
+    expected.iter().all(|stream| stream.is_met(streams))
+}
+
 /// Checks that each stream has the bytes that it is to have.
 pub(crate) fn check_expected(
     expected: &[ExpectedStream],
@@ -83,7 +89,7 @@ pub(crate) fn check_expected(
     ensures { let all = list_all (is_kept_to (entries streams.now)) expected.now in
         result ≡ unless_refused ((not all, InvalidInput) ∷ []) tt }
 {
-    if expected.iter().all(|stream| stream.is_met(streams)) {
+    if are_met(expected, streams) {
         Ok(())
     } else {
         Err(Error::new(
@@ -246,6 +252,7 @@ impl<'a> SchemaChange<'a> {
         said: &SaidStreams,
         table: &Table,
     ) -> Result<(), Error>
+        requires { table.now.long ≡ self.now.database.pool.long }
         ensures ok { let d = self.now.database in
             let staying = table_staying d (table_kept self.now.streams d.pool.long table.now) in
             let added = flat_map (row_expects (base_of self.now) self.now.by said.now table.now.name) staying.rows in

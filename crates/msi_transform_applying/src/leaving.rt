@@ -10,7 +10,7 @@ ghost use Rattle.msi_pool.specs.FirstFit.{is_long_with};
 ghost use Rattle.msi_database_changes.specs.Texts.{in_use, widens};
 ghost use Rattle.msi_database_schema.specs.Keys.{table_key as key_of_table};
 ghost use Rattle.msi_database_storage.specs.Storing.{stored_in};
-ghost use Rattle.msi_database_storage.specs.Streams.{with_stream_or_none, without_stream};
+ghost use Rattle.msi_database_storage.specs.Streams.{with_stream, with_stream_or_none, without_stream};
 ghost use Rattle.msi_transform_applying.specs.AnewInHand.{anew_in_hand, changed_in_hand};
 ghost use Rattle.msi_transform_applying.specs.Applying.{finished, page_after as page_left, pool_left as pool_that_is_left};
 ghost use Rattle.msi_transform_applying.specs.Applying.{streams_stored, streams_under, table_stored};
@@ -28,6 +28,7 @@ use crate::tables_in_hand::{TableAnew, TablesChanged, TablesInHand};
 use msi_base::codepage::CodePage;
 use msi_base::errors::{Error, ErrorKind};
 use msi_container_format::contents::{Bytes, StreamMap};
+use msi_container_format::name::Name;
 use msi_database_changes::Stored;
 use msi_database_changes::texts::PoolInUse;
 use msi_database_schema::names::table_key;
@@ -66,7 +67,28 @@ fn pool_left(used: PoolInUse, transform: &Transform) -> StringPool
     pool
 }
 
+fn put_stream(streams: &mut StreamMap, name: Name, bytes: Bytes) -> Result<(), Error>
+    ensures ok { OnOk result (entries streams.new ≡ with_stream name bytes (entries streams.old)) }
+    ensures kind { OnlyMemory result }
+{
+    streams.insert(name, bytes)?;
+    Ok(())
+}
+
+fn remove_stream(streams: &mut StreamMap, name: &Name)
+    ensures { entries streams.new ≡ without_stream name.now (entries streams.old) }
+{
+    streams.remove(name);
+}
+
 /// Makes a stream what it becomes. After an error the streams are as they were.
+#[tactic(
+    auto,
+    using(
+        crate::proofs::LeavingLemmas::stored_put,
+        crate::proofs::LeavingLemmas::stored_gone
+    )
+)]
 fn store(streams: &mut StreamMap, stored: Stored) -> Result<(), Error>
     ensures ok { OnOk result
         (entries streams.new ≡ with_stream_or_none stored.name stored.bytes (entries streams.old)) }
@@ -74,14 +96,12 @@ fn store(streams: &mut StreamMap, stored: Stored) -> Result<(), Error>
 {
     let Stored { name, bytes } = stored;
     match bytes {
-        Some(bytes) => {
-            streams.insert(name, bytes)?;
-        }
+        Some(bytes) => put_stream(streams, name, bytes),
         None => {
-            streams.remove(&name);
+            remove_stream(streams, &name);
+            Ok(())
         }
     }
-    Ok(())
 }
 
 /// Makes streams what they become, one after the other. After an error they may be in any state.
@@ -100,9 +120,7 @@ fn remove_table(streams: &mut StreamMap, name: &str)
     ensures { entries streams.new ≡ without_stream (key_of_table name.now) (entries streams.old) }
 {
     match table_key(name) {
-        Some(key) => {
-            streams.remove(&key);
-        }
+        Some(key) => remove_stream(streams, &key),
         None => look_at(streams),
     }
 }
@@ -130,8 +148,7 @@ fn store_table(
         return Ok(());
     }
     let bytes = row_bytes(alloc, long, columns.as_slice(), cells)?;
-    streams.insert(short_table_key(name), Bytes::from_vec(bytes))?;
-    Ok(())
+    put_stream(streams, short_table_key(name), Bytes::from_vec(bytes))
 }
 
 /// Stores tables anew, one after the other. After an error the streams may be in any state.
@@ -182,7 +199,7 @@ fn stored_over(
 fn texts_read_back(pool: &StringPool) -> bool
     ensures { result ≡ all_read_back pool.now }
 {
-    pool.codepage() == CodePage::Utf8 || pool.is_writable()
+    pool.is_writable()
 }
 
 fn check_texts(pool: &StringPool) -> Result<(), Error>

@@ -28,11 +28,18 @@ fn width(long: bool, coltype: ColumnType) -> usize
     }
 }
 
-/// Returns a number above the middle of 16 bits, of which it keeps the low ones.
+/// Returns the number whose low bytes stand for a number in a column of 16 bits.
 fn short_number(number: i32) -> u32
     ensures { result ≡ cast_unsigned w16 (number +ℤ pos (2 ^ 15)) }
 {
-    (number as i64 + 0x8000).rem_euclid(0x1_0000) as u32
+    let raised = number as i64 + 0x8000;
+    if raised >= 0 {
+        raised as u32
+    } else if raised > -0x1_0000 {
+        (raised + 0x1_0000) as u32
+    } else {
+        0
+    }
 }
 
 /// Returns the number whose bytes a cell takes: that of null where its column has no such cells.

@@ -1,0 +1,63 @@
+-- What is left once changed tables are stored.
+use Rattle.std.proofs.Common.{◌≡◌, ℕ, ◌<◌, ◌≤◌, Bool, true, false, cond, not, ◌&&◌, ◌||◌, List, [], ◌∷◌, ◌++◌, length, map, filter, Option, Some, None, refl, sym, ap, ◌∙◌, arith}
+use Rattle.std.specs.Prelude.{Result, Ok, Err, if◌then◌else◌, bytes_eq, option_and_then, ◌==◌}
+use Rattle.std.specs.List.{flat_map, list_all}
+use Rattle.std.specs.Option.{option_map_or}
+use Rattle.std.specs.FinMap.{FinMap, entries, entries-insert, insert, remove}
+use Rattle.std.specs.Ordering.{eq_by_cmp}
+use Rattle.std.proofs.lemmas.Bool.{true≢false}
+use Rattle.msi_base.specs.declared.errors.ErrorKind.{ErrorKind}
+use Rattle.msi_base.specs.declared.errors.ErrorKind.TheVariants.{InvalidInput}
+use Rattle.msi_base.specs.Refusals.{unless_refused}
+use Rattle.msi_container_format.specs.Names.{is_name_length, name_cmp, named}
+use Rattle.msi_container_format.proofs.NamesLemmas.{exact_names, names_total}
+use Rattle.msi_container_format.proofs.StreamsLemmas.{is_equal}
+use Rattle.msi_database_changes.specs.declared.storing.Stored.{Stored}
+use Rattle.msi_database_storage.specs.Storing.{stored_in}
+use Rattle.msi_database_storage.specs.StreamNames.{HaveShortNames}
+use Rattle.msi_database_storage.specs.Streams.{Streams, with_stream, with_stream_or_none, without_stream}
+use Rattle.msi_transform.proofs.TableStreamsLemmas.{removed}
+
+abbrev StreamMap : Type 0
+StreamMap = FinMap name_cmp (List ℕ)
+
+-- a stream that is put, and one that goes
+pub stream_put : (m n : StreamMap) (name bytes : List ℕ) → n ≡ insert m name bytes → entries n ≡ with_stream name bytes (entries m)
+stream_put m n name bytes is = ap entries is ∙ entries-insert names_total m name bytes
+
+pub stream_removed : (m n : StreamMap) (name : List ℕ) → n ≡ remove m name → entries n ≡ without_stream name (entries m)
+stream_removed m n name is = ap entries is ∙ removed m name
+
+pub stored_put : (name bytes : List ℕ) (o : Option (List ℕ)) (streams after : Streams) → o ≡ Some bytes → after ≡ with_stream name bytes streams → after ≡ with_stream_or_none name o streams
+stored_put name bytes o streams after is put = put ∙ ap (λ (p : Option (List ℕ)). with_stream_or_none name p streams) (sym is)
+
+pub stored_gone : (name : List ℕ) (o : Option (List ℕ)) (streams after : Streams) → o ≡ None → after ≡ without_stream name streams → after ≡ with_stream_or_none name o streams
+stored_gone name o streams after is gone = gone ∙ ap (λ (p : Option (List ℕ)). with_stream_or_none name p streams) (sym is)
+
+-- one stored after others
+pub stored_joined : (xs ys : List Stored) (streams : Streams) → stored_in (xs ++ ys) streams ≡ stored_in ys (stored_in xs streams)
+stored_joined [] ys streams = refl
+stored_joined (x ∷ xs) ys streams = stored_joined xs ys (with_stream_or_none x.name x.bytes streams)
+
+-- no stream has a name that is too long
+long_name_goes : (name : List ℕ) (streams : Streams) → HaveShortNames streams → is_name_length (length name) ≡ false → streams ≡ without_stream name streams
+long_name_goes name [] names long = refl
+long_name_goes name (s ∷ ss) names long =
+    elim (eq_by_cmp name_cmp name s.0) as (λ b. eq_by_cmp name_cmp name s.0 ≡ b → s ∷ ss ≡ cond (not b) (s ∷ without_stream name ss) (without_stream name ss)) [
+      | true ↦ λ e. absurd (true≢false (sym names.0 ∙ ap (λ k. is_name_length (length k)) (sym (exact_names name s.0 (is_equal _ e))) ∙ long))
+      | false ↦ λ _. ap (λ (rest : Streams). s ∷ rest) (long_name_goes name ss names.1 long)
+    ] refl
+
+unnamed_by : (b : Bool) (name : List ℕ) → None ≡ (if b then Some name else None) → b ≡ false
+unnamed_by true name e = cc
+unnamed_by false name e = refl
+
+named_by : (b : Bool) (name k : List ℕ) → Some k ≡ (if b then Some name else None) → k ≡ name
+named_by true name k e = cc
+named_by false name k e = cc
+
+pub too_long : (name : List ℕ) (streams : Streams) → HaveShortNames streams → None ≡ named name → streams ≡ without_stream name streams
+too_long name streams names none = long_name_goes name streams names (unnamed_by (is_name_length (length name)) name none)
+
+pub key_removed : (name k : List ℕ) (streams after : Streams) → Some k ≡ named name → after ≡ without_stream k streams → after ≡ without_stream name streams
+key_removed name k streams after some gone = gone ∙ ap (λ q. without_stream q streams) (named_by (is_name_length (length name)) name k some)

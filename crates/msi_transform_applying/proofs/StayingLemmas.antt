@@ -1,0 +1,45 @@
+-- The tables of a package that stay as they are, and their rows.
+use Rattle.std.proofs.Common.{◌≡◌, ℕ, zero, suc, ◌+◌, ◌<◌, Bool, true, false, cond, not, ◌&&◌, List, [], ◌∷◌, ◌++◌, length, map, drop, get_or, Option, Some, None, is_some, option_map, refl, sym, ap, ◌∙◌, arith}
+use Rattle.std.specs.Prelude.{if◌then◌else◌, unwrap_or, bytes_eq}
+use Rattle.std.specs.Cmp.Lexicographic.{bytes_decides}
+use Rattle.std.specs.List.{AllByRecursion, flat_map}
+use Rattle.std.specs.Option.{option_map_or}
+use Rattle.std.proofs.lemmas.List.{append_assoc, append-nil, drop_more}
+use Rattle.msi_database_changes.specs.Database.{Database, has_table}
+use Rattle.msi_database_storage.specs.Kept.{AreAsLong, table_kept_at}
+use Rattle.msi_table.specs.Tables.{TableDef}
+use Rattle.msi_transform_applying.specs.SchemaChanges.{is_gone, untold_table}
+use Rattle.msi_transform_applying.specs.TablesInHand.{TableInHand}
+use Rattle.msi_transform_applying.specs.declared.schema.Standing.TheVariants as stands
+
+-- a table of the package is gone where the transform says so
+pub dropped : (d : Database) (name : List ℕ) (o : Option TableInHand) → has_table name d ≡ true → option_map_or (λ (t : TableInHand). is_gone t.standing) o false ≡ is_gone (unwrap_or o (untold_table d name)).standing
+dropped d name None there = sym (ap (λ b. is_gone (if b then stands.Kept else stands.Gone)) there)
+dropped d name (Some t) there = refl
+
+-- each table is found by its name, and has references as long as all
+found_or : (b : Bool) (u : TableDef) (o : Option TableDef) → is_some o ≡ true → is_some (cond b (Some u) o) ≡ true
+found_or true u o h = refl
+found_or false u o h = h
+
+pub found_at : (tables : List TableDef) (i : ℕ) (t : TableDef) → i < length tables → t ≡ get_or tables i t → is_some (table_kept_at t.name tables) ≡ true
+found_at [] i t inside at = absurd (omega arith)
+found_at (u ∷ us) zero t inside at =
+    ap (λ (x : TableDef). is_some (table_kept_at x.name (u ∷ us))) at
+    ∙ ap (λ b. is_some (cond b (Some u) (table_kept_at u.name us))) ((bytes_decides u.name u.name).1 refl)
+found_at (u ∷ us) (suc i) t inside at = found_or (bytes_eq t.name u.name) u (table_kept_at t.name us) (found_at us i t (omega arith) at)
+
+pub long_at : (long : Bool) (tables : List TableDef) (i : ℕ) (t : TableDef) → AreAsLong long tables → i < length tables → t ≡ get_or tables i t → t.long ≡ long
+long_at long [] i t all inside at = absurd (omega arith)
+long_at long (u ∷ us) zero t all inside at = ap (λ (x : TableDef). x.long) at ∙ all.0
+long_at long (u ∷ us) (suc i) t all inside at = long_at long us i t all.1 (omega arith) at
+
+-- what one more element adds
+module _ {X A : Type 0} (f : X → List A) where
+  pub added_one : (rest : List X) (x : X) (before after whole : List A) → after ≡ before ++ f x → before ++ flat_map f (x ∷ rest) ≡ whole → after ++ flat_map f rest ≡ whole
+  added_one rest x before after whole is all =
+      ap (λ (as : List A). as ++ flat_map f rest) is ∙ append_assoc before (f x) (flat_map f rest) ∙ all
+
+  pub added_none : (rest : List X) (before whole : List A) → rest ≡ [] → before ++ flat_map f rest ≡ whole → before ≡ whole
+  added_none rest before whole none all =
+      sym (append-nil before) ∙ ap (λ (xs : List X). before ++ flat_map f xs) (sym none) ∙ all
