@@ -97,14 +97,14 @@ module _ (k : Kept) (t : TransformDef) (said : List Stored) (after : Streams) wh
     staying_agree [] = refl
     staying_agree (e ∷ es) = if_in (is_in e) e es (staying_agree es)
 
-abbrev left_with : Pool → Streams → Left
+abbrev pub left_with : Pool → Streams → Left
 left_with pool streams = record { pool = pool; streams = streams }
 
 -- the two tests that come last
-abbrev answer : Bool → Bool → Left → Result Left Refusal
+abbrev pub answer : Bool → Bool → Left → Result Left Refusal
 answer met read left = nowhere (unless_refused ((not met, InvalidInput) ∷ (not read, InvalidInput) ∷ []) left)
 
-abbrev checked : Bool → Result Unit ErrorKind
+abbrev pub checked : Bool → Result Unit ErrorKind
 checked met = unless_refused ((not met, InvalidInput) ∷ []) tt
 
 passed_both : (met read : Bool) (left : Left) → Ok tt ≡ checked met → Ok tt ≡ checked read → answer met read left ≡ Ok left

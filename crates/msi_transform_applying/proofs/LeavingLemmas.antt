@@ -16,7 +16,14 @@ use Rattle.msi_database_changes.specs.declared.storing.Stored.{Stored}
 use Rattle.msi_database_storage.specs.Storing.{stored_in}
 use Rattle.msi_database_storage.specs.StreamNames.{HaveShortNames}
 use Rattle.msi_database_storage.specs.Streams.{Streams, with_stream, with_stream_or_none, without_stream}
+use Rattle.msi_database_schema.specs.Keys.{table_key}
+use Rattle.msi_table.specs.Tables.{stored_bytes}
+use Rattle.msi_table_cells.specs.declared.cell.ValueRef.{ValueRef}
 use Rattle.msi_transform.proofs.TableStreamsLemmas.{removed}
+use Rattle.msi_transform_applying.specs.Applying.{TableAnew, cells_anew, table_stored}
+use Rattle.msi_transform_applying.specs.ExpectedStreams.{CanBeStored}
+use Rattle.std.proofs.lemmas.Bool.Decides.{nat_tests}
+use Rattle.std.proofs.lemmas.List.{length-map}
 
 abbrev StreamMap : Type 0
 StreamMap = FinMap name_cmp (List ℕ)
@@ -61,3 +68,31 @@ too_long name streams names none = long_name_goes name streams names (unnamed_by
 
 pub key_removed : (name k : List ℕ) (streams after : Streams) → Some k ≡ named name → after ≡ without_stream k streams → after ≡ without_stream name streams
 key_removed name k streams after some gone = gone ∙ ap (λ q. without_stream q streams) (named_by (is_name_length (length name)) name k some)
+
+-- A TABLE THAT IS STORED ANEW
+
+by_emptiness : (b : Bool) (name bytes : List ℕ) (streams after : Streams) → b ≡ true → after ≡ without_stream name streams → after ≡ with_stream_or_none name (if b then None else Some bytes) streams
+by_emptiness true name bytes streams after e gone = gone
+by_emptiness false name bytes streams after e gone = absurd (true≢false (sym e))
+
+by_presence : (b : Bool) (name bytes : List ℕ) (streams after : Streams) → b ≡ false → after ≡ with_stream name bytes streams → after ≡ with_stream_or_none name (if b then None else Some bytes) streams
+by_presence true name bytes streams after e put = absurd (true≢false e)
+by_presence false name bytes streams after e put = put
+
+module _ (long : Bool) (table : TableAnew) (cells : List (List ValueRef)) (cells_are : cells ≡ cells_anew table) where
+  pub stored_empty : (streams after : Streams) → (length cells == 0) ≡ true → after ≡ without_stream (table_key table.name) streams
+      → after ≡ with_stream_or_none (table_key table.name) (table_stored long table).bytes streams
+  stored_empty streams after empty gone = by_emptiness (length (cells_anew table) == 0) (table_key table.name) (stored_bytes long table.columns (cells_anew table)) streams after
+      (ap (λ (cs : List (List ValueRef)). length cs == 0) (sym cells_are) ∙ empty) gone
+
+  pub stored_full : (streams after : Streams) → (length cells == 0) ≡ false → after ≡ with_stream (table_key table.name) (stored_bytes long table.columns cells) streams
+      → after ≡ with_stream_or_none (table_key table.name) (table_stored long table).bytes streams
+  stored_full streams after some put = by_presence (length (cells_anew table) == 0) (table_key table.name) (stored_bytes long table.columns (cells_anew table)) streams after
+      (ap (λ (cs : List (List ValueRef)). length cs == 0) (sym cells_are) ∙ some)
+      (put ∙ ap (λ (cs : List (List ValueRef)). with_stream (table_key table.name) (stored_bytes long table.columns cs) streams) cells_are)
+
+  some_rows : (length cells == 0) ≡ false → 1 ≤ length table.rows
+  some_rows some = let many : length cells ≡ length table.rows = ap length cells_are ∙ length-map (λ e. e.1.cells) table.rows in grind (arith, nat_tests)
+
+  pub named_short : CanBeStored table → (length cells == 0) ≡ false → is_name_length (length (table_key table.name)) ≡ true
+  named_short can some = can (some_rows some)

@@ -11,3 +11,4 @@ pub mod LeavingLemmas
 pub mod AgreeingLemmas
 pub mod StayingLemmas
 pub mod ReadBackLemmas
+pub mod FinishedLemmas

@@ -1,14 +1,21 @@
 -- The tables of a package that stay as they are, and their rows.
-use Rattle.std.proofs.Common.{◌≡◌, ℕ, zero, suc, ◌+◌, ◌<◌, Bool, true, false, cond, not, ◌&&◌, List, [], ◌∷◌, ◌++◌, length, map, drop, get_or, Option, Some, None, is_some, option_map, refl, sym, ap, ◌∙◌, arith}
+use Rattle.std.proofs.Common.{◌≡◌, ℕ, zero, suc, ◌+◌, ◌<◌, ◌≤◌, subst, Bool, true, false, cond, not, ◌&&◌, List, [], ◌∷◌, ◌++◌, length, map, drop, get_or, Option, Some, None, is_some, option_map, refl, sym, ap, ◌∙◌, arith}
 use Rattle.std.specs.Prelude.{if◌then◌else◌, unwrap_or, bytes_eq}
 use Rattle.std.specs.Cmp.Lexicographic.{bytes_decides}
 use Rattle.std.specs.List.{AllByRecursion, flat_map}
 use Rattle.std.specs.Option.{option_map_or}
-use Rattle.std.proofs.lemmas.List.{append_assoc, append-nil, drop_more}
-use Rattle.msi_database_changes.specs.Database.{Database, has_table}
-use Rattle.msi_database_storage.specs.Kept.{AreAsLong, table_kept_at}
+use Rattle.std.proofs.lemmas.List.{append_assoc, append-nil, drop_all, length-map}
+use Rattle.msi_database_changes.specs.Database.{Database, has_table, rows_of}
+use Rattle.msi_database_storage.specs.Kept.{AreAsLong, database_kept, table_kept, table_kept_at}
+use Rattle.msi_database_storage.specs.Streams.{Streams, stored_rows}
+use Rattle.msi_pool.specs.Pool.{Pool}
+use Rattle.msi_table_cells.specs.declared.cell.ValueRef.{ValueRef}
+use Rattle.msi_table_cells.specs.TableCells.{TableCells}
+use Rattle.msi_transform.specs.Transforms.{TransformDef}
+use Rattle.msi_transform.specs.declared.conditions.ErrorConditions.{ErrorConditions}
+use Rattle.msi_transform_applying.proofs.PackagePartsLemmas.{known}
 use Rattle.msi_table.specs.Tables.{TableDef}
-use Rattle.msi_transform_applying.specs.SchemaChanges.{is_gone, untold_table}
+use Rattle.msi_transform_applying.specs.SchemaChanges.{SchemaChange, is_gone, untold_table}
 use Rattle.msi_transform_applying.specs.TablesInHand.{TableInHand}
 use Rattle.msi_transform_applying.specs.declared.schema.Standing.TheVariants as stands
 
@@ -43,3 +50,38 @@ module _ {X A : Type 0} (f : X → List A) where
   pub added_none : (rest : List X) (before whole : List A) → rest ≡ [] → before ++ flat_map f rest ≡ whole → before ≡ whole
   added_none rest before whole none all =
       sym (append-nil before) ∙ ap (λ (xs : List X). before ++ flat_map f xs) (sym none) ∙ all
+
+-- THE TABLES OF A PACKAGE, AS A CHANGE SEES THEM
+
+table_next : {A : Type 0} (f : TableDef → A) (tables : List TableDef) (i : ℕ) (t : TableDef) → i < length tables → t ≡ get_or tables i t → drop i (map f tables) ≡ f t ∷ drop (i + 1) (map f tables)
+table_next f [] i t inside at = absurd (omega arith)
+table_next {A} f (u ∷ us) zero t inside at = ap (λ (x : TableDef). f x ∷ map f us) (sym at)
+table_next f (u ∷ us) (suc i) t inside at = table_next f us i t (omega arith) at
+
+module _ (pool : Pool) (tables : List TableDef) (streams : Streams) (by : TransformDef) (passing : ErrorConditions) where
+  abbrev pub seen : SchemaChange
+  seen = record { database = database_kept pool tables streams; streams = streams; by = by; passing = passing }
+
+  module _ (change : SchemaChange) (view : seen ≡ change) where
+    pub none_further : (i : ℕ) → length tables ≤ i → drop i change.database.tables ≡ []
+    none_further i past = subst (λ (s : SchemaChange). drop i s.database.tables ≡ []) view
+        (drop_all i (map (table_kept streams pool.long) tables) (omega (arith, length-map (table_kept streams pool.long) tables)))
+
+    module _ (i : ℕ) (t : TableDef) (inside : i < length tables) (at : t ≡ get_or tables i t) where
+      pub next_table : drop i change.database.tables ≡ table_kept change.streams change.database.pool.long t ∷ drop (i + 1) change.database.tables
+      next_table = subst (λ (s : SchemaChange). drop i s.database.tables ≡ table_kept s.streams s.database.pool.long t ∷ drop (i + 1) s.database.tables) view
+          (table_next (table_kept streams pool.long) tables i t inside at)
+
+      pub is_there : has_table t.name change.database ≡ true
+      is_there = sym (known pool tables streams t.name ∙ ap (λ (s : SchemaChange). has_table t.name s.database) view) ∙ found_at tables i t inside at
+
+      pub is_as_long : AreAsLong pool.long tables → t.long ≡ change.database.pool.long
+      is_as_long all = long_at pool.long tables i t all inside at ∙ ap (λ (s : SchemaChange). s.database.pool.long) view
+
+    -- the rows of a table
+    pub rows_kept : (t : TableDef) (read : Option (List (List ValueRef))) → t.long ≡ change.database.pool.long → stored_rows streams t.long t.columns t.name ≡ read
+        → rows_of (table_kept change.streams change.database.pool.long t).1 ≡ unwrap_or read []
+    rows_kept t read long is =
+        ap (λ (b : Bool). unwrap_or (stored_rows change.streams b t.columns t.name) []) (sym long)
+        ∙ ap (λ (s : SchemaChange). unwrap_or (stored_rows s.streams t.long t.columns t.name) []) (sym view)
+        ∙ ap (λ (o : Option (List (List ValueRef))). unwrap_or o []) is
