@@ -92,7 +92,7 @@ module _ (long : Bool) (table : TableAnew) (cells : List (List ValueRef)) (cells
       (put ∙ ap (λ (cs : List (List ValueRef)). with_stream (table_key table.name) (stored_bytes long table.columns cs) streams) cells_are)
 
   some_rows : (length cells == 0) ≡ false → 1 ≤ length table.rows
-  some_rows some = let many : length cells ≡ length table.rows = ap length cells_are ∙ length-map (λ e. e.1.cells) table.rows in grind (arith, nat_tests)
+  some_rows some = let many : length cells ≡ length table.rows = ap length cells_are ∙ length-map table.rows (λ e. e.1.cells) in grind (arith, nat_tests)
 
   pub named_short : CanBeStored table → (length cells == 0) ≡ false → is_name_length (length (table_key table.name)) ≡ true
   named_short can some = can (some_rows some)

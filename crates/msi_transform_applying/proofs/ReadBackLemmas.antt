@@ -1,10 +1,11 @@
 -- Texts that read back in the page in which they are written.
-use Rattle.std.proofs.Common.{◌≡◌, ℕ, zero, suc, ◌<◌, Bool, true, false, ◌&&◌, ◌||◌, List, [], ◌∷◌, Option, Some, None, refl, sym, ap, ◌∙◌, arith}
+use Rattle.std.proofs.Common.{◌≡◌, ℕ, ◌<◌, Bool, true, false, ◌&&◌, ◌||◌, List, [], ◌∷◌, Option, Some, None, refl, sym, ap, ◌∙◌, arith}
 use Rattle.std.specs.Prelude.{IsUtf8, bytes_eq, option_and_then, ◌==◌}
 use Rattle.std.specs.Cmp.Lexicographic.{bytes_decides}
 use Rattle.std.specs.List.{AllByRecursion, list_all}
 use Rattle.std.specs.Option.{option_map_or}
 use Rattle.std.proofs.lemmas.Bool.{true≢false}
+use Rattle.std.proofs.lemmas.Bool.Decides.{nat_tests}
 use Rattle.std.proofs.lemmas.Option.{same_Some}
 use mathlib.Core.Path.{ap₂}
 use Rattle.msi_base.specs.declared.codepage.CodePage.{CodePage}
@@ -57,12 +58,13 @@ one_reads page.Iso88598 text utf8 = compared text (option_and_then (text_in page
 
 -- a place that is free may hold any text
 counted : (n : ℕ) (b : Bool) → ((n == 0) || b) ≡ true → 0 < n → b ≡ true
-counted zero b e some = absurd (omega arith)
-counted (suc n) b e some = e
+counted n b e some = let used : (n == 0) ≡ false = grind (arith, nat_tests) in ap (λ c. c || b) (sym used) ∙ e
 
 free_or : (n : ℕ) (b : Bool) → (0 < n → b ≡ true) → ((n == 0) || b) ≡ true
-free_or zero b f = refl
-free_or (suc n) b f = f (omega arith)
+free_or n b f = elim (n == 0) as (λ c. (n == 0) ≡ c → (c || b) ≡ true) [
+  | true ↦ λ _. refl
+  | false ↦ λ e. let some : 0 < n = grind (arith, nat_tests) in f some
+] refl
 
 module _ (p : CodePage) where
   abbrev reads : Place → Bool

@@ -2,9 +2,10 @@
 use Rattle.std.proofs.Common.{◌≡◌, ℕ, zero, suc, ◌+◌, ◌<◌, ◌≤◌, subst, Bool, true, false, cond, not, ◌&&◌, List, [], ◌∷◌, ◌++◌, length, map, drop, get_or, Option, Some, None, is_some, option_map, refl, sym, ap, ◌∙◌, arith}
 use Rattle.std.specs.Prelude.{if◌then◌else◌, unwrap_or, bytes_eq}
 use Rattle.std.specs.Cmp.Lexicographic.{bytes_decides}
-use Rattle.std.specs.List.{AllByRecursion, flat_map}
+use Rattle.std.specs.List.{AllByRecursion, flat_map, slice_get}
 use Rattle.std.specs.Option.{option_map_or}
-use Rattle.std.proofs.lemmas.List.{append_assoc, append-nil, drop_all, length-map}
+use Rattle.std.proofs.lemmas.List.{append_assoc, append-nil, drop_all, drop_more, get_or-map, length-map}
+use Rattle.std.proofs.lemmas.Option.{same_Some, slice_get-get_or}
 use Rattle.msi_database_changes.specs.Database.{Database, has_table, rows_of}
 use Rattle.msi_database_storage.specs.Kept.{AreAsLong, database_kept, table_kept, table_kept_at}
 use Rattle.msi_database_storage.specs.Streams.{Streams, stored_rows}
@@ -54,9 +55,9 @@ module _ {X A : Type 0} (f : X → List A) where
 -- THE TABLES OF A PACKAGE, AS A CHANGE SEES THEM
 
 table_next : {A : Type 0} (f : TableDef → A) (tables : List TableDef) (i : ℕ) (t : TableDef) → i < length tables → t ≡ get_or tables i t → drop i (map f tables) ≡ f t ∷ drop (i + 1) (map f tables)
-table_next f [] i t inside at = absurd (omega arith)
-table_next {A} f (u ∷ us) zero t inside at = ap (λ (x : TableDef). f x ∷ map f us) (sym at)
-table_next f (u ∷ us) (suc i) t inside at = table_next f us i t (omega arith) at
+table_next {A} f tables i t inside at =
+    drop_more (map f tables) i (f t) (omega (arith, length-map tables f))
+    ∙ ap (λ (x : A). x ∷ drop (i + 1) (map f tables)) (get_or-map f tables i t (f t) inside ∙ ap f (sym at))
 
 module _ (pool : Pool) (tables : List TableDef) (streams : Streams) (by : TransformDef) (passing : ErrorConditions) where
   abbrev pub seen : SchemaChange
@@ -65,7 +66,7 @@ module _ (pool : Pool) (tables : List TableDef) (streams : Streams) (by : Transf
   module _ (change : SchemaChange) (view : seen ≡ change) where
     pub none_further : (i : ℕ) → length tables ≤ i → drop i change.database.tables ≡ []
     none_further i past = subst (λ (s : SchemaChange). drop i s.database.tables ≡ []) view
-        (drop_all i (map (table_kept streams pool.long) tables) (omega (arith, length-map (table_kept streams pool.long) tables)))
+        (drop_all i (map (table_kept streams pool.long) tables) (omega (arith, length-map tables (table_kept streams pool.long))))
 
     module _ (i : ℕ) (t : TableDef) (inside : i < length tables) (at : t ≡ get_or tables i t) where
       pub next_table : drop i change.database.tables ≡ table_kept change.streams change.database.pool.long t ∷ drop (i + 1) change.database.tables
@@ -85,3 +86,18 @@ module _ (pool : Pool) (tables : List TableDef) (streams : Streams) (by : Transf
         ap (λ (b : Bool). unwrap_or (stored_rows change.streams b t.columns t.name) []) (sym long)
         ∙ ap (λ (s : SchemaChange). unwrap_or (stored_rows s.streams t.long t.columns t.name) []) (sym view)
         ∙ ap (λ (o : Option (List (List ValueRef))). unwrap_or o []) is
+
+-- one row more of those that are read where they lie
+row_next : {X : Type 0} (rows : List X) (i : ℕ) (row : X) → i < length rows → slice_get rows i ≡ Some row → drop i rows ≡ row ∷ drop (i + 1) rows
+row_next {X} rows i row inside is =
+    drop_more rows i row inside ∙ ap (λ (x : X). x ∷ drop (i + 1) rows) (same_Some _ _ (sym (slice_get-get_or rows i row inside) ∙ is))
+
+module _ {X Y A : Type 0} (f : Y → List A) (g : X → Y) where
+  pub row_added : (rows : List X) (i : ℕ) (row : X) (before added after whole : List A) → i < length rows → slice_get rows i ≡ Some row → after ≡ before ++ added → added ≡ f (g row)
+      → before ++ flat_map f (map g (drop i rows)) ≡ whole → after ++ flat_map f (map g (drop (i + 1) rows)) ≡ whole
+  row_added rows i row before added after whole inside is ok added_is all =
+      added_one f (map g (drop (i + 1) rows)) (g row) before after whole (ok ∙ ap (λ (as : List A). before ++ as) added_is)
+      (ap (λ (xs : List X). before ++ flat_map f (map g xs)) (sym (row_next rows i row inside is)) ∙ all)
+
+  pub rows_done : (rows : List X) (i : ℕ) (before whole : List A) → length rows ≤ i → before ++ flat_map f (map g (drop i rows)) ≡ whole → before ≡ whole
+  rows_done rows i before whole past all = added_none f (map g (drop i rows)) before whole (ap (λ (xs : List X). map g xs) (drop_all i rows past)) all

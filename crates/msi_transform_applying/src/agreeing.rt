@@ -11,6 +11,7 @@ ghost use Rattle.msi_base.specs.Results.{OnlyMemory};
 ghost use Rattle.msi_base.specs.declared.errors.ErrorKind.TheVariants.{InvalidInput};
 ghost use Rattle.msi_database_changes.specs.Database.{has_table};
 ghost use Rattle.msi_database_storage.specs.Kept.{table_kept};
+ghost use Rattle.msi_database_storage.specs.Streams.{stream_at};
 ghost use Rattle.msi_transform_applying.specs.AnewInHand.{changed_in_hand};
 ghost use Rattle.msi_transform_applying.specs.Applying.{TableAnew as TableAnewOf, is_said as something_said};
 ghost use Rattle.msi_transform_applying.specs.Applying.{same_stream as is_one_stream, stays as is_untouched};
@@ -68,6 +69,12 @@ fn is_same_stream(held: Option<&Bytes>, expected: Option<&Bytes>) -> bool
 }
 
 impl<'a> ExpectedStream<'a> {
+    fn new(name: Name, bytes: Option<&'a Bytes>) -> ExpectedStream<'a>
+        ensures { result ≡ (name, option_copied bytes.entry) }
+    {
+        ExpectedStream { name, bytes }
+    }
+
     fn is_met(&self, streams: &StreamMap) -> bool
         ensures { result ≡ is_kept_to (entries streams.now) self.now }
     {
@@ -164,6 +171,20 @@ fn is_dropped(told: &TablesByName, name: &str) -> bool
 }
 
 impl<'a> SchemaChange<'a> {
+    /// Returns the bytes of a stream of the package.
+    fn held_stream(&self, name: &Name) -> Option<&'a Bytes>
+        ensures { option_copied result ≡ stream_at name.now self.now.streams }
+    {
+        self.streams.get(name)
+    }
+
+    /// Returns the bytes of a stream of the transform.
+    fn brought_stream(&self, name: &Name) -> Option<&'a Bytes>
+        ensures { option_copied result ≡ stream_at name.now self.now.by.streams }
+    {
+        self.transform.streams().get(name)
+    }
+
     /// Returns what a row expects of the stream of its name.
     fn expected_of(
         &self,
@@ -173,17 +194,21 @@ impl<'a> SchemaChange<'a> {
     ) -> Option<ExpectedStream<'a>>
         ensures { option_to_list result ≡ expected_of (base_of self.now) self.now.by said.now stream name }
     {
-        let bytes = match stream {
+        match stream {
             RowStream::AsBefore => {
-                if !said.contains(&name) {
-                    return None;
+                if said.contains(&name) {
+                    let bytes = self.held_stream(&name);
+                    Some(ExpectedStream::new(name, bytes))
+                } else {
+                    None
                 }
-                self.streams.get(&name)
             }
-            RowStream::Gone => None,
-            RowStream::Brought => self.transform.streams().get(&name),
-        };
-        Some(ExpectedStream { name, bytes })
+            RowStream::Gone => Some(ExpectedStream::new(name, None)),
+            RowStream::Brought => {
+                let bytes = self.brought_stream(&name);
+                Some(ExpectedStream::new(name, bytes))
+            }
+        }
     }
 
     /// Adds what a row of a table expects.

@@ -133,7 +133,7 @@ fn store_table(
     table: TableAnew,
 ) -> Result<(), Error>
     requires { CanBeStored table }
-    ensures ok { let stored = table_stored long table in OnOk result
+    ensures ok { let stored = table_stored long table.entry in OnOk result
         (entries streams.new ≡ with_stream_or_none stored.name stored.bytes (entries streams.old)) }
     ensures kind { OnlyMemory result }
 {
@@ -148,7 +148,8 @@ fn store_table(
         return Ok(());
     }
     let bytes = row_bytes(alloc, long, columns.as_slice(), cells)?;
-    put_stream(streams, short_table_key(name), Bytes::from_vec(bytes))
+    put_stream(streams, short_table_key(name), Bytes::from_vec(bytes))?;
+    Ok(())
 }
 
 /// Stores tables anew, one after the other. After an error the streams may be in any state.
@@ -160,7 +161,7 @@ fn store_tables(
 ) -> Result<(), Error>
     requires { AllByRecursion CanBeStored tables.items }
     ensures ok { OnOk result
-        (entries streams.new ≡ stored_in (map (table_stored long) tables.items) (entries streams.old)) }
+        (entries streams.new ≡ stored_in (map (table_stored long) tables.entry.items) (entries streams.old)) }
     ensures kind { OnlyMemory result }
 {
     for table in tables {
@@ -178,9 +179,9 @@ fn stored_over(
 ) -> Result<Left, Error>
     requires { AllByRecursion CanBeStored (anew_in_hand tables).tables }
     ensures pool { IfOk result (λ left.
-        left.pool ≡ pool_that_is_left tables.pool.pool transform.now (in_use tables.pool)) }
+        left.pool ≡ pool_that_is_left tables.entry.pool.pool transform.now (in_use tables.entry.pool)) }
     ensures streams { IfOk result (λ left. entries left.streams
-        ≡ stored_in (streams_stored left.pool.long (anew_in_hand tables)) (entries under)) }
+        ≡ stored_in (streams_stored left.pool.long (anew_in_hand tables.entry)) (entries under)) }
     ensures kind { OnlyMemory result }
 {
     let TablesInHand {
@@ -238,9 +239,10 @@ impl<'a> SchemaChange<'a> {
         requires named { AllByRecursion CanBeStored (changed_in_hand changed).tables.tables }
         requires under { let long = is_long_with self.now.database.pool.long changed.tables.pool.pool.places in
             entries under ≡ streams_under (base_of self.now) long }
-        ensures ok { IfOk result (λ left. finished (base_of self.now) self.now.by (changed_in_hand changed)
-            ≡ Ok (left_in_hand left)) }
-        ensures kind { IfErr result (IsRefused (finished (base_of self.now) self.now.by (changed_in_hand changed))) }
+        ensures ok { let c = changed_in_hand changed.entry in
+            IfOk result (λ left. finished (base_of self.now) self.now.by c ≡ Ok (left_in_hand left)) }
+        ensures kind { let c = changed_in_hand changed.entry in
+            IfErr result (IsRefused (finished (base_of self.now) self.now.by c)) }
     {
         let expected = self.expected_streams(&changed)?;
         let TablesChanged { told: _, tables } = changed;
