@@ -1,7 +1,7 @@
 -- What is finished, by what is stored, and what is then checked.
-use Rattle.std.proofs.Common.{◌≡◌, ℕ, Bool, List, refl, sym, ap, ◌∙◌}
+use Rattle.std.proofs.Common.{◌≡◌, ℕ, Bool, List, refl, sym, ap, ◌∙◌, inr}
 use Rattle.std.specs.List.{list_all}
-use Rattle.std.specs.Prelude.{Result, Ok, Err, None}
+use Rattle.std.specs.Prelude.{Result, Ok, Err, IfErr, IsErrAnd, None}
 use Rattle.msi_base.specs.declared.codepage.CodePage.{CodePage}
 use Rattle.msi_base.specs.declared.errors.ErrorKind.{ErrorKind}
 use Rattle.msi_database_storage.specs.Kept.{Kept}
@@ -11,8 +11,9 @@ use Rattle.msi_database_changes.specs.Texts.{PoolInUse}
 use Rattle.msi_pool.specs.FirstFit.{is_long_with}
 use Rattle.msi_pool.specs.Pool.{Pool}
 use Rattle.msi_transform.specs.Transforms.{TransformDef}
-use Rattle.msi_transform_applying.specs.Applying.{TablesChanged, finished, page_after, pool_left, streams_left, streams_stored, streams_under, texts_read_back}
+use Rattle.msi_transform_applying.specs.Applying.{Left, TablesChanged, finished, page_after, pool_left, streams_left, streams_stored, streams_under, texts_read_back}
 use Rattle.msi_transform_applying.specs.ExpectedStreams.{Expected, all_expected, is_met}
+use Rattle.msi_transform_applying.specs.RecordRefusals.{IsRefused, Refusal}
 use Rattle.msi_transform_applying.proofs.AgreeingLemmas.{all_kept, checked, left_with, streams_refused, texts_refused}
 
 abbrev with_parts : CodePage → Bool → TransformDef → PoolInUse → Pool
@@ -51,3 +52,9 @@ module _ (k : Kept) (t : TransformDef) (c : TablesChanged) (pool : Pool) (stream
 
   pub is_refused_for_texts : (kind : ErrorKind) → Ok tt ≡ checked (list_all (is_met streams) expected) → Err kind ≡ checked (texts_read_back pool) → finished k t c ≡ Err (record { kind = kind; place = None })
   is_refused_for_texts kind met unread = texts_refused k t c pool streams the_pool the_streams expected s.expected_are kind met unread
+
+-- an error that is handed on
+pub handed_on : {A : Type 0} (r : Result A Refusal) (kind : ErrorKind) (answer : Result Left Refusal) → IsErrAnd r (λ (y : Refusal). y ≡ record { kind = kind; place = None })
+    → answer ≡ Err (record { kind = kind; place = None }) → IfErr r (IsRefused answer)
+handed_on (Ok x) kind answer h is = tt
+handed_on (Err y) kind answer h is = inr (is ∙ ap Err (sym h))
