@@ -12,11 +12,17 @@ use Rattle.msi_database_storage.specs.Streams.{Streams, stored_rows}
 use Rattle.msi_pool.specs.Pool.{Pool}
 use Rattle.msi_table_cells.specs.declared.cell.ValueRef.{ValueRef}
 use Rattle.msi_table_cells.specs.TableCells.{TableCells}
+use Rattle.msi_table.specs.Rows as rows
+use Rattle.msi_table_values.specs.Columns.{ColumnDef}
+use Rattle.msi_table_values.specs.declared.value.Value.{Value}
+use Rattle.msi_transform_applying.specs.Applying.{table_staying}
+use Rattle.msi_transform_applying.specs.RowChanges.{keyed}
+use Rattle.msi_transform_applying.specs.declared.row.RowInHand.{RowInHand}
 use Rattle.msi_transform.specs.Transforms.{TransformDef}
 use Rattle.msi_transform.specs.declared.conditions.ErrorConditions.{ErrorConditions}
-use Rattle.msi_transform_applying.proofs.PackagePartsLemmas.{known}
+use Rattle.msi_transform_applying.proofs.PackagePartsLemmas.{known, none_read, some_read}
 use Rattle.msi_table.specs.Tables.{TableDef}
-use Rattle.msi_transform_applying.specs.SchemaChanges.{SchemaChange, is_gone, untold_table}
+use Rattle.msi_transform_applying.specs.SchemaChanges.{SchemaChange, is_gone, plain_row, untold_table}
 use Rattle.msi_transform_applying.specs.TablesInHand.{TableInHand}
 use Rattle.msi_transform_applying.specs.declared.schema.Standing.TheVariants as stands
 
@@ -46,11 +52,15 @@ long_at long (u ∷ us) (suc i) t all inside at = long_at long us i t all.1 (ome
 module _ {X A : Type 0} (f : X → List A) where
   pub added_one : (rest : List X) (x : X) (before after whole : List A) → after ≡ before ++ f x → before ++ flat_map f (x ∷ rest) ≡ whole → after ++ flat_map f rest ≡ whole
   added_one rest x before after whole is all =
-      ap (λ (as : List A). as ++ flat_map f rest) is ∙ append_assoc before (f x) (flat_map f rest) ∙ all
+      ap (λ (ys : List A). ys ++ flat_map f rest) is ∙ append_assoc before (f x) (flat_map f rest) ∙ all
 
   pub added_none : (rest : List X) (before whole : List A) → rest ≡ [] → before ++ flat_map f rest ≡ whole → before ≡ whole
   added_none rest before whole none all =
       sym (append-nil before) ∙ ap (λ (xs : List X). before ++ flat_map f xs) (sym none) ∙ all
+
+columns_read : (columns : List ColumnDef) (o : Option (List (List ValueRef))) (r : rows.TableRows) → Some r ≡ option_map (rows.table_rows columns) o → r.columns ≡ columns
+columns_read columns None r is = cc
+columns_read columns (Some read) r is = cc
 
 -- THE TABLES OF A PACKAGE, AS A CHANGE SEES THEM
 
@@ -87,17 +97,32 @@ module _ (pool : Pool) (tables : List TableDef) (streams : Streams) (by : Transf
         ∙ ap (λ (s : SchemaChange). unwrap_or (stored_rows s.streams t.long t.columns t.name) []) (sym view)
         ∙ ap (λ (o : Option (List (List ValueRef))). unwrap_or o []) is
 
+    module _ (t : TableDef) (long : t.long ≡ change.database.pool.long) where
+      abbrev with_key : List ColumnDef → List ValueRef → List Value × RowInHand
+      with_key columns row = keyed columns change.database.pool.places (plain_row row)
+
+      pub rows_of_staying : (r : rows.TableRows) → Some r ≡ option_map (rows.table_rows t.columns) (stored_rows streams t.long t.columns t.name)
+          → map (λ row. keyed r.columns change.database.pool.places (plain_row row)) r.rows ≡ (table_staying change.database (table_kept change.streams change.database.pool.long t)).rows
+      rows_of_staying r is =
+          ap (λ (cs : List ColumnDef). map (with_key cs) r.rows) (columns_read t.columns (stored_rows streams t.long t.columns t.name) r is)
+          ∙ ap (λ (rs : List (List ValueRef)). map (with_key t.columns) rs) (sym (rows_kept t (Some r.rows) long (some_read t.columns (stored_rows streams t.long t.columns t.name) r is)))
+
+      pub no_rows_of_staying : None ≡ option_map (rows.table_rows t.columns) (stored_rows streams t.long t.columns t.name)
+          → [] ≡ (table_staying change.database (table_kept change.streams change.database.pool.long t)).rows
+      no_rows_of_staying is =
+          ap (λ (rs : List (List ValueRef)). map (with_key t.columns) rs) (sym (rows_kept t None long (none_read t.columns (stored_rows streams t.long t.columns t.name) is)))
+
 -- one row more of those that are read where they lie
-row_next : {X : Type 0} (rows : List X) (i : ℕ) (row : X) → i < length rows → slice_get rows i ≡ Some row → drop i rows ≡ row ∷ drop (i + 1) rows
-row_next {X} rows i row inside is =
-    drop_more rows i row inside ∙ ap (λ (x : X). x ∷ drop (i + 1) rows) (same_Some _ _ (sym (slice_get-get_or rows i row inside) ∙ is))
+row_next : {X : Type 0} (xs : List X) (i : ℕ) (x : X) → i < length xs → slice_get xs i ≡ Some x → drop i xs ≡ x ∷ drop (i + 1) xs
+row_next {X} xs i x inside is =
+    drop_more xs i x inside ∙ ap (λ (y : X). y ∷ drop (i + 1) xs) (same_Some _ _ (sym (slice_get-get_or xs i x inside) ∙ is))
 
 module _ {X Y A : Type 0} (f : Y → List A) (g : X → Y) where
-  pub row_added : (rows : List X) (i : ℕ) (row : X) (before added after whole : List A) → i < length rows → slice_get rows i ≡ Some row → after ≡ before ++ added → added ≡ f (g row)
-      → before ++ flat_map f (map g (drop i rows)) ≡ whole → after ++ flat_map f (map g (drop (i + 1) rows)) ≡ whole
-  row_added rows i row before added after whole inside is ok added_is all =
-      added_one f (map g (drop (i + 1) rows)) (g row) before after whole (ok ∙ ap (λ (as : List A). before ++ as) added_is)
-      (ap (λ (xs : List X). before ++ flat_map f (map g xs)) (sym (row_next rows i row inside is)) ∙ all)
+  pub row_added : (xs : List X) (i : ℕ) (x : X) (before added after whole : List A) → i < length xs → slice_get xs i ≡ Some x → after ≡ before ++ added → added ≡ f (g x)
+      → before ++ flat_map f (map g (drop i xs)) ≡ whole → after ++ flat_map f (map g (drop (i + 1) xs)) ≡ whole
+  row_added xs i x before added after whole inside is ok added_is all =
+      added_one f (map g (drop (i + 1) xs)) (g x) before after whole (ok ∙ ap (λ (ys : List A). before ++ ys) added_is)
+      (ap (λ (zs : List X). before ++ flat_map f (map g zs)) (sym (row_next xs i x inside is)) ∙ all)
 
-  pub rows_done : (rows : List X) (i : ℕ) (before whole : List A) → length rows ≤ i → before ++ flat_map f (map g (drop i rows)) ≡ whole → before ≡ whole
-  rows_done rows i before whole past all = added_none f (map g (drop i rows)) before whole (ap (λ (xs : List X). map g xs) (drop_all i rows past)) all
+  pub rows_done : (xs : List X) (i : ℕ) (before whole : List A) → length xs ≤ i → before ++ flat_map f (map g (drop i xs)) ≡ whole → before ≡ whole
+  rows_done xs i before whole past all = added_none f (map g (drop i xs)) before whole (ap (λ (zs : List X). map g zs) (drop_all i xs past)) all

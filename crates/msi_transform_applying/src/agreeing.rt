@@ -1,7 +1,7 @@
 //! The streams that rows are to have once a transform is applied: two rows whose streams have one name have to agree.
 
-ghost use Rattle.std.specs.Prelude.{◌≡◌, ◌∷◌, ◌++◌, [], IfOk, OnOk, bytes_eq, false, not, option_copied, option_to_list};
-ghost use Rattle.std.specs.Prelude.{true};
+ghost use Rattle.std.specs.Prelude.{◌≡◌, ◌∷◌, ◌++◌, [], IfOk, OnOk, bytes_eq, false, map, not, option_copied};
+ghost use Rattle.std.specs.Prelude.{option_to_list, true};
 ghost use Rattle.std.specs.FinMap.{entries, find};
 ghost use Rattle.std.specs.List.{flat_map, list_all, list_any};
 ghost use Rattle.std.specs.Option.{option_map_or};
@@ -20,7 +20,8 @@ ghost use Rattle.msi_transform_applying.specs.ExpectedStreams.{HasNames, all_exp
 ghost use Rattle.msi_transform_applying.specs.ExpectedStreams.{expected_of, is_met as is_kept_to, row_expects};
 ghost use Rattle.msi_transform_applying.specs.ExpectedStreams.{staying_expects, table_expects};
 ghost use Rattle.msi_transform_applying.specs.LeftInHand.{base_of};
-ghost use Rattle.msi_transform_applying.specs.SchemaChanges.{is_gone as is_away};
+ghost use Rattle.msi_transform_applying.specs.RowChanges.{keyed};
+ghost use Rattle.msi_transform_applying.specs.SchemaChanges.{is_gone as is_away, plain_row};
 ghost use Rattle.msi_transform_applying.specs.TablesInHand.{TableInHand as TableOf};
 
 use crate::reasons;
@@ -36,6 +37,7 @@ use msi_database_changes::Stored;
 use msi_database_changes::keys::Key;
 use msi_database_storage::table_rows;
 use msi_table::Table;
+use msi_table::parts::StoredRows;
 use std::alloc::Global;
 use std::collections::BTreeSet;
 use std::marker::Model;
@@ -270,6 +272,28 @@ impl<'a> SchemaChange<'a> {
         Ok(())
     }
 
+    /// Adds what rows expect that lie in the stream of a table of this name.
+    fn push_of_stored(
+        &self,
+        expected: &mut Vec<ExpectedStream<'a>>,
+        said: &SaidStreams,
+        name: &str,
+        rows: &StoredRows,
+    ) -> Result<(), Error>
+        ensures ok { let places = self.now.database.pool.places in
+            let with_keys = map (λ row. keyed rows.now.columns places (plain_row row)) rows.now.rows in
+            let added = flat_map (row_expects (base_of self.now) self.now.by said.now name.now) with_keys in
+            OnOk result (expected.new.items ≡ expected.old.items ++ added) }
+        ensures kind { OnlyMemory result }
+    {
+        for at in 0..rows.len() {
+            let row = rows.row(self.alloc, at)?;
+            let key = self.key_of_row(rows.columns(), row.as_slice())?;
+            self.push_of_row(expected, said, name, &key, RowStream::AsBefore)?;
+        }
+        Ok(())
+    }
+
     /// Adds what the rows of a table of the package expect that stays as it is.
     fn push_of_rows(
         &self,
@@ -287,11 +311,7 @@ impl<'a> SchemaChange<'a> {
         let Some(rows) = table_rows(self.streams, table) else {
             return Ok(());
         };
-        for at in 0..rows.len() {
-            let row = rows.row(self.alloc, at)?;
-            let key = self.key_of_row(table.columns(), row.as_slice())?;
-            self.push_of_row(expected, said, table.name(), &key, RowStream::AsBefore)?;
-        }
+        self.push_of_stored(expected, said, table.name(), &rows)?;
         Ok(())
     }
 

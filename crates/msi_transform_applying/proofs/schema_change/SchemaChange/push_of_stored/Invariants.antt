@@ -5,11 +5,11 @@ use Rattle.msi_transform_applying.specs.ExpectedStreams.{row_expects}
 use Rattle.msi_transform_applying.specs.LeftInHand.{base_of}
 use Rattle.msi_transform_applying.specs.RowChanges.{keyed}
 use Rattle.msi_transform_applying.specs.SchemaChanges.{plain_row}
-use Rattle.msi_transform_applying.proofs.schema_change.SchemaChange.push_of_rows.Given as goal
+use Rattle.msi_transform_applying.proofs.schema_change.SchemaChange.push_of_stored.Given as goal
 
 -- with what the rows to come expect there is what all do
 abbrev pub invariant-loop-at : goal.invariant-loop-at
 invariant-loop-at l =
-    let with_key = λ (row : List ValueRef). keyed l.table.columns l.self.database.pool.places (plain_row row) in
-    l.expected.items ++ flat_map (row_expects (base_of l.self) l.self.by l.said l.table.name) (map with_key (drop l.at l.rows.rows))
-    ≡ l.fn.expected.items ++ flat_map (row_expects (base_of l.self) l.self.by l.said l.table.name) (map with_key l.rows.rows)
+    let with_key = λ (row : List ValueRef). keyed l.rows.columns l.self.database.pool.places (plain_row row) in
+    l.expected.items ++ flat_map (row_expects (base_of l.self) l.self.by l.said l.name) (map with_key (drop l.at l.rows.rows))
+    ≡ l.fn.expected.items ++ flat_map (row_expects (base_of l.self) l.self.by l.said l.name) (map with_key l.rows.rows)
