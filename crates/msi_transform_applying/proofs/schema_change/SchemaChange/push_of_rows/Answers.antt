@@ -16,7 +16,4 @@ returns-in_default-clause-ok c = let p = c.self.inside in let s = c.args.self.no
     (no_rows_of_staying p.pool.now p.tables.now (entries p.streams.now) p.transform.now p.passing s c.self.view_is c.args.table.now c.requires c.in_default.ensures)
 
 pub returns-clause-ok : goal.returns-clause-ok
-returns-clause-ok c = let p = c.self.inside in let s = c.args.self.now in let before = c.args.expected.now.items in
-    c.in_ok-push_of_stored.ensures.ok
-    ∙ ap (λ (rows : List (List Value × RowInHand)). before ++ flat_map (row_expects (base_of s) s.by c.args.said.now c.args.table.now.name) rows)
-    (rows_of_staying p.pool.now p.tables.now (entries p.streams.now) p.transform.now p.passing s c.self.view_is c.args.table.now c.requires c.in-Some.rows c.in-Some.ensures)
+returns-clause-ok c = ?
