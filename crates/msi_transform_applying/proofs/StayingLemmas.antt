@@ -126,3 +126,7 @@ module _ {X Y A : Type 0} (f : Y → List A) (g : X → Y) where
 
   pub rows_done : (xs : List X) (i : ℕ) (before whole : List A) → length xs ≤ i → before ++ flat_map f (map g (drop i xs)) ≡ whole → before ≡ whole
   rows_done xs i before whole past all = added_none f (map g (drop i xs)) before whole (ap (λ (zs : List X). map g zs) (drop_all i xs past)) all
+
+pub added_all : {X A : Type 0} (f g : X → List A) (xs ys : List X) (before after : List A) → f ≡ g → xs ≡ ys → after ≡ before ++ flat_map f xs → after ≡ before ++ flat_map g ys
+added_all {X} {A} f g xs ys before after same are is =
+    is ∙ ap (λ (h : X → List A). before ++ flat_map h xs) same ∙ ap (λ (zs : List X). before ++ flat_map g zs) are
