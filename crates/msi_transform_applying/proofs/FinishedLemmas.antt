@@ -1,5 +1,5 @@
 -- What is finished, by what is stored, and what is then checked.
-use Rattle.std.proofs.Common.{◌≡◌, ℕ, Bool, List, refl, sym, ap, ◌∙◌, inr}
+use Rattle.std.proofs.Common.{◌≡◌, Bool, List, sym, ap, ◌∙◌, inr}
 use Rattle.std.specs.List.{list_all}
 use Rattle.std.specs.Prelude.{Result, Ok, Err, IfErr, IsErrAnd, None}
 use Rattle.msi_base.specs.declared.codepage.CodePage.{CodePage}

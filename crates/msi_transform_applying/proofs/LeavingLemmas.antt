@@ -1,14 +1,9 @@
 -- What is left once changed tables are stored.
-use Rattle.std.proofs.Common.{◌≡◌, ℕ, ◌<◌, ◌≤◌, Bool, true, false, cond, not, ◌&&◌, ◌||◌, List, [], ◌∷◌, ◌++◌, length, map, filter, Option, Some, None, refl, sym, ap, ◌∙◌, arith}
-use Rattle.std.specs.Prelude.{Result, Ok, Err, if◌then◌else◌, bytes_eq, option_and_then, ◌==◌}
-use Rattle.std.specs.List.{flat_map, list_all}
-use Rattle.std.specs.Option.{option_map_or}
+use Rattle.std.proofs.Common.{◌≡◌, ℕ, ◌≤◌, Bool, true, false, cond, not, List, [], ◌∷◌, ◌++◌, length, Option, Some, None, refl, sym, ap, ◌∙◌, arith}
+use Rattle.std.specs.Prelude.{if◌then◌else◌, ◌==◌}
 use Rattle.std.specs.FinMap.{FinMap, entries, entries-insert, insert, remove}
 use Rattle.std.specs.Ordering.{eq_by_cmp}
 use Rattle.std.proofs.lemmas.Bool.{true≢false}
-use Rattle.msi_base.specs.declared.errors.ErrorKind.{ErrorKind}
-use Rattle.msi_base.specs.declared.errors.ErrorKind.TheVariants.{InvalidInput}
-use Rattle.msi_base.specs.Refusals.{unless_refused}
 use Rattle.msi_container_format.specs.Names.{is_name_length, name_cmp, named}
 use Rattle.msi_container_format.proofs.NamesLemmas.{exact_names, names_total}
 use Rattle.msi_container_format.proofs.StreamsLemmas.{is_equal}
@@ -21,7 +16,7 @@ use Rattle.msi_table.specs.Tables.{stored_bytes}
 use Rattle.msi_table_cells.specs.declared.cell.ValueRef.{ValueRef}
 use Rattle.msi_transform.proofs.TableStreamsLemmas.{removed}
 use Rattle.msi_transform_applying.specs.Applying.{TableAnew, cells_anew, table_stored}
-use Rattle.msi_transform_applying.specs.ExpectedStreams.{CanBeStored}
+use Rattle.msi_transform_applying.specs.LeftInHand.{CanBeStored}
 use Rattle.std.proofs.lemmas.Bool.Decides.{nat_tests}
 use Rattle.std.proofs.lemmas.List.{length-map}
 

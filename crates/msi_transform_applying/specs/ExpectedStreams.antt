@@ -1,11 +1,10 @@
 -- The streams that rows are to have once a transform is applied: what the agreement of rows comes to.
-use Rattle.std.specs.Prelude.{◌≡◌, ◌≤◌, ℕ, Bool, true, List, [], ◌∷◌, ◌++◌, Option, None, if◌then◌else◌, length}
+use Rattle.std.specs.Prelude.{◌≡◌, ℕ, Bool, List, [], ◌∷◌, ◌++◌, Option, None, if◌then◌else◌}
 use Rattle.std.specs.BTreeSet.{BTreeSet, contains}
 use Rattle.std.specs.List.{flat_map}
 use Rattle.std.specs.Option.{option_map_or}
-use Rattle.msi_container_format.specs.Names.{is_name_length, name_cmp}
+use Rattle.msi_container_format.specs.Names.{name_cmp}
 use Rattle.msi_database_changes.specs.declared.storing.Stored.{Stored}
-use Rattle.msi_database_schema.specs.Keys.{table_key}
 use Rattle.msi_database_storage.specs.Kept.{Kept}
 use Rattle.msi_database_storage.specs.Streams.{Streams, stream_at}
 use Rattle.msi_table_cells.specs.TableCells.{TableCells}
@@ -52,7 +51,3 @@ staying_expects k t c e = if stays k.database c.told c.tables e.0
 abbrev pub all_expected : Kept → TransformDef → TablesChanged → List Expected
 all_expected k t c = flat_map (table_expects k t c.tables.streams) c.tables.tables
     ++ flat_map (staying_expects k t c) k.database.tables
-
--- a table that has rows has a name whose stream a container can have
-abbrev pub CanBeStored : TableAnew → Type 0
-CanBeStored t = 1 ≤ length t.rows → is_name_length (length (table_key t.name)) ≡ true

@@ -16,8 +16,7 @@ ghost use Rattle.msi_transform_applying.specs.Applying.{finished, page_after as 
 ghost use Rattle.msi_transform_applying.specs.Applying.{pool_left as pool_that_is_left};
 ghost use Rattle.msi_transform_applying.specs.Applying.{streams_stored, streams_under, table_stored};
 ghost use Rattle.msi_transform_applying.specs.Applying.{texts_read_back as all_read_back};
-ghost use Rattle.msi_transform_applying.specs.ExpectedStreams.{CanBeStored};
-ghost use Rattle.msi_transform_applying.specs.LeftInHand.{base_of, left_in_hand};
+ghost use Rattle.msi_transform_applying.specs.LeftInHand.{CanBeStored, base_of, left_in_hand};
 ghost use Rattle.msi_transform_applying.specs.RecordRefusals.{IsRefused};
 
 use crate::agreeing::check_expected;

@@ -4,7 +4,7 @@ use Rattle.std.specs.List.{AllByRecursion}
 use Rattle.std.specs.Vec.Iter.{into_iter_items, into_iter_len}
 use Rattle.msi_database_storage.specs.Storing.{stored_in}
 use Rattle.msi_transform_applying.specs.Applying.{table_stored}
-use Rattle.msi_transform_applying.specs.ExpectedStreams.{CanBeStored}
+use Rattle.msi_transform_applying.specs.LeftInHand.{CanBeStored}
 use Rattle.msi_transform_applying.proofs.leaving.store_tables.Given as goal
 
 -- the tables that are left, stored too, give the whole

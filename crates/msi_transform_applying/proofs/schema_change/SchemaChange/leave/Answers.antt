@@ -1,4 +1,4 @@
-use Rattle.std.proofs.Common.{◌≡◌, ◌∙◌, List, ap, sym}
+use Rattle.std.proofs.Common.{◌∙◌, List, ap}
 use Rattle.std.specs.FinMap.{entries}
 use Rattle.std.specs.List.{list_all}
 use Rattle.msi_transform_applying.specs.AnewInHand.{changed_in_hand}

@@ -1,4 +1,4 @@
-use Rattle.std.proofs.Common.{◌≡◌, ◌++◌, drop, map}
+use Rattle.std.proofs.Common.{◌≡◌, ◌++◌, drop}
 use Rattle.std.specs.List.{flat_map}
 use Rattle.msi_transform_applying.specs.AnewInHand.{changed_in_hand}
 use Rattle.msi_transform_applying.specs.ExpectedStreams.{staying_expects}
