@@ -91,20 +91,14 @@ fn are_met(expected: &[ExpectedStream], streams: &StreamMap) -> bool
 }
 
 /// Checks that each stream has the bytes that it is to have.
-pub(crate) fn check_expected(
-    expected: &[ExpectedStream],
-    streams: &StreamMap,
-) -> Result<(), Error>
+pub(crate) fn check_expected(expected: &[ExpectedStream], streams: &StreamMap) -> Result<(), Error>
     ensures { let all = list_all (is_kept_to (entries streams.now)) expected.now in
         result ≡ unless_refused ((not all, InvalidInput) ∷ []) tt }
 {
     if are_met(expected, streams) {
         Ok(())
     } else {
-        Err(Error::new(
-            ErrorKind::InvalidInput,
-            reasons::STREAMS_DISAGREE,
-        ))
+        Err(Error::new(ErrorKind::InvalidInput, reasons::STREAMS_DISAGREE))
     }
 }
 

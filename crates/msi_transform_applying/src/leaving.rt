@@ -82,13 +82,7 @@ fn remove_stream(streams: &mut StreamMap, name: &Name)
 }
 
 /// Makes a stream what it becomes. After an error the streams are as they were.
-#[tactic(
-    auto,
-    using(
-        crate::proofs::LeavingLemmas::stored_put,
-        crate::proofs::LeavingLemmas::stored_gone
-    )
-)]
+#[tactic(auto, using(crate::proofs::LeavingLemmas::stored_put, crate::proofs::LeavingLemmas::stored_gone))]
 fn store(streams: &mut StreamMap, stored: Stored) -> Result<(), Error>
     ensures ok { OnOk result
         (entries streams.new ≡ with_stream_or_none stored.name stored.bytes (entries streams.old)) }
@@ -209,10 +203,7 @@ fn check_texts(pool: &StringPool) -> Result<(), Error>
     if texts_read_back(pool) {
         Ok(())
     } else {
-        Err(Error::new(
-            ErrorKind::InvalidInput,
-            reasons::TEXT_NOT_IN_PAGE,
-        ))
+        Err(Error::new(ErrorKind::InvalidInput, reasons::TEXT_NOT_IN_PAGE))
     }
 }
 
