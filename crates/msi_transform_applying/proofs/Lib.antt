@@ -8,3 +8,8 @@ pub mod TablesByNameLemmas
 pub mod ToldValuesLemmas
 pub mod RowChangesLemmas
 pub mod PlainRowsLemmas
+pub mod LeavingLemmas
+pub mod AgreeingLemmas
+pub mod StayingLemmas
+pub mod ReadBackLemmas
+pub mod FinishedLemmas

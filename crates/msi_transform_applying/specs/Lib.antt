@@ -10,3 +10,4 @@ pub mod InHand
 pub mod Applying
 pub mod AnewInHand
 pub mod LeftInHand
+pub mod ExpectedStreams

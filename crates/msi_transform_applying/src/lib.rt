@@ -1,6 +1,7 @@
 //! Applying a transform to the tables of a database.
 #![tactic(auto)]
 
+mod agreeing;
 mod describing;
 mod dropping;
 pub mod keyed;
@@ -8,6 +9,7 @@ pub mod leaving;
 mod listing;
 mod page;
 mod reasons;
+mod row_bytes;
 pub mod refusal;
 pub mod row;
 pub mod row_changes;
