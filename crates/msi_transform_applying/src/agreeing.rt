@@ -243,7 +243,7 @@ impl<'a> SchemaChange<'a> {
         if !has_streams(table.columns.as_slice()) {
             return Ok(());
         }
-        for (key, row) in table.rows.iter() {
+        for (key, row) in &table.rows {
             self.push_of_row(expected, said, table.name, key, row.stream)?;
         }
         Ok(())

@@ -7,12 +7,11 @@ ghost use Rattle.msi_base.specs.Results.{OnlyMemory};
 ghost use Rattle.msi_table_cells.specs.KeyOrder.{key_of, same_key};
 ghost use Rattle.msi_table_cells.specs.CellValues.{row_values};
 ghost use Rattle.msi_database_changes.specs.KeySets.{keys_of_rows};
-ghost use Rattle.msi_transform_applying.specs.RowChanges.{by_key, cells_in_hand, cells_of, keyed};
+ghost use Rattle.msi_transform_applying.specs.RowChanges.{by_key, cells_in_hand, keyed};
 ghost use Rattle.msi_transform_applying.specs.RowChanges.{row_at, with_row_at, without_row_at};
 
 use crate::row::RowInHand;
 use msi_base::errors::Error;
-use msi_base::text::Items;
 use msi_database_changes::keys::Key;
 use msi_database_changes::views::views_of_cells;
 use msi_pool::stringpool::StringPool;
@@ -93,24 +92,20 @@ impl<'a> KeyedRows<'a> {
         self.map.iter()
     }
 
-    /// Returns the cells of the rows, moved out, in the order of keys.
+    /// Returns the rows behind their keys, moved out, in the order of keys.
     ///
     /// # Errors
     /// Fails with `OutOfMemory`.
-    pub fn into_cells(self, alloc: Global) -> Result<Vec<Items<ValueRef>>, Error>
-        ensures ok { IfOk result (λ cells. cells.items ≡ cells_of (entries self.entry)) }
+    pub fn into_rows(self, alloc: Global) -> Result<Vec<(Key<'a>, RowInHand)>, Error>
+        ensures ok { IfOk result (λ rows. rows.items ≡ entries self.entry) }
         ensures kind { OnlyMemory result }
     {
         let KeyedRows { map } = self;
-        let mut cells = Vec::with_capacity(alloc, map.len())?;
-        for row in map.into_values() {
-            let RowInHand {
-                cells: row_cells,
-                stream: _,
-            } = row;
-            cells.push(row_cells)?;
+        let mut rows = Vec::with_capacity(alloc, map.len())?;
+        for (key, row) in map {
+            rows.push((key, row))?;
         }
-        Ok(cells)
+        Ok(rows)
     }
 }
 

@@ -18,23 +18,28 @@ ghost use Rattle.msi_transform_applying.specs.Applying.{streams_stored, streams_
 ghost use Rattle.msi_transform_applying.specs.Applying.{texts_read_back as all_read_back};
 ghost use Rattle.msi_transform_applying.specs.LeftInHand.{CanBeStored, base_of, left_in_hand};
 ghost use Rattle.msi_transform_applying.specs.RecordRefusals.{IsRefused};
+ghost use Rattle.msi_transform_applying.specs.RowChanges.{cells_of};
 
 use crate::agreeing::check_expected;
 use crate::reasons;
 use crate::refusal::Refusal;
+use crate::row::RowInHand;
 use crate::row_bytes::row_bytes;
 use crate::schema_change::SchemaChange;
 use crate::tables_in_hand::{TableAnew, TablesChanged, TablesInHand};
 use msi_base::codepage::CodePage;
 use msi_base::errors::{Error, ErrorKind};
+use msi_base::text::Items;
 use msi_container_format::contents::{Bytes, StreamMap};
 use msi_container_format::name::Name;
 use msi_database_changes::Stored;
+use msi_database_changes::keys::Key;
 use msi_database_changes::texts::PoolInUse;
 use msi_database_schema::names::table_key;
 use msi_database_schema::short_table_key;
 use msi_database_storage::look_at;
 use msi_pool::stringpool::StringPool;
+use msi_table_cells::cell::ValueRef;
 use msi_transform::Transform;
 use std::alloc::Global;
 
@@ -119,6 +124,22 @@ fn remove_table(streams: &mut StreamMap, name: &str)
     }
 }
 
+/// Returns the cells of rows, moved out.
+fn into_cells(
+    alloc: Global,
+    rows: Vec<(Key<'_>, RowInHand)>,
+) -> Result<Vec<Items<ValueRef>>, Error>
+    ensures ok { IfOk result (λ cells. cells.items ≡ cells_of rows.entry.items) }
+    ensures kind { OnlyMemory result }
+{
+    let mut all = Vec::with_capacity(alloc, rows.len())?;
+    for (_, row) in rows {
+        let RowInHand { cells, stream: _ } = row;
+        all.push(cells)?;
+    }
+    Ok(all)
+}
+
 /// Stores a table anew.
 fn store_table(
     alloc: Global,
@@ -136,7 +157,7 @@ fn store_table(
         columns,
         rows,
     } = table;
-    let cells = rows.into_cells(alloc)?;
+    let cells = into_cells(alloc, rows)?;
     if cells.is_empty() {
         remove_table(streams, name);
         return Ok(());

@@ -1,31 +1,31 @@
 //! Tables that are stored anew, while a transform is applied.
 
-use crate::keyed::KeyedRows;
+use crate::row::RowInHand;
 use crate::tables_by_name::TablesByName;
 use msi_base::text::Items;
 use msi_database_changes::Stored;
+use msi_database_changes::keys::Key;
 use msi_database_changes::texts::PoolInUse;
 use msi_table_values::column::Column;
 use std::marker::Model;
 
-/// A table that is stored anew: its name, its columns, and its rows by their keys.
+/// A table that is stored anew: its name, its columns, and its rows.
 #[derive(Drop)]
 pub struct TableAnew<'a> {
     /// Its name.
     pub name: &'a str,
     /// Its columns, in order.
     pub columns: Items<Column>,
-    /// Its rows.
-    pub rows: KeyedRows<'a>,
+    /// Its rows, each behind its key.
+    pub rows: Vec<(Key<'a>, RowInHand)>,
 }
 
 impl<'a> Model for TableAnew<'a> {
-    ghost use Rattle.std.specs.FinMap.{entries};
     ghost use Rattle.msi_transform_applying.specs.Applying.{TableAnew as TableAnewOf};
 
     ghost Value = { TableAnewOf };
 
-    ghost view = { λ t. record { name = t.name.now; columns = t.columns; rows = entries t.rows } };
+    ghost view = { λ t. record { name = t.name.now; columns = t.columns; rows = t.rows.items } };
 }
 
 /// The tables that are stored anew so far, the pool, and what becomes of other streams. Of two streams with one name
