@@ -13,3 +13,4 @@ pub mod AgreeingLemmas
 pub mod StayingLemmas
 pub mod ReadBackLemmas
 pub mod FinishedLemmas
+pub mod StorableLemmas
