@@ -1,14 +1,25 @@
 //! Tables that are stored anew, while a transform is applied.
 
 use crate::keyed::KeyedRows;
+use crate::row::RowInHand;
 use crate::tables_by_name::TablesByName;
 use msi_base::text::Items;
 use msi_database_changes::Stored;
+use msi_database_changes::keys::Key;
 use msi_database_changes::texts::PoolInUse;
 use msi_table_values::column::Column;
 use std::marker::Model;
 
-/// A table that is stored anew: its name, its columns, and its rows by their keys.
+/// The rows of a table that is stored anew, each behind its key.
+#[derive(Drop)]
+pub enum RowsAnew<'a> {
+    /// In the order of their keys, no two of which are the same: records were applied to them.
+    ByKey(KeyedRows<'a>),
+    /// In the order in which the package has them, whose keys may repeat: they only got cells.
+    AsListed(Vec<(Key<'a>, RowInHand)>),
+}
+
+/// A table that is stored anew: its name, its columns, and its rows.
 #[derive(Drop)]
 pub struct TableAnew<'a> {
     /// Its name.
@@ -16,16 +27,16 @@ pub struct TableAnew<'a> {
     /// Its columns, in order.
     pub columns: Items<Column>,
     /// Its rows.
-    pub rows: KeyedRows<'a>,
+    pub rows: RowsAnew<'a>,
 }
 
 impl<'a> Model for TableAnew<'a> {
-    ghost use Rattle.std.specs.FinMap.{entries};
     ghost use Rattle.msi_transform_applying.specs.Applying.{TableAnew as TableAnewOf};
+    ghost use Rattle.msi_transform_applying.specs.RowsAnew.{rows_anew};
 
     ghost Value = { TableAnewOf };
 
-    ghost view = { λ t. record { name = t.name.now; columns = t.columns; rows = entries t.rows } };
+    ghost view = { λ t. record { name = t.name.now; columns = t.columns; rows = rows_anew t.rows } };
 }
 
 /// The tables that are stored anew so far, the pool, and what becomes of other streams. Of two streams with one name
