@@ -7,5 +7,5 @@ pub mod RowStreamsLemmas
 pub mod TablesByNameLemmas
 pub mod ToldValuesLemmas
 pub mod RowChangesLemmas
-pub mod LengtheningLemmas
+pub mod RowsPutLemmas
 pub mod TableApplyingLemmas

@@ -11,21 +11,16 @@ use Rattle.msi_transform_applying.specs.RecordRefusals.{IsRefused, Refusal, at_r
 use Rattle.msi_transform_applying.specs.RowChanges.{RowsInHand, by_key, keyed, record_applied}
 use Rattle.msi_transform_applying.specs.SchemaChanges.{SchemaChange, TableInHand, TablesTold, columns_in_hand, is_gone, rows_of_package, table_in_hand}
 
-kind_of : {A : Type 0} → Result A ErrorKind → ErrorKind → ErrorKind
-kind_of (Ok x) other = other
-kind_of (Err kind) other = kind
-
 -- what a refusal is doesn't depend on the answer
 refused_first : {A B : Type 0} (o : Option ErrorKind) (a : A) (b : B) (kind : ErrorKind) → unless o a ≡ Err kind → unless o b ≡ Err kind
 refused_first None a b kind is = cc
-refused_first {B = B} (Some k) a b kind is = ap (λ (j : ErrorKind). Err {A = B} j) (ap (λ r. kind_of r kind) is)
+refused_first (Some k) a b kind is = cc
 
 not_refused : {A B : Type 0} (o : Option ErrorKind) (a : A) (b : B) → unless o a ≡ Ok a → unless o b ≡ Ok b
 not_refused None a b is = refl
 not_refused (Some k) a b is = cc
 
-module _ (change : SchemaChange) (told : TablesTold) (number : ℕ) (s : TablesInHand) (name bytes : List ℕ) (table : TableInHand) (columns : List ColumnDef)
-    (table_is : table ≡ table_in_hand change.database told name) (columns_are : columns ≡ columns_in_hand change.database name table) where
+module _ (change : SchemaChange) (told : TablesTold) (number : ℕ) (s : TablesInHand) (name bytes : List ℕ) (table : TableInHand) (columns : List ColumnDef) (table_is : table ≡ table_in_hand change.database told name) (columns_are : columns ≡ columns_in_hand change.database name table) where
 
   abbrev pub refusals_of : TableInHand → List ColumnDef → Refusals
   refusals_of t cs = (is_gone t.standing, NotFound)
@@ -70,7 +65,8 @@ module _ (change : SchemaChange) (told : TablesTold) (number : ℕ) (s : TablesI
         ∙ ap (λ (r : Result RowsInHand Refusal). r >>= λ r. Ok (with_anew name columns s r)) (ap (records_of columns) (sym begun_is) ∙ is))
 
     -- the table is changed
-    pub table_changed : (begun rows : RowsInHand) → begun ≡ begun_of table columns → records_of columns begun ≡ Ok rows
-        → table_applied change told number s (name, bytes) ≡ Ok (with_anew name columns s rows)
-    table_changed begun rows begun_is is = begins
+    pub table_changed : (begun rows : RowsInHand) (held : List ColumnDef) (after : TablesInHand) → begun ≡ begun_of table columns → records_of columns begun ≡ Ok rows
+        → columns ≡ held → after ≡ with_anew name held s rows → table_applied change told number s (name, bytes) ≡ Ok after
+    table_changed begun rows held after begun_is is same after_is = begins
         ∙ ap (λ (r : Result RowsInHand Refusal). r >>= λ r. Ok (with_anew name columns s r)) (ap (records_of columns) (sym begun_is) ∙ is)
+        ∙ λ i. Ok ((ap (λ (cs : List ColumnDef). with_anew name cs s rows) same ∙ sym after_is) i)

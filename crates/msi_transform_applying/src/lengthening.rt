@@ -8,8 +8,8 @@ ghost use Rattle.msi_table_cells.specs.CellValues.{row_values};
 ghost use Rattle.msi_table_cells.specs.KeyOrder.{key_of};
 ghost use Rattle.msi_transform_applying.specs.AnewInHand.{anew_in_hand};
 ghost use Rattle.msi_transform_applying.specs.Applying.{gains_streams as gets_streams, is_lengthened as gets_columns};
-ghost use Rattle.msi_transform_applying.specs.Applying.{lengthened_row as row_with_nulls, null_in as null_for, rows_begun};
-ghost use Rattle.msi_transform_applying.specs.Applying.{streams_begun, table_lengthened, with_lengthened};
+ghost use Rattle.msi_transform_applying.specs.Applying.{lengthened_row as row_with_nulls, null_in as null_for};
+ghost use Rattle.msi_transform_applying.specs.Applying.{rows_begun, streams_begun, table_lengthened, with_lengthened};
 ghost use Rattle.msi_transform_applying.specs.RowChanges.{keyed};
 ghost use Rattle.msi_transform_applying.specs.RowStreams.{row_stream_gone};
 ghost use Rattle.msi_transform_applying.specs.SchemaChanges.{columns_in_hand as all_columns};
@@ -134,7 +134,8 @@ impl<'a> SchemaChange<'a> {
         rows: &[Items<ValueRef>],
     ) -> Result<(), Error>
         ensures ok { let places = self.now.database.pool.places in
-            let gone = flat_map (λ row. row_stream_gone name.now (key_of columns.now (row_values places row))) rows.now in
+            let gone = flat_map (λ row.
+            row_stream_gone name.now (key_of columns.now (row_values places row))) rows.now in
             OnOk result (streams.new.items ≡ streams.old.items ++ gone) }
         ensures kind { OnlyMemory result }
     {

@@ -1,6 +1,6 @@
 //! The records of tables, applied to their rows.
 
-ghost use Rattle.std.specs.Prelude.{◌≡◌, ◌++◌, ◌∷◌, [], IfErr, IfOk, Ok, OnOk, map};
+ghost use Rattle.std.specs.Prelude.{◌≡◌, ◌++◌, ◌∷◌, [], ◌&&◌, if◌then◌else◌, IfErr, IfOk, Ok, OnOk, map};
 ghost use Rattle.std.specs.FinMap.{entries};
 ghost use Rattle.std.specs.List.{list_any};
 ghost use Rattle.msi_base.specs.Refusals.{IsRefusal, unless_refused};
@@ -8,14 +8,17 @@ ghost use Rattle.msi_base.specs.Results.{OnlyMemory};
 ghost use Rattle.msi_base.specs.declared.errors.ErrorKind.TheVariants as kind;
 ghost use Rattle.msi_database_changes.specs.KeySets.{keys_of_rows};
 ghost use Rattle.msi_database_changes.specs.Texts.{in_use};
+ghost use Rattle.msi_database_schema.specs.System.{columns_columns as columns_of_columns, columns_name};
+ghost use Rattle.msi_database_schema.specs.System.{tables_columns as columns_of_tables, tables_name};
 ghost use Rattle.msi_transform.specs.Transforms.{shapes_of as shapes_in};
 ghost use Rattle.msi_transform_applying.specs.AnewInHand.{anew_in_hand, changed_in_hand};
-ghost use Rattle.msi_transform_applying.specs.Applying.{all_applied, have_own_keys as all_have_own_keys};
-ghost use Rattle.msi_transform_applying.specs.Applying.{is_broken as has_bad_key, rows_begun, rows_changed, streams_begun};
-ghost use Rattle.msi_transform_applying.specs.Applying.{table_applied, table_or_schema, tables_begun, tables_in_turn};
+ghost use Rattle.msi_transform_applying.specs.Applying.{all_applied, changes_schema as tells_of_schema};
+ghost use Rattle.msi_transform_applying.specs.Applying.{have_own_keys as all_have_own_keys, system_anew};
+ghost use Rattle.msi_transform_applying.specs.Applying.{is_broken as has_bad_key, rows_begun, rows_changed};
+ghost use Rattle.msi_transform_applying.specs.Applying.{streams_begun, table_applied, table_or_schema, tables_in_turn};
 ghost use Rattle.msi_transform_applying.specs.InHand.{in_hand};
 ghost use Rattle.msi_transform_applying.specs.RecordRefusals.{IsRefused};
-ghost use Rattle.msi_transform_applying.specs.RowChanges.{by_key, keyed, record_applied};
+ghost use Rattle.msi_transform_applying.specs.RowChanges.{TableChange as RowsChange, by_key, keyed, record_applied};
 ghost use Rattle.msi_transform_applying.specs.RowsInHand.{hand as rows_now};
 ghost use Rattle.msi_transform_applying.specs.RowStreams.{is_of_streams as holds_stream};
 ghost use Rattle.msi_transform_applying.specs.SchemaChanges.{is_gone, rows_of_package};
@@ -63,12 +66,12 @@ fn has_key_of_streams(columns: &[Column]) -> bool
 
 /// Returns rows by their keys: of those with one key, the first. It takes the rows times a logarithm.
 fn by_keys<'a>(alloc: Global, rows: Vec<(Key<'a>, RowInHand)>) -> Result<KeyedRows<'a>, Error>
-    ensures ok { IfOk result (λ keyed. entries keyed ≡ by_key rows.items) }
+    ensures ok { IfOk result (λ keyed. entries keyed ≡ by_key rows.entry.items) }
     ensures kind { OnlyMemory result }
 {
-    let mut rows = rows;
+    let mut left = rows;
     let mut keyed = KeyedRows::new(alloc);
-    while let Some((key, row)) = rows.pop() {
+    while let Some((key, row)) = left.pop() {
         keyed.insert(key, row)?;
     }
     Ok(keyed)
@@ -82,13 +85,14 @@ fn with_anew<'a>(
     rows: RowsInHand<'a>,
 ) -> Result<TablesInHand<'a>, Error>
     ensures ok { IfOk result (λ changed. anew_in_hand changed ≡ record {
-        tables = tables.items ++ record { name = name.now; columns = columns; rows = entries rows.rows } ∷ [];
-        pool = in_use rows.pool;
-        streams = rows.streams.items;
+        tables = tables.entry.items
+            ++ record { name = name.now; columns = columns; rows = entries rows.entry.rows } ∷ [];
+        pool = in_use rows.entry.pool;
+        streams = rows.entry.streams.items;
     }) }
     ensures kind { OnlyMemory result }
-    ensures page { IfOk result (λ changed. changed.pool.pool.page ≡ rows.pool.pool.page) }
-    ensures long { IfOk result (λ changed. changed.pool.pool.long ≡ rows.pool.pool.long) }
+    ensures page { IfOk result (λ changed. changed.pool.pool.page ≡ rows.entry.pool.pool.page) }
+    ensures long { IfOk result (λ changed. changed.pool.pool.long ≡ rows.entry.pool.pool.long) }
 {
     let RowsInHand {
         rows,
@@ -200,10 +204,12 @@ impl<'a> SchemaChange<'a> {
         bytes: &[u8],
         rows: &mut RowsInHand<'a>,
     ) -> Result<(), Refusal>
-        ensures ok { let by = record { name = name.now; columns = columns.now; by = self.now.by; passing = self.now.passing } in
+        ensures ok { let by : RowsChange =
+            record { name = name.now; columns = columns.now; by = self.now.by; passing = self.now.passing } in
             let applied = all_applied number self.now.by (shapes_in columns.now) bytes.now (record_applied by) in
             OnOk result (applied (rows_now rows.old) ≡ Ok (rows_now rows.new)) }
-        ensures kind { let by = record { name = name.now; columns = columns.now; by = self.now.by; passing = self.now.passing } in
+        ensures kind { let by : RowsChange =
+            record { name = name.now; columns = columns.now; by = self.now.by; passing = self.now.passing } in
             let applied = all_applied number self.now.by (shapes_in columns.now) bytes.now (record_applied by) in
             IfErr result (IsRefused (applied (rows_now rows.old))) }
         ensures page { rows.new.pool.pool.page ≡ rows.old.pool.pool.page }
@@ -224,15 +230,16 @@ impl<'a> SchemaChange<'a> {
         bytes: &[u8],
     ) -> Result<TablesInHand<'a>, Refusal>
         ensures ok { let applied = table_applied self.now (entries told.now) number in IfOk result (λ changed.
-            applied (anew_in_hand hand) (name.now, bytes.now) ≡ Ok (anew_in_hand changed)) }
+            applied (anew_in_hand hand.entry) (name.now, bytes.now) ≡ Ok (anew_in_hand changed)) }
         ensures kind { let applied = table_applied self.now (entries told.now) number in
-            IfErr result (IsRefused (applied (anew_in_hand hand) (name.now, bytes.now))) }
-        ensures page { IfOk result (λ changed. changed.pool.pool.page ≡ hand.pool.pool.page) }
-        ensures long { IfOk result (λ changed. changed.pool.pool.long ≡ hand.pool.pool.long) }
+            IfErr result (IsRefused (applied (anew_in_hand hand.entry) (name.now, bytes.now))) }
+        ensures page { IfOk result (λ changed. changed.pool.pool.page ≡ hand.entry.pool.pool.page) }
+        ensures long { IfOk result (λ changed. changed.pool.pool.long ≡ hand.entry.pool.pool.long) }
     {
         let table = self.table_in_hand(told, name)?;
         let columns = self.columns_in_hand(name, &table)?;
-        if let Err(error) = self.refuse_table(name, &table, columns.as_slice()) {
+        let slice = columns.as_slice();
+        if let Err(error) = self.refuse_table(name, &table, slice) {
             let place = RecordPlace {
                 table: number,
                 record_number: 0,
@@ -244,8 +251,8 @@ impl<'a> SchemaChange<'a> {
             pool,
             streams,
         } = hand;
-        let mut rows = self.begin_table(name, &table, columns.as_slice(), pool, streams)?;
-        self.apply_to_rows(number, name, columns.as_slice(), bytes, &mut rows)?;
+        let mut rows = self.begin_table(name, &table, slice, pool, streams)?;
+        self.apply_to_rows(number, name, slice, bytes, &mut rows)?;
         Ok(with_anew(tables, name, columns, rows)?)
     }
 
@@ -259,11 +266,11 @@ impl<'a> SchemaChange<'a> {
         bytes: &[u8],
     ) -> Result<TablesInHand<'a>, Refusal>
         ensures ok { let applied = table_or_schema self.now (entries told.now) number in IfOk result (λ changed.
-            applied (anew_in_hand hand) (name.now, bytes.now) ≡ Ok (anew_in_hand changed)) }
+            applied (anew_in_hand hand.entry) (name.now, bytes.now) ≡ Ok (anew_in_hand changed)) }
         ensures kind { let applied = table_or_schema self.now (entries told.now) number in
-            IfErr result (IsRefused (applied (anew_in_hand hand) (name.now, bytes.now))) }
-        ensures page { IfOk result (λ changed. changed.pool.pool.page ≡ hand.pool.pool.page) }
-        ensures long { IfOk result (λ changed. changed.pool.pool.long ≡ hand.pool.pool.long) }
+            IfErr result (IsRefused (applied (anew_in_hand hand.entry) (name.now, bytes.now))) }
+        ensures page { IfOk result (λ changed. changed.pool.pool.page ≡ hand.entry.pool.pool.page) }
+        ensures long { IfOk result (λ changed. changed.pool.pool.long ≡ hand.entry.pool.pool.long) }
     {
         if is_schema_table(name) {
             return Ok(hand);
@@ -278,19 +285,19 @@ impl<'a> SchemaChange<'a> {
         hand: TablesInHand<'a>,
     ) -> Result<TablesInHand<'a>, Refusal>
         ensures ok { let applied = tables_in_turn self.now (entries told.now) 0 in IfOk result (λ changed.
-            applied (anew_in_hand hand) self.now.by.tables ≡ Ok (anew_in_hand changed)) }
+            applied (anew_in_hand hand.entry) self.now.by.tables ≡ Ok (anew_in_hand changed)) }
         ensures kind { let applied = tables_in_turn self.now (entries told.now) 0 in
-            IfErr result (IsRefused (applied (anew_in_hand hand) self.now.by.tables)) }
-        ensures page { IfOk result (λ changed. changed.pool.pool.page ≡ hand.pool.pool.page) }
-        ensures long { IfOk result (λ changed. changed.pool.pool.long ≡ hand.pool.pool.long) }
+            IfErr result (IsRefused (applied (anew_in_hand hand.entry) self.now.by.tables)) }
+        ensures page { IfOk result (λ changed. changed.pool.pool.page ≡ hand.entry.pool.pool.page) }
+        ensures long { IfOk result (λ changed. changed.pool.pool.long ≡ hand.entry.pool.pool.long) }
     {
-        let mut hand = hand;
+        let mut changed = hand;
         let mut number = 0;
         for (name, bytes) in self.transform.tables() {
-            hand = self.change_or_pass(told, number, hand, name.as_str(), bytes.as_slice())?;
+            changed = self.change_or_pass(told, number, changed, name.as_str(), bytes.as_slice())?;
             number += 1;
         }
-        Ok(hand)
+        Ok(changed)
     }
 
     /// Returns `_Tables` and `_Columns`, which are stored anew where the transform has records of either.
@@ -299,6 +306,9 @@ impl<'a> SchemaChange<'a> {
         listed: KeyedRows<'a>,
         described: KeyedRows<'a>,
     ) -> Result<Vec<TableAnew<'a>>, Error>
+        ensures ok { let anew = system_anew tables_name columns_of_tables (entries listed.entry)
+            ∷ system_anew columns_name columns_of_columns (entries described.entry) ∷ [] in
+            IfOk result (λ tables. tables.items ≡ (if tells_of_schema self.now.by then anew else [])) }
         ensures kind { OnlyMemory result }
     {
         let mut tables = Vec::new(self.alloc);
@@ -325,10 +335,11 @@ impl<'a> SchemaChange<'a> {
     /// that is malformed (`InvalidData`) or at which `apply_records` fails, with that record's place: a table's is that
     /// of its first. It may fail with `OutOfMemory` in place of any.
     pub(crate) fn change_rows(&self, schema: SchemaInHand<'a>) -> Result<TablesChanged<'a>, Refusal>
-        ensures ok { IfOk result (λ changed. rows_changed self.now (in_hand schema) ≡ Ok (changed_in_hand changed)) }
-        ensures kind { IfErr result (IsRefused (rows_changed self.now (in_hand schema))) }
-        ensures page { IfOk result (λ changed. changed.tables.pool.pool.page ≡ schema.pool.pool.page) }
-        ensures long { IfOk result (λ changed. changed.tables.pool.pool.long ≡ schema.pool.pool.long) }
+        ensures ok { IfOk result (λ changed.
+            rows_changed self.now (in_hand schema.entry) ≡ Ok (changed_in_hand changed)) }
+        ensures kind { IfErr result (IsRefused (rows_changed self.now (in_hand schema.entry))) }
+        ensures page { IfOk result (λ changed. changed.tables.pool.pool.page ≡ schema.entry.pool.pool.page) }
+        ensures long { IfOk result (λ changed. changed.tables.pool.pool.long ≡ schema.entry.pool.pool.long) }
     {
         let SchemaInHand {
             tables: told,
