@@ -1,9 +1,9 @@
 -- The records of a table applied to its rows: its steps, and what is refused on the way.
-use Rattle.std.proofs.Common.{◌≡◌, ℕ, List, [], ◌∷◌, ◌++◌, map, refl, sym, ap, subst, ◌∙◌, inl, inr}
-use Rattle.std.specs.Prelude.{Option, None, Some, Result, Ok, Err}
+use Rattle.std.proofs.Common.{◌≡◌, ℕ, List, [], ◌∷◌, ◌++◌, map, refl, sym, ap, ◌∙◌, inl, inr}
+use Rattle.std.specs.Prelude.{Option, None, Some, Result, Ok}
 use Rattle.msi_base.specs.declared.errors.ErrorKind.{ErrorKind}
 use Rattle.msi_base.specs.declared.errors.ErrorKind.TheVariants.{InvalidData, NotFound}
-use Rattle.msi_base.specs.Refusals.{IsRefusal, Refusals, first_refusal, unless, unless_refused}
+use Rattle.msi_base.specs.Refusals.{Refusals, first_refusal, unless, unless_refused}
 use Rattle.msi_table_values.specs.Columns.{ColumnDef}
 use Rattle.msi_transform.specs.Transforms.{shapes_of}
 use Rattle.msi_transform_applying.specs.Applying.{TablesInHand, all_applied, is_broken, rows_begun, streams_begun, table_applied, with_anew}
@@ -11,17 +11,13 @@ use Rattle.msi_transform_applying.specs.RecordRefusals.{IsRefused, Refusal, at_r
 use Rattle.msi_transform_applying.specs.RowChanges.{RowsInHand, by_key, keyed, record_applied}
 use Rattle.msi_transform_applying.specs.SchemaChanges.{SchemaChange, TableInHand, TablesTold, columns_in_hand, is_gone, rows_of_package, table_in_hand}
 
--- what a refusal is doesn't depend on the answer
-refused_first : {A B : Type 0} (o : Option ErrorKind) (a : A) (b : B) (kind : ErrorKind) → unless o a ≡ Err kind → unless o b ≡ Err kind
-refused_first None a b kind is = cc
-refused_first (Some k) a b kind is = cc
-
+-- that nothing is refused doesn't depend on the answer
 not_refused : {A B : Type 0} (o : Option ErrorKind) (a : A) (b : B) → unless o a ≡ Ok a → unless o b ≡ Ok b
 not_refused None a b is = refl
 not_refused (Some k) a b is = cc
 
-module _ (change : SchemaChange) (told : TablesTold) (number : ℕ) (s : TablesInHand) (name bytes : List ℕ) (table : TableInHand) (columns : List ColumnDef) (table_is : table ≡ table_in_hand change.database told name) (columns_are : columns ≡ columns_in_hand change.database name table) where
-
+module _ (change : SchemaChange) (told : TablesTold) (number : ℕ) (s : TablesInHand) (name bytes : List ℕ) (table : TableInHand) (columns : List ColumnDef)
+    (table_is : table ≡ table_in_hand change.database told name) (columns_are : columns ≡ columns_in_hand change.database name table) where
   abbrev pub refusals_of : TableInHand → List ColumnDef → Refusals
   refusals_of t cs = (is_gone t.standing, NotFound)
       ∷ (is_broken change.database cs (rows_of_package change.database name t.standing), InvalidData) ∷ []
@@ -42,14 +38,6 @@ module _ (change : SchemaChange) (told : TablesTold) (number : ℕ) (s : TablesI
 
   stepwise : table_applied change told number s (name, bytes) ≡ steps_of table columns
   stepwise = λ i. steps_of (sym table_is i) (sym (columns_are ∙ ap (columns_in_hand change.database name) table_is) i)
-
-  -- the table is refused
-  pub table_refused : (kind : ErrorKind) → IsRefusal (unless_refused (refusals_of table columns) (tt {0})) kind
-      → IsRefused (table_applied change told number s (name, bytes)) (record { kind = kind; place = Some (record { table = number; record_number = 0 }) })
-  table_refused kind (inl memory) = inl memory
-  table_refused kind (inr is) = inr (stepwise
-      ∙ ap (λ (r : Result RowsInHand ErrorKind). at_record number 0 r >>= records_of columns >>= λ r. Ok (with_anew name columns s r))
-      (refused_first (first_refusal (refusals_of table columns)) tt (begun_of table columns) kind is))
 
   module _ (passes : unless_refused (refusals_of table columns) (tt {0}) ≡ Ok tt) where
     begins : table_applied change told number s (name, bytes) ≡ (records_of columns (begun_of table columns) >>= λ r. Ok (with_anew name columns s r))

@@ -181,11 +181,7 @@ impl<'a> SchemaChange<'a> {
         Ok(all)
     }
 
-    fn lengthened_table(
-        &self,
-        name: &'a str,
-        table: &TableInHand,
-    ) -> Result<TableAnew<'a>, Error>
+    fn lengthened_table(&self, name: &'a str, table: &TableInHand) -> Result<TableAnew<'a>, Error>
         ensures ok { IfOk result (λ anew. anew ≡ table_lengthened self.now.database (name.now, table.now)) }
         ensures kind { OnlyMemory result }
     {

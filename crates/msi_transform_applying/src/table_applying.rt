@@ -41,7 +41,9 @@ use msi_base::text::Items;
 use msi_database_changes::Stored;
 use msi_database_changes::keys::{Key, distinct_keys};
 use msi_database_changes::texts::PoolInUse;
-use msi_database_schema::system::{COLUMNS, TABLES, columns_columns, is_schema_table, tables_columns};
+use msi_database_schema::system::{
+    COLUMNS, TABLES, columns_columns, is_schema_table, tables_columns,
+};
 use msi_table_cells::cell::ValueRef;
 use msi_table_values::column::Column;
 use std::alloc::Global;
@@ -85,10 +87,10 @@ fn with_anew<'a>(
     rows: RowsInHand<'a>,
 ) -> Result<TablesInHand<'a>, Error>
     ensures ok { IfOk result (λ changed. anew_in_hand changed ≡ record {
-        tables = tables.entry.items
-            ++ record { name = name.now; columns = columns; rows = entries rows.entry.rows } ∷ [];
-        pool = in_use rows.entry.pool;
-        streams = rows.entry.streams.items;
+      tables = tables.entry.items
+          ++ record { name = name.now; columns = columns; rows = entries rows.entry.rows } ∷ [];
+      pool = in_use rows.entry.pool;
+      streams = rows.entry.streams.items;
     }) }
     ensures kind { OnlyMemory result }
     ensures page { IfOk result (λ changed. changed.pool.pool.page ≡ rows.entry.pool.pool.page) }
@@ -176,9 +178,9 @@ impl<'a> SchemaChange<'a> {
         streams: Vec<Stored>,
     ) -> Result<RowsInHand<'a>, Error>
         ensures ok { let d = self.now.database in IfOk result (λ begun. rows_now begun ≡ record {
-            rows = by_key (map (keyed columns.now d.pool.places) (rows_begun d name.now table.now));
-            pool = in_use pool;
-            streams = streams.items ++ streams_begun d name.now table.now;
+          rows = by_key (map (keyed columns.now d.pool.places) (rows_begun d name.now table.now));
+          pool = in_use pool;
+          streams = streams.items ++ streams_begun d name.now table.now;
         }) }
         ensures kind { OnlyMemory result }
         ensures page { IfOk result (λ begun. begun.pool.pool.page ≡ pool.pool.page) }
