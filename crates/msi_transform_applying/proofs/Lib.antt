@@ -14,3 +14,5 @@ pub mod StayingLemmas
 pub mod ReadBackLemmas
 pub mod FinishedLemmas
 pub mod StorableLemmas
+pub mod RowsPutLemmas
+pub mod TableApplyingLemmas

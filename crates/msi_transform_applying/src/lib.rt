@@ -6,6 +6,7 @@ mod describing;
 mod dropping;
 pub mod keyed;
 pub mod leaving;
+mod lengthening;
 mod listing;
 mod page;
 mod reasons;
