@@ -11,6 +11,7 @@ pub mod Lent
 pub mod Steps
 pub mod Runs
 pub mod Whole
+pub mod Transforming
 pub mod Laws
 pub mod Writable
 pub mod Lending

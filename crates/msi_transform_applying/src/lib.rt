@@ -1,6 +1,7 @@
 //! Applying a transform to the tables of a database.
 #![tactic(auto)]
 
+mod applying;
 mod describing;
 mod dropping;
 pub mod keyed;
@@ -24,3 +25,4 @@ mod table_records;
 pub mod tables_by_name;
 
 pub use refusal::{RecordPlace, Refusal};
+pub use schema_change::SchemaChange;

@@ -46,10 +46,10 @@ use std::marker::Model;
 pub struct SchemaChange<'a> {
     pub(crate) alloc: Global,
     pub(crate) passing: ErrorConditions,
-    pool: &'a StringPool,
+    pub(crate) pool: &'a StringPool,
     tables: &'a [Table],
     streams: &'a StreamMap,
-    transform: &'a Transform,
+    pub(crate) transform: &'a Transform,
 }
 
 impl<'a> Model for SchemaChange<'a> {
