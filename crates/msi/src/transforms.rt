@@ -30,24 +30,31 @@ impl<F: Source> Package<F> {
     /// package. It costs the rows of all tables times a logarithm.
     ///
     /// # Errors
-    /// Fails with the first of these that applies, and tells the record that is at fault where it is one:
+    /// Fails with the first of these that applies, and tells the record that is at fault if one is:
     /// 1. `InvalidInput` if storages lie below the root;
     /// 2. `InvalidData` if the package isn't sound;
     /// 3. `InvalidInput` if the transform has another code page and neither is neutral, unless that passes;
-    /// 4. `InvalidData` if the transform has records of `_Tables` or `_Columns`, and two rows of the package's `_Tables`
-    ///    have one key, or two of its `_Columns`;
-    /// 5. at the first record of `_Tables`, and then of `_Columns`: `InvalidData` if one can't be read; then
-    ///    `InvalidData` if it lists no name that a table may have, lacks a value, changes what may not change or adds a
-    ///    column whose place is taken, `AlreadyExists` if what it adds is there and that doesn't pass, `NotFound` if
-    ///    what it removes isn't and that doesn't pass;
-    /// 6. `InvalidData` if a table is added without a key;
-    /// 7. for each other table of the transform in turn: `NotFound` if it isn't there; `InvalidData` if it has no key,
-    ///    one of streams, or two rows with one key; then at the first of its records: `InvalidData` if one can't be
-    ///    read; `AlreadyExists` if the row to add is there, `NotFound` if the row to remove or to change isn't, unless
-    ///    that passes; `InvalidInput` if the table or the pool is full;
-    /// 8. `InvalidInput` if two rows whose streams have one name would have other bytes, then if a text can't be
+    /// 4. where the transform has records of `_Tables` or of `_Columns`: `InvalidData` if two rows of the package's
+    ///    `_Tables` have one key, and then if two of its `_Columns` have;
+    /// 5. `InvalidData` at the first record of `_Tables` that can't be read; then at the first that can't be applied:
+    ///    `InvalidData` for a name that no table may have; `InvalidInput` if it changes a row; `NotFound` if the table
+    ///    to remove isn't there, and `AlreadyExists` if the one to add is, unless that passes; `InvalidInput` if it
+    ///    adds `_Validation` and there are rows of it already, and then if the pool is full;
+    /// 6. likewise for `_Columns`: `InvalidInput` if a record changes a row, or removes one of a table that the
+    ///    transform doesn't drop; `NotFound` if the column's table isn't there; `InvalidData` if the column has no
+    ///    name or no type; where the table has a column of its number, `InvalidInput` if that is another one, and
+    ///    `AlreadyExists` if it is the same, unless that passes; else `InvalidData` if its number isn't the next, then
+    ///    if its name is taken, `InvalidInput` if it is of the key and the transform doesn't add the table, then if
+    ///    the table has 32 columns, and then if the pool is full;
+    /// 7. `InvalidData` if a table that is added has no column of a key;
+    /// 8. for each other table of the transform in turn: `NotFound` if it isn't there; `InvalidData` if it has no key,
+    ///    one of streams, or two rows with one key; `InvalidData` at the first record that can't be read; then at the
+    ///    first that can't be applied: `NotFound` if the row to remove or to change isn't there, and `AlreadyExists` if
+    ///    the one to add is, unless that passes; `InvalidInput` for a 65537th row; `NotFound` if the transform lacks
+    ///    the stream that the row brings; `InvalidInput` if the pool is full;
+    /// 9. `InvalidInput` if two rows whose streams have one name would have other bytes, and then if a text can't be
     ///    written in the code page of the result;
-    /// 9. `InvalidData` if what is left describes no tables, or can't be counted anew.
+    /// 10. `InvalidData` if what is left describes no tables, or can't be counted anew.
     ///
     /// It may fail with `OutOfMemory` in place of each. Then nothing has changed.
     pub fn apply_transform(
@@ -63,14 +70,9 @@ impl<F: Source> Package<F> {
         settle(&mut self.database, &mut self.open, &mut self.current);
         let page_id = stored_page(&self.database, self.is_pool_changed);
         let database = self.database.apply(page_id, transform, passing)?;
-        self.take_database(database);
-        Ok(())
-    }
-
-    /// Replaces the database by one that was made of it.
-    fn take_database(&mut self, database: Database) {
         self.database = database;
         self.is_unwritten = true;
         self.is_pool_changed = true;
+        Ok(())
     }
 }

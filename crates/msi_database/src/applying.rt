@@ -34,19 +34,6 @@ impl Database {
         copied_streams(self.alloc, &self.streams)
     }
 
-    fn into_streams(self) -> StreamMap
-        ensures { entries result ≡ self.streams }
-    {
-        let Database {
-            alloc: _,
-            pool: _,
-            tables: _,
-            streams,
-            is_sound: _,
-        } = self;
-        streams
-    }
-
     /// Returns the pool and the streams that a transform leaves.
     fn left_by(
         &self,
@@ -74,25 +61,26 @@ impl Database {
 
     /// Returns the database that a transform makes of this one, which stays. `page_id` is the id of this one's code
     /// page as it is stored, or 0 where that is neutral, and `passing` says which faults of records pass: such a record
-    /// is left out. The transform's tables come, go and get columns; its records change rows, and bring the streams of
-    /// rows. Streams of no table and of no row keep their bytes. Texts are counted anew, as `recount` does. It costs
-    /// the rows of all tables times a logarithm.
+    /// does nothing, but for a row to add that is there, whose values are replaced. Streams of no table and of no row
+    /// keep their bytes. Texts are counted anew, as `recount` does. It costs the rows of all tables times a logarithm.
     ///
     /// # Errors
-    /// Fails with the first of these that applies, and tells the record that is at fault where it is one:
+    /// Fails with the first of these that applies, and tells the record that is at fault if one is:
     /// 1. `InvalidData` if the database isn't sound;
     /// 2. `InvalidInput` if the transform has another code page and neither is neutral, unless that passes;
-    /// 3. `InvalidData` if two rows of `_Tables` have one key, then if two of `_Columns` have, where the transform has
-    ///    records of either;
-    /// 4. at the first record of `_Tables`, and then of `_Columns`, that can't be read (`InvalidData`) or applied;
-    /// 5. `InvalidData` if a table is added without a key;
-    /// 6. for each other table of the transform in turn: `NotFound` if it isn't there, `InvalidData` if it has no key,
-    ///    one of streams, or two rows with one key, and at its first record that can't be read or applied;
-    /// 7. `InvalidInput` if two rows whose streams have one name would have other bytes, then if a text can't be
+    /// 3. `InvalidData` if two rows of `_Tables` have one key, and then if two of `_Columns` have, where the transform
+    ///    has records of either;
+    /// 4. at the first record of `_Tables`, and then of `_Columns`, that can't be read (`InvalidData`), or applied;
+    /// 5. `InvalidData` if a table that is added has no column of a key;
+    /// 6. for each other table of the transform in turn: `NotFound` if it isn't there; `InvalidData` if it has no key,
+    ///    one of streams, or two rows with one key; then at its first record that can't be read, or applied;
+    /// 7. `InvalidInput` if two rows whose streams have one name would have other bytes, and then if a text can't be
     ///    written in the code page of the result;
     /// 8. `InvalidData` if what is left describes no tables, or can't be counted anew.
     ///
-    /// It may fail with `OutOfMemory` in place of each but the first.
+    /// A record that can't be applied is refused with `NotFound` or `AlreadyExists` where `passing` may let it pass,
+    /// else with `InvalidData` or `InvalidInput`, or with `NotFound` where a column's table or a row's stream is
+    /// missing. It may fail with `OutOfMemory` in place of each.
     pub fn apply(
         &self,
         page_id: u32,
