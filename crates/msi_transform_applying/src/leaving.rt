@@ -43,8 +43,9 @@ impl<'a> SchemaChange<'a> {
         requires under { let long = is_long_with self.now.database.pool.long changed.tables.pool.pool.places in
             entries under ≡ streams_under (base_of self.now) long }
         ensures ok { IfOk result (λ left.
-            finished (base_of self.now) self.now.by (changed_in_hand changed) ≡ Ok (left_in_hand left)) }
-        ensures kind { IfErr result (IsRefused (finished (base_of self.now) self.now.by (changed_in_hand changed))) }
+            finished (base_of self.now) self.now.by (changed_in_hand changed.entry) ≡ Ok (left_in_hand left)) }
+        ensures kind { let changed = changed_in_hand changed.entry in
+            IfErr result (IsRefused (finished (base_of self.now) self.now.by changed)) }
     {
         let _changed = changed;
         let _under = under;
