@@ -8,7 +8,6 @@ use crate::package::{Package, settle};
 use msi_container_device::Source;
 use msi_database::Database;
 use msi_transform::stored_pool::page_id_in;
-
 pub use msi_transform::{ErrorConditions, Fault, Transform};
 pub use msi_transform_applying::{RecordPlace, Refusal};
 
