@@ -6,3 +6,4 @@ pub mod RecountingLemmas
 pub mod FreshLemmas
 pub mod CreatingLemmas
 pub mod LeavingLemmas
+pub mod TransformingLemmas

@@ -11,6 +11,8 @@ pub mod Lent
 pub mod Steps
 pub mod Runs
 pub mod Whole
+pub mod Transforming
+pub mod Transform
 pub mod Laws
 pub mod Writable
 pub mod Lending

@@ -25,6 +25,7 @@ pub mod recounting;
 mod renewing;
 mod seeking;
 pub mod streams;
+pub mod transforms;
 pub mod uuids;
 mod writable;
 pub mod writer;

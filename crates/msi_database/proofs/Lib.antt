@@ -10,6 +10,7 @@ pub mod LongRowsLemmas
 pub mod FreshCallLemmas
 pub mod FreshMadeLemmas
 pub mod FreshStepLemmas
+pub mod TransformingLemmas
 -- The lemmas of the crates below, which proofs above cite.
 pub use Rattle.msi_database_changes.proofs.steps.RefusedLemmas
 pub use Rattle.msi_database_changes.proofs.describing.SchemaKeptLemmas

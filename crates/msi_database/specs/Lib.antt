@@ -10,6 +10,7 @@ pub mod FreshParts
 pub mod Creating
 pub mod AddingColumn
 pub mod Recounting
+pub mod Transforming
 -- The words of the crates below, which public clauses cite.
 pub use Rattle.msi_base.specs.declared.errors.ErrorKind
 pub use Rattle.msi_base.specs.Results

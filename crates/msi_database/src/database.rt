@@ -83,6 +83,19 @@ impl Database {
         &self.streams
     }
 
+    pub(crate) fn into_streams(self) -> StreamMap
+        ensures { entries result ≡ self.streams }
+    {
+        let Database {
+            alloc: _,
+            pool: _,
+            tables: _,
+            streams,
+            is_sound: _,
+        } = self;
+        streams
+    }
+
     /// Returns whether the database is sound, and so may be changed.
     pub fn is_sound(&self) -> bool
         ensures { result ≡ is_sound_one self.now.database }

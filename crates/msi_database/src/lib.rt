@@ -1,6 +1,7 @@
 //! The database of a package: looks up, queries and changes tables that are stored in the streams of a container.
 #![tactic(auto)]
 
+mod applying;
 mod changing;
 mod columns;
 mod creating;

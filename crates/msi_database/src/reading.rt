@@ -1,12 +1,13 @@
 //! A database that is read from its pool and the streams of a container's root.
 
-ghost use Rattle.std.specs.Prelude.{◌≡◌, IfErr, IfOk};
+ghost use Rattle.std.specs.Prelude.{◌≡◌, IfErr, IfOk, Some};
 ghost use Rattle.std.specs.FinMap.{entries};
 ghost use Rattle.msi_base.specs.declared.errors.ErrorKind.TheVariants.{InvalidData};
 ghost use Rattle.msi_base.specs.Refusals.{IsRefusal, or_refused};
 ghost use Rattle.msi_database_storage.specs.Agreement.{schema_in};
 ghost use Rattle.msi_database_storage.specs.Kept.{Kept};
 ghost use Rattle.msi_database_storage.specs.Reading.{IsDatabaseOf};
+ghost use Rattle.msi_database.specs.Transforming.{database_read};
 
 use crate::database::Database;
 use msi_base::errors::Error;
@@ -29,6 +30,7 @@ impl Database {
     pub fn read(alloc: Global, pool: StringPool, streams: StreamMap) -> Result<Database, Error>
         ensures ok { IfOk result (IsDatabaseOf pool (entries streams)) }
         ensures only { IfOk result (λ d. (k : Kept) → IsDatabaseOf pool (entries streams) k → k ≡ d) }
+        ensures read { IfOk result (λ d. database_read pool (entries streams) ≡ Some d) }
         ensures kind { let schema = schema_in (entries streams) pool in
             IfErr result (IsRefusal (or_refused InvalidData schema)) }
     {

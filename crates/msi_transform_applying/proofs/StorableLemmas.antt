@@ -1,13 +1,15 @@
 -- The tables that are stored anew have names whose streams a container can have, if those of the transform do.
-use Rattle.std.proofs.Common.{◌≡◌, ℕ, ◌+◌, ◌/◌, ◌≤◌, sum, Bool, true, false, cond, List, [], ◌∷◌, ◌++◌, length, map, Option, Some, None, option_map, refl, sym, ap, subst, ◌∙◌, arith}
+use Rattle.std.proofs.Common.{◌≡◌, ℕ, ◌+◌, ◌/◌, ◌≤◌, sum, Bool, true, false, cond, not, List, [], ◌∷◌, ◌++◌, length, map, Option, Some, None, option_map, refl, sym, ap, subst, ◌∙◌, arith}
 use Rattle.std.specs.Prelude.{Result, Ok, Err, bytes_eq, if◌then◌else◌, unwrap_or}
 use Rattle.std.specs.Cmp.Lexicographic.{bytes_decides}
 use Rattle.std.specs.List.{AllByRecursion}
 use Rattle.std.proofs.lemmas.List.{length-map}
+use Rattle.msi_base.specs.declared.errors.ErrorKind.TheVariants.{InvalidData, NotFound}
 use Rattle.msi_base.specs.Refusals.{unless_refused}
 use Rattle.msi_container_format.specs.Names.{is_name_length}
 use Rattle.msi_database_changes.specs.Database.{Database, rows_of, table_at}
-use Rattle.msi_database_schema.specs.Keys.{table_key}
+use Rattle.msi_database_schema.specs.Keys.{is_table_name, table_key}
+use Rattle.msi_database_schema.proofs.KeyLemmas.{table_key_is_name}
 use Rattle.msi_database_schema.specs.System.{columns_columns, columns_name, is_schema_table, tables_columns, tables_name}
 use Rattle.msi_database_storage.specs.Kept.{database_kept, table_kept, table_kept_at}
 use Rattle.msi_database_storage.specs.StreamNames.{HaveShortNames}
@@ -22,11 +24,11 @@ use Rattle.msi_table_cells.specs.TableCells.{TableCells}
 use Rattle.msi_table_values.specs.declared.column.ColumnType.{ColumnType}
 use Rattle.msi_table_values.specs.Columns.{types_of}
 use Rattle.msi_transform.specs.Transforms.{shapes_of}
-use Rattle.msi_transform_applying.specs.Applying.{TableAnew, TablesChanged, TablesInHand, all_applied, change_of, changed_with, changes_schema, lengthened_alone, page_refusals, rows_applied, rows_begun, rows_changed, rows_in_hand, schema_applied, table_applied, table_lengthened, table_or_schema, table_refusals, tables_begun, tables_changed, tables_in_turn, with_anew, with_lengthened}
-use Rattle.msi_transform_applying.specs.LeftInHand.{CanBeStored, HasTableKey, HaveTableKeys}
+use Rattle.msi_transform_applying.specs.Applying.{TableAnew, TablesChanged, TablesInHand, all_applied, change_of, changed_with, changes_schema, is_broken, lengthened_alone, page_refusals, rows_applied, rows_begun, rows_changed, rows_in_hand, schema_applied, table_applied, table_lengthened, table_or_schema, table_refusals, tables_begun, tables_changed, tables_in_turn, with_anew, with_lengthened}
+use Rattle.msi_transform_applying.specs.LeftInHand.{CanBeStored, HasTableKey}
 use Rattle.msi_transform_applying.specs.RecordRefusals.{◌>>=◌, Refusal, at_record, nowhere}
 use Rattle.msi_transform_applying.specs.RowChanges.{RowsInHand, keyed, record_applied}
-use Rattle.msi_transform_applying.specs.SchemaChanges.{SchemaChange, SchemaInHand, TableInHand, TablesTold, columns_in_hand, rows_of_package, table_in_hand}
+use Rattle.msi_transform_applying.specs.SchemaChanges.{SchemaChange, SchemaInHand, TableInHand, TablesTold, columns_in_hand, is_gone, rows_of_package, table_in_hand}
 use Rattle.msi_transform_applying.specs.declared.schema.Standing.{Standing}
 use Rattle.msi_transform_applying.specs.declared.schema.Standing.TheVariants as stands
 
@@ -51,24 +53,33 @@ joined (x ∷ xs) ys h g = (h.0, joined xs ys h.1 g)
 
 -- THE TABLES OF A TRANSFORM
 
+passed_by : {A : Type 0} (gone named broken : Bool) (number : ℕ) (y r : A)
+    → at_record number 0 (unless_refused ((gone, NotFound) ∷ (not named, InvalidData) ∷ (broken, InvalidData) ∷ []) y) ≡ Ok r → named ≡ true
+passed_by true named broken number y r e = cc
+passed_by false true broken number y r e = refl
+passed_by false false broken number y r e = cc
+
 module _ (change : SchemaChange) (told : TablesTold) where
-  one_applied : (number : ℕ) (s t : TablesInHand) (e : List ℕ × List ℕ) → table_applied change told number s e ≡ Ok t → HasTableKey e.0 → AllStorable s.tables → AllStorable t.tables
-  one_applied number s t e is named h =
+  one_applied : (number : ℕ) (s t : TablesInHand) (e : List ℕ × List ℕ) → table_applied change told number s e ≡ Ok t → AllStorable s.tables → AllStorable t.tables
+  one_applied number s t e is h =
       let d = change.database in let table = table_in_hand d told e.0 in let columns = columns_in_hand d e.0 table in
       let (r, ran, ends) = passed
       (at_record number 0 (unless_refused (table_refusals d e.0 table) (rows_in_hand d e.0 table s)) >>= all_applied number change.by (shapes_of columns) e.1 (record_applied (change_of change e.0 table)))
       (λ (r : RowsInHand). Ok (with_anew e.0 columns s r)) t is in
+      let (begun, unrefused, _) = passed (at_record number 0 (unless_refused (table_refusals d e.0 table) (rows_in_hand d e.0 table s)))
+      (all_applied number change.by (shapes_of columns) e.1 (record_applied (change_of change e.0 table))) r ran in
+      let named = table_key_is_name e.0 (passed_by (is_gone table.standing) (is_table_name e.0) (is_broken d columns (rows_of_package d e.0 table.standing)) number (rows_in_hand d e.0 table s) begun unrefused) in
       subst (λ (u : TablesInHand). AllStorable u.tables) (same_answer _ _ ends) (joined s.tables _ h ((λ _. named), tt))
 
-  one_passed : (b : Bool) (number : ℕ) (s t : TablesInHand) (e : List ℕ × List ℕ) → (if b then Ok s else table_applied change told number s e) ≡ Ok t → HasTableKey e.0 → AllStorable s.tables → AllStorable t.tables
-  one_passed true number s t e is named h = subst (λ (u : TablesInHand). AllStorable u.tables) (same_answer _ _ is) h
-  one_passed false number s t e is named h = one_applied number s t e is named h
+  one_passed : (b : Bool) (number : ℕ) (s t : TablesInHand) (e : List ℕ × List ℕ) → (if b then Ok s else table_applied change told number s e) ≡ Ok t → AllStorable s.tables → AllStorable t.tables
+  one_passed true number s t e is h = subst (λ (u : TablesInHand). AllStorable u.tables) (same_answer _ _ is) h
+  one_passed false number s t e is h = one_applied number s t e is h
 
-  all_passed : (es : List (List ℕ × List ℕ)) (n : ℕ) (s t : TablesInHand) → tables_in_turn change told n s es ≡ Ok t → AllByRecursion (λ e. HasTableKey e.0) es → AllStorable s.tables → AllStorable t.tables
-  all_passed [] n s t is named h = subst (λ (u : TablesInHand). AllStorable u.tables) (same_answer _ _ is) h
-  all_passed (e ∷ es) n s t is named h =
+  all_passed : (es : List (List ℕ × List ℕ)) (n : ℕ) (s t : TablesInHand) → tables_in_turn change told n s es ≡ Ok t → AllStorable s.tables → AllStorable t.tables
+  all_passed [] n s t is h = subst (λ (u : TablesInHand). AllStorable u.tables) (same_answer _ _ is) h
+  all_passed (e ∷ es) n s t is h =
       let (u, one, others) = passed (table_or_schema change told n s e) (λ (v : TablesInHand). tables_in_turn change told (n + 1) v es) t is in
-      all_passed es (n + 1) u t others named.1 (one_passed (is_schema_table e.0) n s u e one named.0 h)
+      all_passed es (n + 1) u t others (one_passed (is_schema_table e.0) n s u e one h)
 
 -- TABLES THAT ARE LENGTHENED
 
@@ -136,12 +147,12 @@ systems true s = ((λ _. tables_named), ((λ _. columns_named), tt))
 systems false s = tt
 
 pub are_storable : (pool : Pool) (tables : List TableDef) (change : SchemaChange) (page_id : ℕ) (c : TablesChanged) → change.database ≡ database_kept pool tables change.streams
-    → HaveShortNames change.streams → HaveTableKeys change.by → tables_changed change page_id ≡ Ok c → AllByRecursion CanBeStored c.tables.tables
-are_storable pool tables change page_id c kept short named is =
+    → HaveShortNames change.streams → tables_changed change page_id ≡ Ok c → AllByRecursion CanBeStored c.tables.tables
+are_storable pool tables change page_id c kept short is =
     let (schema, _, changed) = passed (nowhere (unless_refused (page_refusals page_id change.by change.passing) change) >>= schema_applied) (rows_changed change) c is in
     let (anew, applied, ends) = passed (rows_applied change schema) (λ (ts : TablesInHand). Ok (changed_with schema.tables ts)) c changed in
     let (s, ran, longer) = passed (tables_in_turn change schema.tables 0 (tables_begun change schema) change.by.tables) (λ (s : TablesInHand). Ok (with_lengthened change schema.tables s)) anew applied in
     let whole : AllStorable (with_lengthened change schema.tables s).tables = joined s.tables _
-    (all_passed change schema.tables change.by.tables 0 (tables_begun change schema) s ran named (systems (changes_schema change.by) schema))
+    (all_passed change schema.tables change.by.tables 0 (tables_begun change schema) s ran (systems (changes_schema change.by) schema))
     (subst (λ (d : Database). AllStorable (map (table_lengthened d) (lengthened_alone change.by schema.tables))) (sym kept) (all_lengthened pool tables change.streams short (lengthened_alone change.by schema.tables))) in
     subst (λ (u : TablesChanged). AllStorable u.tables.tables) (same_answer _ _ ends) (subst (λ (u : TablesInHand). AllStorable u.tables) (same_answer _ _ longer) whole)

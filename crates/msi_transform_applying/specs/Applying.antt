@@ -20,7 +20,7 @@ use Rattle.msi_table_cells.specs.KeyOrder.{key_of, same_key}
 use Rattle.msi_table_cells.specs.TableCells.{TableCells}
 use Rattle.msi_table_values.specs.declared.value.Value.{Value}
 use Rattle.msi_table_values.specs.Columns.{ColumnDef}
-use Rattle.msi_database_schema.specs.Keys.{table_key}
+use Rattle.msi_database_schema.specs.Keys.{is_table_name, table_key}
 use Rattle.msi_database_schema.specs.System.{columns_columns, columns_name, is_schema_table}
 use Rattle.msi_database_schema.specs.System.{tables_columns, tables_name}
 use Rattle.msi_database_changes.specs.Database.{Database, rows_of, table_at}
@@ -182,6 +182,7 @@ is_broken d columns rows = not (list_any (λ c. c.is_primary_key) columns)
 
 abbrev pub table_refusals : Database → List ℕ → TableInHand → Refusals
 table_refusals d name t = (is_gone t.standing, NotFound)
+    ∷ (not (is_table_name name), InvalidData)
     ∷ (is_broken d (columns_in_hand d name t) (rows_of_package d name t.standing), InvalidData) ∷ []
 
 abbrev pub with_anew : List ℕ → List ColumnDef → TablesInHand → RowsInHand → TablesInHand

@@ -1,11 +1,9 @@
 -- What a transform leaves, as code has it, and the package that it was applied to.
 use Rattle.std.specs.Prelude.{◌≡◌, ◌≤◌, ℕ, true, List, length}
 use Rattle.std.specs.FinMap.{entries}
-use Rattle.std.specs.List.{AllByRecursion}
 use Rattle.msi_container_format.specs.Names.{is_name_length}
 use Rattle.msi_database_schema.specs.Keys.{table_key}
 use Rattle.msi_database_storage.specs.Kept.{Kept}
-use Rattle.msi_transform.specs.Transforms.{TransformDef}
 use Rattle.msi_transform_applying.specs.Applying.{Left, TableAnew}
 use Rattle.msi_transform_applying.specs.SchemaChanges.{SchemaChange}
 use Rattle.msi_transform_applying.specs.declared.leaving.Left.{Left as Held}
@@ -19,10 +17,6 @@ base_of change = record { database = change.database; streams = change.streams }
 -- a container can have the stream of a table of this name
 abbrev pub HasTableKey : List ℕ → Type 0
 HasTableKey name = is_name_length (length (table_key name)) ≡ true
-
--- as it can of each table of which a transform has records
-abbrev pub HaveTableKeys : TransformDef → Type 0
-HaveTableKeys t = AllByRecursion (λ e. HasTableKey e.0) t.tables
 
 -- a table that has rows has a name whose stream a container can have
 abbrev pub CanBeStored : TableAnew → Type 0

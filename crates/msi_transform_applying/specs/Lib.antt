@@ -8,7 +8,6 @@ pub mod RecordRefusals
 pub mod SchemaChanges
 pub mod InHand
 pub mod Applying
-pub mod RowsAnew
 pub mod AnewInHand
 pub mod LeftInHand
 pub mod ExpectedStreams

@@ -19,7 +19,7 @@ use crate::row_streams::{gone_row_stream, has_streams, is_of_streams};
 use crate::schema::TableInHand;
 use crate::schema_change::SchemaChange;
 use crate::tables_by_name::TablesByName;
-use crate::tables_in_hand::{RowsAnew, TableAnew, TablesInHand};
+use crate::tables_in_hand::{TableAnew, TablesInHand};
 use msi_base::errors::Error;
 use msi_base::text::Items;
 use msi_database_changes::Stored;
@@ -190,7 +190,7 @@ impl<'a> SchemaChange<'a> {
         Ok(TableAnew {
             name,
             columns,
-            rows: RowsAnew::AsListed(rows),
+            rows,
         })
     }
 

@@ -2,6 +2,7 @@
 #![tactic(auto)]
 
 mod agreeing;
+mod applying;
 mod describing;
 mod dropping;
 pub mod keyed;
@@ -17,13 +18,14 @@ pub mod row_changes;
 pub mod row_streams;
 pub mod rows_in_hand;
 pub mod schema;
-pub mod schema_change;
 mod schema_applying;
+pub mod schema_change;
 mod schema_records;
-pub mod tables_in_hand;
 mod table_applying;
 pub mod table_change;
 mod table_records;
 pub mod tables_by_name;
+pub mod tables_in_hand;
 
 pub use refusal::{RecordPlace, Refusal};
+pub use schema_change::SchemaChange;

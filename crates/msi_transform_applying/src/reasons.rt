@@ -85,3 +85,5 @@ pub(crate) const STREAMS_DISAGREE: Reason = Reason(
 pub(crate) const TEXT_NOT_IN_PAGE: Reason = Reason(
     "a text can't be written in the code page of the result",
 );
+
+pub(crate) const ODD_TABLE_NAME: Reason = Reason("the table has a name that none may have");

@@ -1,6 +1,6 @@
 //! The records of tables, applied to their rows.
 
-ghost use Rattle.std.specs.Prelude.{◌≡◌, ◌++◌, ◌∷◌, [], ◌&&◌, if◌then◌else◌, IfErr, IfOk, Ok, OnOk, map};
+ghost use Rattle.std.specs.Prelude.{◌≡◌, ◌++◌, ◌∷◌, [], ◌&&◌, if◌then◌else◌, IfErr, IfOk, Ok, OnOk, map, not};
 ghost use Rattle.std.specs.FinMap.{entries};
 ghost use Rattle.std.specs.List.{list_any};
 ghost use Rattle.msi_base.specs.Refusals.{IsRefusal, unless_refused};
@@ -8,6 +8,7 @@ ghost use Rattle.msi_base.specs.Results.{OnlyMemory};
 ghost use Rattle.msi_base.specs.declared.errors.ErrorKind.TheVariants as kind;
 ghost use Rattle.msi_database_changes.specs.KeySets.{keys_of_rows};
 ghost use Rattle.msi_database_changes.specs.Texts.{in_use};
+ghost use Rattle.msi_database_schema.specs.Keys.{is_table_name as is_of_table};
 ghost use Rattle.msi_database_schema.specs.System.{columns_columns as columns_of_columns, columns_name};
 ghost use Rattle.msi_database_schema.specs.System.{tables_columns as columns_of_tables, tables_name};
 ghost use Rattle.msi_transform.specs.Transforms.{shapes_of as shapes_in};
@@ -35,12 +36,13 @@ use crate::schema_change::SchemaChange;
 use crate::table_change::TableChange;
 use crate::table_records::{changes_schema, read_table};
 use crate::tables_by_name::TablesByName;
-use crate::tables_in_hand::{RowsAnew, TableAnew, TablesChanged, TablesInHand};
+use crate::tables_in_hand::{TableAnew, TablesChanged, TablesInHand};
 use msi_base::errors::{Error, ErrorKind};
 use msi_base::text::Items;
 use msi_database_changes::Stored;
 use msi_database_changes::keys::{Key, distinct_keys};
 use msi_database_changes::texts::PoolInUse;
+use msi_database_schema::names::is_table_name;
 use msi_database_schema::system::{
     COLUMNS, TABLES, columns_columns, is_schema_table, tables_columns,
 };
@@ -81,6 +83,7 @@ fn by_keys<'a>(alloc: Global, rows: Vec<(Key<'a>, RowInHand)>) -> Result<KeyedRo
 
 /// Returns what is in hand after a table's records were applied.
 fn with_anew<'a>(
+    alloc: Global,
     tables: Vec<TableAnew<'a>>,
     name: &'a str,
     columns: Items<Column>,
@@ -105,7 +108,7 @@ fn with_anew<'a>(
     tables.push(TableAnew {
         name,
         columns,
-        rows: RowsAnew::ByKey(rows),
+        rows: rows.into_rows(alloc)?,
     })?;
     Ok(TablesInHand {
         tables,
@@ -152,14 +155,19 @@ impl<'a> SchemaChange<'a> {
         ensures ok { let rows = rows_of_package self.now.database name.now table.now.standing in
             let broken = has_bad_key self.now.database columns.now rows in
             OnOk result (unless_refused ((is_gone table.now.standing, kind.NotFound)
+            ∷ (not (is_of_table name.now), kind.InvalidData)
             ∷ (broken, kind.InvalidData) ∷ []) (tt {0}) ≡ Ok tt) }
         ensures kind { let rows = rows_of_package self.now.database name.now table.now.standing in
             let broken = has_bad_key self.now.database columns.now rows in
             IfErr result (IsRefusal (unless_refused ((is_gone table.now.standing, kind.NotFound)
+            ∷ (not (is_of_table name.now), kind.InvalidData)
             ∷ (broken, kind.InvalidData) ∷ []) (tt {0}))) }
     {
         if table.standing().is_gone() {
             return Err(Error::new(ErrorKind::NotFound, reasons::NO_TABLE));
+        }
+        if !is_table_name(name) {
+            return Err(Error::new(ErrorKind::InvalidData, reasons::ODD_TABLE_NAME));
         }
         let rows = self.rows_of(name, table.standing())?;
         if self.is_broken(columns, rows.as_slice())? {
@@ -255,7 +263,7 @@ impl<'a> SchemaChange<'a> {
         } = hand;
         let mut rows = self.begin_table(name, &table, slice, pool, streams)?;
         self.apply_to_rows(number, name, slice, bytes, &mut rows)?;
-        Ok(with_anew(tables, name, columns, rows)?)
+        Ok(with_anew(self.alloc, tables, name, columns, rows)?)
     }
 
     /// Applies the records of a table, or passes over `_Tables` and `_Columns`.
@@ -318,12 +326,12 @@ impl<'a> SchemaChange<'a> {
             tables.push(TableAnew {
                 name: TABLES,
                 columns: tables_columns(self.alloc)?,
-                rows: RowsAnew::ByKey(listed),
+                rows: listed.into_rows(self.alloc)?,
             })?;
             tables.push(TableAnew {
                 name: COLUMNS,
                 columns: columns_columns(self.alloc)?,
-                rows: RowsAnew::ByKey(described),
+                rows: described.into_rows(self.alloc)?,
             })?;
         }
         Ok(tables)

@@ -1,6 +1,6 @@
 -- A database that is read: its pool's places, what it keeps to, and what it is.
 use Rattle.std.proofs.Common.{◌≡◌, ℕ, ◌≤◌, Bool, true, false, ◌||◌, ◌==◌, List, [], ◌∷◌, ◌++◌, map, length, Option, Some, is_some, unwrap_or, refl, sym, ap, ap₂, subst, ◌∙◌}
-use Rattle.std.specs.Prelude.{T, if◌then◌else◌}
+use Rattle.std.specs.Prelude.{T, if◌then◌else◌, option_map}
 use Rattle.std.specs.List.{enumerate_from, list_any}
 use Rattle.std.proofs.lemmas.List.{length-map}
 use Rattle.std.proofs.lemmas.List.FromFn.{length-enumerate_from}
@@ -14,6 +14,7 @@ use Rattle.msi_table_cells.specs.declared.cell.ValueRef.{ValueRef}
 use Rattle.msi_table_values.specs.Columns.{ColumnDef}
 use Rattle.msi_table.specs.Tables.{TableDef}
 use Rattle.msi_database_schema.specs.System.{validation_columns, validation_name}
+use Rattle.msi_database_schema.specs.Schema.{table_with}
 use Rattle.msi_table.specs.Census.{CensusDef, IsCensus, numbers_of_rows}
 use Rattle.msi_database_changes.specs.Database.{Database, Tables, is_sound, named_numbers}
 use Rattle.msi_database_storage.specs.Streams.{Streams, stored_rows}
@@ -23,6 +24,7 @@ use Rattle.msi_database_storage.specs.Naming.{numbers_named, numbers_of_tables, 
 use Rattle.msi_database_storage.specs.Agreement.{is_shown, schema_in}
 use Rattle.msi_database.specs.Keeping.{AreKept, IsRead}
 use Rattle.msi_database.specs.Listed.{tables_listed}
+use Rattle.msi_database.specs.Transforming.{database_read, read_with, shown_with}
 use Rattle.msi_database_storage.specs.Reading.{IsDatabaseOf}
 use Rattle.msi_database.proofs.soundness.FitLemmas.{well_formed}
 use Rattle.msi_database.proofs.keeping.KeptLawLemmas.{read_is_kept}
@@ -50,6 +52,13 @@ shown_here p ts b rows o e =
 
 length-with_named_texts : (is_named : ℕ → Bool) (places : List Place) → length (with_named_texts is_named places) ≡ length places
 length-with_named_texts is_named places = length-map (enumerate_from 1 places) (λ e. forgotten (is_named e.0) e.1) ∙ length-enumerate_from 1 places
+
+listed_again : (long : Bool) (ts : List TableDef) → AreAsLong long ts → map (table_with long) (schema_listed ts) ≡ ts
+listed_again long [] all = refl
+listed_again long (t ∷ ts) all =
+    let wide : long ≡ t.long = sym all.0 in
+    let here : table_with long (t.name, t.columns) ≡ t = λ i. record { name = t.name; columns = t.columns; long = wide i } in
+    ap₂ (λ (v : TableDef) vs. v ∷ vs) here (listed_again long ts all.1)
 
 -- what is read of a pool, of streams, and of the tables that they describe
 pub record Reads (raw : Pool) (tables : List TableDef) (streams : Streams) (rows : List (List ValueRef)) : Type 0 where
@@ -108,6 +117,16 @@ module _ (raw : Pool) (tables : List TableDef) (streams : Streams) (rows : List 
     places = places_read;
     spelled = parts_spelled shown tables streams schema_read;
   })
+
+  shown_is : shown_with raw tables streams ≡ shown
+  shown_is = ap (λ (ps : List Place). record raw { places = ps }) (sym places_read)
+
+  -- it is the one of the definition
+  pub read_is : (new : Pool) → new ≡ shown → database_read raw streams ≡ Some (kept_of new tables streams)
+  read_is new e =
+      ap (option_map (λ listed. read_with raw streams (map (table_with raw.long) listed))) h.schema
+      ∙ ap (λ (ts : List TableDef). Some (read_with raw streams ts)) (listed_again raw.long tables h.as_long)
+      ∙ ap (λ (p : Pool). Some (kept_of p tables streams)) (shown_is ∙ sym e)
 
 -- THERE IS NO OTHER
 

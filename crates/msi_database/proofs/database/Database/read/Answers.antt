@@ -1,4 +1,4 @@
-use Rattle.std.proofs.Common.{◌≡◌, ◌∙◌, [], ap, sym, subst, is_some, map, List}
+use Rattle.std.proofs.Common.{◌≡◌, ◌∙◌, [], ap, sym, subst, is_some, map, List, Some}
 use Rattle.std.specs.Prelude.{if◌then◌else◌}
 use Rattle.std.specs.FinMap.{entries}
 use Rattle.msi_pool.specs.Pool.{Pool}
@@ -11,7 +11,8 @@ use Rattle.msi_database_storage.specs.Kept.{AreAsLong, kept_of, table_kept, tabl
 use Rattle.msi_database_storage.specs.Naming.{numbers_named, numbers_of_tables, pool_shown}
 use Rattle.msi_database.specs.Keeping.{AreKept}
 use Rattle.msi_database_storage.specs.Reading.{IsDatabaseOf}
-use Rattle.msi_database.proofs.opening.ReadDatabaseLemmas.{Reads, read_census, read_database, read_kept, read_once, reads_by}
+use Rattle.msi_database.specs.Transforming.{database_read}
+use Rattle.msi_database.proofs.opening.ReadDatabaseLemmas.{Reads, read_census, read_database, read_is, read_kept, read_once, reads_by}
 use Rattle.msi_database_storage.proofs.PassedLemmas.{memory_refused, no_value}
 use Rattle.msi_database.proofs.database.Database.read.Goals as goal
 
@@ -62,6 +63,17 @@ returns-clause-ok c = let raw : Pool = c.args.pool in let streams = entries c.ar
     subst (λ (ts : List TableDef). IsDatabaseOf raw streams (kept_of c.in_ok-pool.pool ts streams)) c.as_slice-listed.ensures
     (read_database raw listed streams rows reads c.in_ok-pool.pool shown)
 
+pub returns-clause-read : goal.returns-clause-read
+returns-clause-read c = let raw : Pool = c.args.pool in let streams = entries c.args.streams in let listed : List TableDef = c.as_slice-listed.result.now in let rows : List (List ValueRef) = c.in_ok-standard.field-0.validation.items in
+    let reads : Reads raw listed streams rows = reads_by raw c.args.streams c.in_ok-standard.field-0.tables listed rows c.look_at.ensures.names c.look_at.ensures.bytes c.in_ok-pool.ensures.few c.in_ok-pool.ensures.counts
+    c.in_ok-standard.ensures.validation c.as_slice-listed.ensures c.in_ok-standard.ensures.long c.in_ok-standard.ensures.ok in
+    let shown : c.in_ok-pool.pool ≡ pool_shown (numbers_named streams raw.long listed rows) raw =
+    c.in_ok-pool.ensures.ok (numbers_of_tables (map (table_kept streams raw.long) listed))
+    (subst (λ many. IsCensus many (numbers_of_tables (map (table_kept streams raw.long) listed)) c.in_ok-census.census) c.num_strings.ensures.many (c.in_ok-census.ensures.ok raw.long reads.as_long))
+    ∙ ap (λ (rows : List (List ValueRef)). pool_shown (numbers_named streams raw.long listed rows) raw) c.as_slice.ensures.value in
+    subst (λ (ts : List TableDef). database_read raw streams ≡ Some (kept_of c.in_ok-pool.pool ts streams)) c.as_slice-listed.ensures
+    (read_is raw listed streams rows reads c.in_ok-pool.pool shown)
+
 pub returns-clause-only : goal.returns-clause-only
 returns-clause-only c = let raw : Pool = c.args.pool in let streams = entries c.args.streams in let listed : List TableDef = c.as_slice-listed.result.now in let rows : List (List ValueRef) = c.in_ok-standard.field-0.validation.items in
     let reads : Reads raw listed streams rows = reads_by raw c.args.streams c.in_ok-standard.field-0.tables listed rows c.look_at.ensures.names c.look_at.ensures.bytes c.in_ok-pool.ensures.few c.in_ok-pool.ensures.counts
@@ -78,6 +90,9 @@ returns-in_err-standard-clause-ok c = no_value _ c.from_residual.result c.in_err
 pub returns-in_err-standard-clause-only : goal.returns-in_err-standard-clause-only
 returns-in_err-standard-clause-only c = no_value _ c.from_residual.result c.in_err-standard.field-0.0 c.from_residual.ensures.1
 
+pub returns-in_err-standard-clause-read : goal.returns-in_err-standard-clause-read
+returns-in_err-standard-clause-read c = no_value _ c.from_residual.result c.in_err-standard.field-0.0 c.from_residual.ensures.1
+
 pub returns-in_err-standard-clause-kind : goal.returns-in_err-standard-clause-kind
 returns-in_err-standard-clause-kind c = err_passed c.from_residual.result c.in_err-standard.field-0.0 _ c.from_residual.ensures.1 c.in_err-standard.ensures.kind
 
@@ -87,6 +102,9 @@ returns-in_err-census-clause-ok c = no_value _ c.from_residual-in_err-census.res
 pub returns-in_err-census-clause-only : goal.returns-in_err-census-clause-only
 returns-in_err-census-clause-only c = no_value _ c.from_residual-in_err-census.result c.in_err-census.field-0.0 c.from_residual-in_err-census.ensures.1
 
+pub returns-in_err-census-clause-read : goal.returns-in_err-census-clause-read
+returns-in_err-census-clause-read c = no_value _ c.from_residual-in_err-census.result c.in_err-census.field-0.0 c.from_residual-in_err-census.ensures.1
+
 pub returns-in_err-census-clause-kind : goal.returns-in_err-census-clause-kind
 returns-in_err-census-clause-kind c = memory_refused c.from_residual-in_err-census.result c.in_err-census.field-0.0 _ c.from_residual-in_err-census.ensures.1 c.in_err-census.ensures.kind
 
@@ -95,6 +113,9 @@ returns-in_err-pool-clause-ok c = no_value _ c.from_residual-in_err-pool.result 
 
 pub returns-in_err-pool-clause-only : goal.returns-in_err-pool-clause-only
 returns-in_err-pool-clause-only c = no_value _ c.from_residual-in_err-pool.result c.in_err-pool.field-0.0 c.from_residual-in_err-pool.ensures.1
+
+pub returns-in_err-pool-clause-read : goal.returns-in_err-pool-clause-read
+returns-in_err-pool-clause-read c = no_value _ c.from_residual-in_err-pool.result c.in_err-pool.field-0.0 c.from_residual-in_err-pool.ensures.1
 
 pub returns-in_err-pool-clause-kind : goal.returns-in_err-pool-clause-kind
 returns-in_err-pool-clause-kind c = memory_refused c.from_residual-in_err-pool.result c.in_err-pool.field-0.0 _ c.from_residual-in_err-pool.ensures.1 c.in_err-pool.ensures.kind

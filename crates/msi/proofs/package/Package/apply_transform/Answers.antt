@@ -1,0 +1,18 @@
+use Rattle.msi.proofs.packages.ChangeLemmas.{held_sound}
+use Rattle.msi.proofs.packages.TransformingLemmas.{refused_on, transform_left, transform_refused}
+use Rattle.msi.proofs.package.Package.apply_transform.Goals as goal
+
+pub invariant_of-self-2 : goal.invariant_of-self-2
+invariant_of-self-2 g c = held_sound c.in_ok-database.database c.settle.new.name _ c.settle.ensures.taken c.in_ok-database.ensures.sound
+
+pub returns-in_err-database-clause-kind : goal.returns-in_err-database-clause-kind
+returns-in_err-database-clause-kind g c = let refusal = c.in_err-database.field-0.0 in
+    refused_on c.from_residual-in_err-database.result refusal _ c.from_residual-in_err-database.ensures.1
+    (transform_refused c.args.self.now c.args.transform.now c.args.passing _ c.self.view_is c.in_ok-check_storages.ensures
+    c.settle.new.database c.settle.ensures.database c.stored_page-page_id.result c.stored_page-page_id.ensures refusal c.in_err-database.ensures.kind)
+
+pub returns-clause-ok : goal.returns-clause-ok
+returns-clause-ok g c =
+    transform_left c.args.self.now c.args.transform.now c.args.passing _ c.self.view_is c.in_ok-check_storages.ensures
+    c.settle.new.database c.settle.ensures.database c.stored_page-page_id.result c.stored_page-page_id.ensures
+    c.in_ok-database.database c.settle.new.name c.settle.new.current.bytes c.settle.ensures.taken c.in_ok-database.ensures.ok
