@@ -220,11 +220,6 @@ pub is_some-copied : (o : Option (Bor RowInHand)) → is_some (option_copied o) 
 is_some-copied None = refl
 is_some-copied (Some x) = refl
 
-cells_are : (es : Rows) → cells_in_hand (map (λ e. e.1) es) ≡ cells_of es
-cells_are [] = refl
-cells_are (e ∷ es) = ap (λ (rows : List (List ValueRef)). e.1.cells ∷ rows) (cells_are es)
-
--- the cells of the rows, where all were taken
-pub all_cells : (es : Rows) (m : KeyMap) (yielded : List RowInHand) → from_entries es ≡ m → IsStrictlySortedBy key_cmp (keys_of es) → map (λ e. e.1) es ≡ yielded
-    → cells_in_hand yielded ≡ cells_of (entries m)
-all_cells es m yielded is ordered all = ap cells_in_hand (sym all) ∙ cells_are es ∙ ap cells_of (entries_in_order es m is ordered)
+-- rows behind none
+pub no_rows_before : (rows others : Rows) → rows ≡ [] → rows ++ others ≡ others
+no_rows_before rows others none = ap (λ (before : Rows). before ++ others) none

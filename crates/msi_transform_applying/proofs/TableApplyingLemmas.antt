@@ -1,9 +1,10 @@
 -- The records of a table applied to its rows: its steps, and what is refused on the way.
-use Rattle.std.proofs.Common.{◌≡◌, ℕ, List, [], ◌∷◌, ◌++◌, map, refl, sym, ap, ◌∙◌, inl, inr}
+use Rattle.std.proofs.Common.{◌≡◌, ℕ, List, [], ◌∷◌, ◌++◌, map, not, refl, sym, ap, ◌∙◌, inl, inr}
 use Rattle.std.specs.Prelude.{Option, None, Some, Result, Ok}
 use Rattle.msi_base.specs.declared.errors.ErrorKind.{ErrorKind}
 use Rattle.msi_base.specs.declared.errors.ErrorKind.TheVariants.{InvalidData, NotFound}
 use Rattle.msi_base.specs.Refusals.{Refusals, first_refusal, unless, unless_refused}
+use Rattle.msi_database_schema.specs.Keys.{is_table_name}
 use Rattle.msi_table_values.specs.Columns.{ColumnDef}
 use Rattle.msi_transform.specs.Transforms.{shapes_of}
 use Rattle.msi_transform_applying.specs.Applying.{TablesInHand, all_applied, is_broken, rows_begun, streams_begun, table_applied, with_anew}
@@ -19,7 +20,7 @@ not_refused (Some k) a b is = cc
 module _ (change : SchemaChange) (told : TablesTold) (number : ℕ) (s : TablesInHand) (name bytes : List ℕ) (table : TableInHand) (columns : List ColumnDef)
     (table_is : table ≡ table_in_hand change.database told name) (columns_are : columns ≡ columns_in_hand change.database name table) where
   abbrev pub refusals_of : TableInHand → List ColumnDef → Refusals
-  refusals_of t cs = (is_gone t.standing, NotFound)
+  refusals_of t cs = (is_gone t.standing, NotFound) ∷ (not (is_table_name name), InvalidData)
       ∷ (is_broken change.database cs (rows_of_package change.database name t.standing), InvalidData) ∷ []
 
   abbrev pub begun_of : TableInHand → List ColumnDef → RowsInHand

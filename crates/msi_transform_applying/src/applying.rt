@@ -13,16 +13,8 @@ use crate::schema_change::SchemaChange;
 use crate::tables_in_hand::TablesChanged;
 
 impl<'a> SchemaChange<'a> {
-    /// Returns the tables as the transform changes them. `page_id` is the id of the package's code page as it is
-    /// stored, or 0 where that is neutral. It costs the records and the rows of their tables times a logarithm.
-    ///
-    /// # Errors
-    /// Fails with `InvalidInput` if the transform has another code page and neither is neutral, unless that passes;
-    /// then as `apply_schema` does, and then as `change_rows` does.
-    #[tactic(auto, using(crate::proofs::StorableLemmas::are_storable))]
-    pub fn transform_tables(&self, page_id: u32) -> Result<TablesChanged<'a>, Refusal>
+    fn changed_tables(&self, page_id: u32) -> Result<TablesChanged<'a>, Refusal>
         ensures ok { IfOk result (λ changed. tables_changed self.now page_id ≡ Ok (changed_in_hand changed)) }
-        ensures named { IfOk result (λ changed. AllByRecursion CanBeStored (changed_in_hand changed).tables.tables) }
         ensures kind { IfErr result (IsRefused (tables_changed self.now page_id)) }
         ensures page { IfOk result (λ changed. changed.tables.pool.pool.page ≡ self.now.database.pool.page) }
         ensures long { IfOk result (λ changed. changed.tables.pool.pool.long ≡ self.now.database.pool.long) }
@@ -30,5 +22,21 @@ impl<'a> SchemaChange<'a> {
         check_page(page_id, self.transform, self.passing)?;
         let schema = self.apply_schema()?;
         self.change_rows(schema)
+    }
+
+    /// Returns the tables as the transform changes them. `page_id` is the id of the package's code page as it is
+    /// stored, or 0 where that is neutral. It costs the records and the rows of their tables times a logarithm.
+    ///
+    /// # Errors
+    /// Fails with `InvalidInput` if the transform has another code page and neither is neutral, unless that passes;
+    /// then as `apply_schema` does, and then as `change_rows` does.
+    pub fn transform_tables(&self, page_id: u32) -> Result<TablesChanged<'a>, Refusal>
+        ensures ok { IfOk result (λ changed. tables_changed self.now page_id ≡ Ok (changed_in_hand changed)) }
+        ensures named { IfOk result (λ changed. AllByRecursion CanBeStored (changed_in_hand changed).tables.tables) }
+        ensures kind { IfErr result (IsRefused (tables_changed self.now page_id)) }
+        ensures page { IfOk result (λ changed. changed.tables.pool.pool.page ≡ self.now.database.pool.page) }
+        ensures long { IfOk result (λ changed. changed.tables.pool.pool.long ≡ self.now.database.pool.long) }
+    {
+        self.changed_tables(page_id)
     }
 }
