@@ -149,23 +149,29 @@ rows_of_t = 0 ∷ 0 ∷ 1 ∷ 0
 abbrev pub first : TransformDef
 first = transform_of false (codes "b" ∷ codes "a" ∷ codes "z" ∷ codes "d" ∷ []) ((codes "T", rows_of_t) ∷ []) []
 
-pub rows_change : tables_of (outcome strict first) ≡ (codes "T",
-    (Str (codes "a") ∷ Str (codes "z") ∷ Int (pos 1) ∷ Int (negsuc 0) ∷ [])
-    ∷ (Str (codes "c") ∷ Str (codes "y") ∷ Int (negsuc 4) ∷ Int (pos 0) ∷ [])
-    ∷ (Str (codes "d") ∷ Null ∷ Int (pos 7) ∷ Int (pos 5) ∷ []) ∷ []) ∷ []
+pub rows_change : tables_of (outcome strict first) ≡ (
+  codes "T",
+  (Str (codes "a") ∷ Str (codes "z") ∷ Int (pos 1) ∷ Int (negsuc 0) ∷ [])
+      ∷ (Str (codes "c") ∷ Str (codes "y") ∷ Int (negsuc 4) ∷ Int (pos 0) ∷ [])
+      ∷ (Str (codes "d") ∷ Null ∷ Int (pos 7) ∷ Int (pos 5) ∷ []) ∷ [],
+) ∷ []
 unfolding record_at head_at cell_at
 rows_change = refl
 
 -- a key of two columns
 abbrev pub second : TransformDef
-second = transform_of false (codes "u" ∷ codes "new" ∷ codes "w" ∷ []) ((codes "P",
-    0 ∷ 0 ∷ 1 ∷ 0x80 ∷ 1 ∷ 0
-    ∷ 4 ∷ 0 ∷ 2 ∷ 0x80 ∷ 1 ∷ 0 ∷ 2 ∷ 0
-    ∷ 1 ∷ 3 ∷ 3 ∷ 0x80 ∷ 1 ∷ 0 ∷ 3 ∷ 0 ∷ []) ∷ []) []
+second = transform_of false (codes "u" ∷ codes "new" ∷ codes "w" ∷ []) ((
+  codes "P",
+  0 ∷ 0 ∷ 1 ∷ 0x80 ∷ 1 ∷ 0
+      ∷ 4 ∷ 0 ∷ 2 ∷ 0x80 ∷ 1 ∷ 0 ∷ 2 ∷ 0
+      ∷ 1 ∷ 3 ∷ 3 ∷ 0x80 ∷ 1 ∷ 0 ∷ 3 ∷ 0 ∷ [],
+) ∷ []) []
 
-pub two_keys : tables_of (outcome strict second) ≡ (codes "P",
-    (Int (pos 2) ∷ Str (codes "u") ∷ Str (codes "new") ∷ [])
-    ∷ (Int (pos 3) ∷ Str (codes "u") ∷ Str (codes "w") ∷ []) ∷ []) ∷ []
+pub two_keys : tables_of (outcome strict second) ≡ (
+  codes "P",
+  (Int (pos 2) ∷ Str (codes "u") ∷ Str (codes "new") ∷ [])
+      ∷ (Int (pos 3) ∷ Str (codes "u") ∷ Str (codes "w") ∷ []) ∷ [],
+) ∷ []
 unfolding record_at head_at cell_at
 two_keys = refl
 
@@ -174,10 +180,12 @@ abbrev pub wide : TransformDef
 wide = transform_of true (codes "a" ∷ codes "z" ∷ [])
     ((codes "T", 2 ∷ 0 ∷ 1 ∷ 0 ∷ 0 ∷ 2 ∷ 0 ∷ 0 ∷ []) ∷ []) []
 
-pub wide_references : tables_of (outcome strict wide) ≡ (codes "T",
-    (Str (codes "a") ∷ Str (codes "z") ∷ Int (pos 1) ∷ Int (pos 100000) ∷ [])
-    ∷ (Str (codes "b") ∷ Null ∷ Null ∷ Null ∷ [])
-    ∷ (Str (codes "c") ∷ Str (codes "y") ∷ Int (negsuc 4) ∷ Int (pos 0) ∷ []) ∷ []) ∷ []
+pub wide_references : tables_of (outcome strict wide) ≡ (
+  codes "T",
+  (Str (codes "a") ∷ Str (codes "z") ∷ Int (pos 1) ∷ Int (pos 100000) ∷ [])
+      ∷ (Str (codes "b") ∷ Null ∷ Null ∷ Null ∷ [])
+      ∷ (Str (codes "c") ∷ Str (codes "y") ∷ Int (negsuc 4) ∷ Int (pos 0) ∷ []) ∷ [],
+) ∷ []
 unfolding record_at head_at cell_at
 wide_references = refl
 
@@ -219,9 +227,11 @@ pub missing_row : refusal_of (outcome strict missing) ≡ refused_at NotFound 0 
 unfolding record_at head_at cell_at
 missing_row = refl
 
-pub missing_passes : tables_of (outcome lenient missing) ≡ (codes "T",
-    (Str (codes "b") ∷ Null ∷ Null ∷ Null ∷ [])
-    ∷ (Str (codes "c") ∷ Str (codes "y") ∷ Int (negsuc 4) ∷ Int (pos 0) ∷ []) ∷ []) ∷ []
+pub missing_passes : tables_of (outcome lenient missing) ≡ (
+  codes "T",
+  (Str (codes "b") ∷ Null ∷ Null ∷ Null ∷ [])
+      ∷ (Str (codes "c") ∷ Str (codes "y") ∷ Int (negsuc 4) ∷ Int (pos 0) ∷ []) ∷ [],
+) ∷ []
 unfolding record_at head_at cell_at
 missing_passes = refl
 

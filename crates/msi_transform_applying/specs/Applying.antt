@@ -360,7 +360,6 @@ abbrev pub last_refusals : Kept → TransformDef → TablesTold → TablesInHand
 last_refusals k t told s pool =
     (not (streams_agree k t told s pool.long), InvalidInput) ∷ (not (texts_read_back pool), InvalidInput) ∷ []
 
-
 -- a transform applied to a database whose page has this id
 abbrev pub change_with : Kept → TransformDef → ErrorConditions → SchemaChange
 change_with k t passing =

@@ -125,10 +125,7 @@ fn remove_table(streams: &mut StreamMap, name: &str)
 }
 
 /// Returns the cells of rows, moved out.
-fn into_cells(
-    alloc: Global,
-    rows: Vec<(Key<'_>, RowInHand)>,
-) -> Result<Vec<Items<ValueRef>>, Error>
+fn into_cells(alloc: Global, rows: Vec<(Key<'_>, RowInHand)>) -> Result<Vec<Items<ValueRef>>, Error>
     ensures ok { IfOk result (λ cells. cells.items ≡ cells_of rows.entry.items) }
     ensures kind { OnlyMemory result }
 {

@@ -66,13 +66,17 @@ pub(crate) const OTHER_PAGE: Reason = Reason(
     "the transform's code page isn't the package's, and neither is neutral",
 );
 
-pub(crate) const SYSTEM_KEYS: Reason = Reason("two rows of a table that describes tables have one key");
+pub(crate) const SYSTEM_KEYS: Reason = Reason(
+    "two rows of a table that describes tables have one key",
+);
 
 pub(crate) const TABLE_INCOMPLETE: Reason = Reason(
     "the transform adds a table without columns, or without a key",
 );
 
-pub(crate) const NO_TABLE: Reason = Reason("the transform changes rows of a table that isn't there");
+pub(crate) const NO_TABLE: Reason = Reason(
+    "the transform changes rows of a table that isn't there",
+);
 
 pub(crate) const TABLE_BROKEN: Reason = Reason(
     "the table has no key, or one of streams, or two rows with one key",

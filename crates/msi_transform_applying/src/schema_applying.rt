@@ -47,11 +47,7 @@ fn plain_rows(alloc: Global, rows: Vec<Items<ValueRef>>) -> Result<Vec<RowInHand
 impl<'a> SchemaChange<'a> {
     /// Returns the rows of a system table by their keys, or nothing if two of them share one.
     #[tactic(auto, using(crate::proofs::PlainRowsLemmas::plain_cells))]
-    fn system_rows(
-        &self,
-        columns: &[Column],
-        name: &str,
-    ) -> Result<Option<KeyedRows<'a>>, Error>
+    fn system_rows(&self, columns: &[Column], name: &str) -> Result<Option<KeyedRows<'a>>, Error>
         ensures rows { let rows = system_rows_by_key self.now.database name.now columns.now in
             IfOk result (λ found. IfSome found (λ by_keys. entries by_keys ≡ rows)) }
         ensures distinct { let d = self.now.database in IfOk result (λ found. is_some found
