@@ -34,13 +34,17 @@ use Rattle.msi_database_storage.specs.Widening.{streams_widened}
 use Rattle.msi_transform_records.specs.declared.records.Record.{Record}
 use Rattle.msi_transform_records.specs.declared.shape.Shape.{Shape}
 use Rattle.msi_transform_records.specs.Records.{leading, records_in}
-pub use Rattle.msi_transform_applying.specs.RecordRefusals.{◌>>=◌, Refusal, RecordPlace, at_record, in_turn_from, nowhere}
+pub use Rattle.msi_transform_applying.specs.RecordRefusals.{◌>>=◌, Refusal, RecordPlace, at_record, in_turn_from}
+pub use Rattle.msi_transform_applying.specs.RecordRefusals.{nowhere}
 use Rattle.msi_transform.specs.Transforms.{TransformDef, records_for, shapes_of}
 use Rattle.msi_transform_applying.specs.RowStreams.{brought, has_streams, is_of_streams, row_stream, row_stream_gone}
 use Rattle.msi_transform_applying.specs.RowChanges.{Rows, RowsInHand, TableChange, by_key, keyed, record_applied}
-use Rattle.msi_transform_applying.specs.SchemaChanges.{SchemaChange, SchemaInHand, TableInHand, TablesTold, are_complete}
-use Rattle.msi_transform_applying.specs.SchemaChanges.{column_record_applied, columns_in_hand, columns_of_package, is_added}
-use Rattle.msi_transform_applying.specs.SchemaChanges.{is_gone, plain_row, rows_of_package, table_in_hand, table_record_applied}
+use Rattle.msi_transform_applying.specs.SchemaChanges.{SchemaChange, SchemaInHand, TableInHand, TablesTold}
+use Rattle.msi_transform_applying.specs.SchemaChanges.{are_complete}
+use Rattle.msi_transform_applying.specs.SchemaChanges.{column_record_applied, columns_in_hand, columns_of_package}
+use Rattle.msi_transform_applying.specs.SchemaChanges.{is_added}
+use Rattle.msi_transform_applying.specs.SchemaChanges.{is_gone, plain_row, rows_of_package, table_in_hand}
+use Rattle.msi_transform_applying.specs.SchemaChanges.{table_record_applied}
 use Rattle.msi_transform.specs.declared.conditions.ErrorConditions.{ErrorConditions}
 use Rattle.msi_transform_applying.specs.declared.row.RowInHand.{RowInHand}
 use Rattle.msi_transform_applying.specs.declared.row.RowStream.{RowStream}
@@ -306,7 +310,8 @@ same_stream None other = is_none other
 same_stream (Some bytes) other = option_map_or (bytes_eq bytes) other false
 
 -- whether a row has the stream that it is to have
-abbrev pub has_its_stream : Kept → TransformDef → List Stored → Streams → List ℕ → List Value → RowStream → List ℕ → Bool
+abbrev pub has_its_stream : Kept → TransformDef → List Stored → Streams → List ℕ → List Value → RowStream → List ℕ
+    → Bool
 has_its_stream k t said after table key AsBefore name =
     not (is_said said name) || same_stream (stream_at name after) (stream_at name k.streams)
 has_its_stream k t said after table key Gone name = is_none (stream_at name after)

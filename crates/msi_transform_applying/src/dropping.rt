@@ -13,8 +13,10 @@ ghost use Rattle.msi_database_changes.specs.Texts.{in_use, rows_released};
 ghost use Rattle.msi_database_storage.specs.Storing.{stream_gone};
 ghost use Rattle.msi_transform_applying.specs.InHand.{in_hand};
 ghost use Rattle.msi_transform_applying.specs.RowStreams.{row_stream_gone};
-ghost use Rattle.msi_transform_applying.specs.SchemaChanges.{column_keys, columns_of_package, released_at, rows_of_package};
-ghost use Rattle.msi_transform_applying.specs.SchemaChanges.{streams_of_rows, table_removed, with_table_gone, without_keys};
+ghost use Rattle.msi_transform_applying.specs.SchemaChanges.{column_keys, columns_of_package, released_at};
+ghost use Rattle.msi_transform_applying.specs.SchemaChanges.{rows_of_package};
+ghost use Rattle.msi_transform_applying.specs.SchemaChanges.{streams_of_rows, table_removed, with_table_gone};
+ghost use Rattle.msi_transform_applying.specs.SchemaChanges.{without_keys};
 
 use crate::keyed::KeyedRows;
 use crate::reasons;

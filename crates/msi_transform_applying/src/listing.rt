@@ -6,7 +6,8 @@ ghost use Rattle.msi_table_values.specs.Views.{seen_value};
 ghost use Rattle.msi_database_schema.specs.Keys.{is_table_name as is_of_table};
 ghost use Rattle.msi_transform_applying.specs.InHand.{in_hand};
 ghost use Rattle.msi_transform_applying.specs.SchemaChanges.{is_name_to_list as may_be_listed, listing_applied};
-ghost use Rattle.msi_transform_applying.specs.SchemaChanges.{name_to_list as name_listed, plain_row as plain_of, table_added};
+ghost use Rattle.msi_transform_applying.specs.SchemaChanges.{name_to_list as name_listed, plain_row as plain_of};
+ghost use Rattle.msi_transform_applying.specs.SchemaChanges.{table_added};
 ghost use Rattle.msi_transform_applying.specs.SchemaChanges.{table_put, table_record_applied};
 
 use crate::reasons;

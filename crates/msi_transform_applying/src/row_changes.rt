@@ -6,7 +6,8 @@ ghost use Rattle.msi_base.specs.Refusals.{IsRefusal, or_refused, unless_refused}
 ghost use Rattle.msi_base.specs.declared.errors.ErrorKind.TheVariants.{InvalidInput};
 ghost use Rattle.msi_database_changes.specs.Texts.{in_use};
 ghost use Rattle.msi_transform_applying.specs.RecordRefusals.{IsRefused, in_turn_from};
-ghost use Rattle.msi_transform_applying.specs.RowChanges.{cell_changed, cells_changed, pool_for, record_applied, row_added};
+ghost use Rattle.msi_transform_applying.specs.RowChanges.{cell_changed, cells_changed, pool_for, record_applied};
+ghost use Rattle.msi_transform_applying.specs.RowChanges.{row_added};
 ghost use Rattle.msi_transform_applying.specs.RowChanges.{row_changed, row_removed, with_changes};
 ghost use Rattle.msi_transform_applying.specs.RowsInHand.{hand};
 

@@ -9,11 +9,14 @@ ghost use Rattle.msi_database_storage.specs.Streams.{stream_at};
 ghost use Rattle.msi_base.specs.Results.{OnlyMemory};
 ghost use Rattle.msi_table_values.specs.Views.{seen_value};
 ghost use Rattle.msi_database_changes.specs.Views.{seen_row};
-ghost use Rattle.msi_transform_applying.specs.RowStreams.{has_streams as some_stream, is_of_streams as holds_stream, key_text};
-ghost use Rattle.msi_transform_applying.specs.RowStreams.{row_stream as name_of_stream, row_stream_gone, row_stream_stored};
+ghost use Rattle.msi_transform_applying.specs.RowStreams.{has_streams as some_stream, is_of_streams as holds_stream};
+ghost use Rattle.msi_transform_applying.specs.RowStreams.{key_text};
+ghost use Rattle.msi_transform_applying.specs.RowStreams.{row_stream as name_of_stream, row_stream_gone};
+ghost use Rattle.msi_transform_applying.specs.RowStreams.{row_stream_stored};
 ghost use Rattle.msi_transform_applying.specs.RowStreams.{name_of_text, stored_as, stream_text as text_of_stream};
 ghost use Rattle.msi_transform_applying.specs.RowStreams.{told_beside, type_in};
-ghost use Rattle.msi_transform_applying.specs.RowStreams.{told_by_changes as told_of_changes, told_by_row as told_of_row};
+ghost use Rattle.msi_transform_applying.specs.RowStreams.{told_by_changes as told_of_changes};
+ghost use Rattle.msi_transform_applying.specs.RowStreams.{told_by_row as told_of_row};
 ghost use Rattle.msi_transform.specs.Transforms.{TransformDef};
 
 use crate::reasons;

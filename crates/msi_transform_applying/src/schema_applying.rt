@@ -98,7 +98,8 @@ impl<'a> SchemaChange<'a> {
     /// Applies the records of `_Tables`, if there are some.
     fn change_listing(&self, hand: &mut SchemaInHand<'a>) -> Result<(), Refusal>
         ensures ok { let step = table_record_applied self.now in OnOk result
-            (records_applied self.now.by tables_name columns_of_tables step (in_hand hand.old) ≡ Ok (in_hand hand.new)) }
+            (records_applied self.now.by tables_name columns_of_tables step (in_hand hand.old)
+            ≡ Ok (in_hand hand.new)) }
         ensures kind { let step = table_record_applied self.now in IfErr result (IsRefused
             (records_applied self.now.by tables_name columns_of_tables step (in_hand hand.old))) }
         ensures page { hand.new.pool.pool.page ≡ hand.old.pool.pool.page }

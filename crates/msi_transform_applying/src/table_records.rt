@@ -1,7 +1,8 @@
 //! The records of a transform's tables.
 
 ghost use Rattle.std.specs.Prelude.{◌≡◌, IfErr, IfOk, Ok};
-ghost use Rattle.msi_transform_applying.specs.Applying.{changes_schema as tells_of_schema, number_of as place_of, read_for};
+ghost use Rattle.msi_transform_applying.specs.Applying.{changes_schema as tells_of_schema, number_of as place_of};
+ghost use Rattle.msi_transform_applying.specs.Applying.{read_for};
 ghost use Rattle.msi_transform_applying.specs.RecordRefusals.{IsRefused};
 
 use crate::refusal::{RecordPlace, Refusal};
