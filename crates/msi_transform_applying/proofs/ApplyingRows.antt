@@ -119,7 +119,7 @@ transform_of long texts tables streams = record {
 }
 
 abbrev pub change_by : ErrorConditions → TransformDef → SchemaChange
-change_by passing t = record { database = base; by = t; passing = passing }
+change_by passing t = record { database = base; streams = []; by = t; passing = passing }
 
 abbrev pub outcome : ErrorConditions → TransformDef → Result TablesInHand Refusal
 outcome passing t = schema_applied (change_by passing t) >>= rows_applied (change_by passing t)

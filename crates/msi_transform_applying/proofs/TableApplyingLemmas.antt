@@ -1,9 +1,9 @@
 -- The records of a table applied to its rows: its steps, and what is refused on the way.
 use Rattle.std.proofs.Common.{◌≡◌, ℕ, List, [], ◌∷◌, ◌++◌, map, not, refl, sym, ap, ◌∙◌, inl, inr}
-use Rattle.std.specs.Prelude.{Option, None, Some, Result, Ok}
+use Rattle.std.specs.Prelude.{Option, None, Some, Result, Ok, Err}
 use Rattle.msi_base.specs.declared.errors.ErrorKind.{ErrorKind}
 use Rattle.msi_base.specs.declared.errors.ErrorKind.TheVariants.{InvalidData, NotFound}
-use Rattle.msi_base.specs.Refusals.{Refusals, first_refusal, unless, unless_refused}
+use Rattle.msi_base.specs.Refusals.{IsRefusal, Refusals, first_refusal, unless, unless_refused}
 use Rattle.msi_database_schema.specs.Keys.{is_table_name}
 use Rattle.msi_table_values.specs.Columns.{ColumnDef}
 use Rattle.msi_transform.specs.Transforms.{shapes_of}
@@ -16,6 +16,10 @@ use Rattle.msi_transform_applying.specs.SchemaChanges.{SchemaChange, TableInHand
 not_refused : {A B : Type 0} (o : Option ErrorKind) (a : A) (b : B) → unless o a ≡ Ok a → unless o b ≡ Ok b
 not_refused None a b is = refl
 not_refused (Some k) a b is = cc
+
+refused_too : {A B : Type 0} (o : Option ErrorKind) (a : A) (b : B) (k : ErrorKind) → unless o a ≡ Err k → unless o b ≡ Err k
+refused_too None a b k is = cc
+refused_too (Some j) a b k is = let same : j ≡ k = cc in ap (λ (q : ErrorKind). Err q) same
 
 module _ (change : SchemaChange) (told : TablesTold) (number : ℕ) (s : TablesInHand) (name bytes : List ℕ) (table : TableInHand) (columns : List ColumnDef)
     (table_is : table ≡ table_in_hand change.database told name) (columns_are : columns ≡ columns_in_hand change.database name table) where
@@ -39,6 +43,15 @@ module _ (change : SchemaChange) (told : TablesTold) (number : ℕ) (s : TablesI
 
   stepwise : table_applied change told number s (name, bytes) ≡ steps_of table columns
   stepwise = λ i. steps_of (sym table_is i) (sym (columns_are ∙ ap (columns_in_hand change.database name) table_is) i)
+
+  -- the table is refused
+  pub table_refused : (kind : ErrorKind) (refusal : Refusal) → refusal ≡ record { kind = kind; place = Some (record { table = number; record_number = 0 }) }
+      → IsRefusal (unless_refused (refusals_of table columns) (tt {0})) kind → IsRefused (table_applied change told number s (name, bytes)) refusal
+  table_refused kind refusal is (inl memory) = inl (ap (λ (r : Refusal). r.kind) is ∙ memory)
+  table_refused kind refusal is (inr refused) = inr (stepwise
+      ∙ ap (λ (r : Result RowsInHand ErrorKind). at_record number 0 r >>= records_of columns >>= λ r. Ok (with_anew name columns s r))
+      (refused_too (first_refusal (refusals_of table columns)) tt (begun_of table columns) kind refused)
+      ∙ ap (λ (r : Refusal). Err r) (sym is))
 
   module _ (passes : unless_refused (refusals_of table columns) (tt {0}) ≡ Ok tt) where
     begins : table_applied change told number s (name, bytes) ≡ (records_of columns (begun_of table columns) >>= λ r. Ok (with_anew name columns s r))

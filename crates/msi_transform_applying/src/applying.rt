@@ -37,6 +37,7 @@ impl<'a> SchemaChange<'a> {
         ensures page { IfOk result (λ changed. changed.tables.pool.pool.page ≡ self.now.database.pool.page) }
         ensures long { IfOk result (λ changed. changed.tables.pool.pool.long ≡ self.now.database.pool.long) }
     {
+        let _alloc = self.alloc;
         self.changed_tables(page_id)
     }
 }
