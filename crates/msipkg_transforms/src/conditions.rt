@@ -34,8 +34,8 @@ pub fn words_of(alloc: Global, conditions: ErrorConditions) -> Result<String, Al
     Ok(text)
 }
 
-/// Returns the conditions that words name: `add-row`, `delete-row`, `add-table`, `delete-table`, `change-row`, `page`, or
-/// letters for these, `a` to `f`.
+/// Returns the conditions that words name: `add-row`, `delete-row`, `add-table`, `delete-table`, `change-row` and
+/// `page`, or letters for these, `a` to `f`.
 ///
 /// # Errors
 /// Fails at a word that names no fault.
