@@ -608,7 +608,7 @@ static TRANSFORM_COMMANDS: [Row; 2] = [
             Argument {
                 id: "T",
                 form: Form::Words,
-                help: "The transforms: files, storages of one as PATH:NAME, or of the package as :NAME",
+                help: "The transforms: files, or storages of one as PATH:NAME",
             },
             Argument {
                 id: "output",
