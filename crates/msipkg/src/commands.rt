@@ -213,18 +213,7 @@ fn obey(
             target,
         } => make(rt, asked, change, target, errors),
         Command::ShowTransform { base, is_json } => {
-            let base = base.map(|path| asked.package(path, Purpose::Look));
-            let transform = asked.file();
-            show_transform(
-                rt,
-                asked.style,
-                transform,
-                base.as_ref(),
-                is_json,
-                output,
-                errors,
-            )?;
-            Ok(0)
+            print_transform(rt, asked, base, is_json, output, errors)
         }
         Command::Script(path) => execute_script(rt, asked, path, output, errors),
         Command::Batch => Err(Failure::rule("batch is no command of a batch")),
@@ -252,6 +241,29 @@ pub(crate) fn with_input(rt: &System, files: &[&str]) -> Result<System, Failure>
     } else {
         Ok(*rt)
     }
+}
+
+/// Prints a transform, beside a package if one is named.
+fn print_transform(
+    rt: &System,
+    asked: &Asked<'_, '_>,
+    base: Option<&str>,
+    is_json: bool,
+    output: &mut Output,
+    errors: &mut Output,
+) -> Result<u8, Failure> {
+    let base = base.map(|path| asked.package(path, Purpose::Look));
+    let transform = asked.file();
+    show_transform(
+        rt,
+        asked.style,
+        transform,
+        base.as_ref(),
+        is_json,
+        output,
+        errors,
+    )?;
+    Ok(0)
 }
 
 fn compare(
