@@ -155,7 +155,7 @@ pub rows_change : tables_of (outcome strict first) ≡ (
       ∷ (Str (codes "c") ∷ Str (codes "y") ∷ Int (negsuc 4) ∷ Int (pos 0) ∷ [])
       ∷ (Str (codes "d") ∷ Null ∷ Int (pos 7) ∷ Int (pos 5) ∷ []) ∷ [],
 ) ∷ []
-unfolding record_at head_at cell_at
+unfolding record_at head_at cell_at Rattle.std.specs.Str.chars
 rows_change = refl
 
 -- a key of two columns
@@ -172,7 +172,7 @@ pub two_keys : tables_of (outcome strict second) ≡ (
   (Int (pos 2) ∷ Str (codes "u") ∷ Str (codes "new") ∷ [])
       ∷ (Int (pos 3) ∷ Str (codes "u") ∷ Str (codes "w") ∷ []) ∷ [],
 ) ∷ []
-unfolding record_at head_at cell_at
+unfolding record_at head_at cell_at Rattle.std.specs.Str.chars
 two_keys = refl
 
 -- references of three bytes
@@ -186,7 +186,7 @@ pub wide_references : tables_of (outcome strict wide) ≡ (
       ∷ (Str (codes "b") ∷ Null ∷ Null ∷ Null ∷ [])
       ∷ (Str (codes "c") ∷ Str (codes "y") ∷ Int (negsuc 4) ∷ Int (pos 0) ∷ []) ∷ [],
 ) ∷ []
-unfolding record_at head_at cell_at
+unfolding record_at head_at cell_at Rattle.std.specs.Str.chars
 wide_references = refl
 
 -- ---- a table gets a column, and its rows null there
@@ -205,13 +205,13 @@ rows_of_p result = rows_in_third (tables_of result)
 pub column_comes : rows_of_p (outcome strict (fourth (8 ∷ 0 ∷ 1 ∷ 0x80 ∷ 3 ∷ 0 ∷ 9 ∷ 0x80 ∷ []))) ≡
     (Int (pos 1) ∷ Str (codes "u") ∷ Str (codes "v") ∷ Int (pos 9) ∷ [])
     ∷ (Int (pos 2) ∷ Str (codes "u") ∷ Str (codes "w") ∷ Null ∷ []) ∷ []
-unfolding record_at head_at cell_at
+unfolding record_at head_at cell_at Rattle.std.specs.Str.chars
 column_comes = refl
 
 pub nulls_come : rows_of_p (outcome strict (fourth (8 ∷ 0 ∷ 1 ∷ 0x80 ∷ 3 ∷ 0 ∷ 0 ∷ 0 ∷ []))) ≡
     (Int (pos 1) ∷ Str (codes "u") ∷ Str (codes "v") ∷ Null ∷ [])
     ∷ (Int (pos 2) ∷ Str (codes "u") ∷ Str (codes "w") ∷ Null ∷ []) ∷ []
-unfolding record_at head_at cell_at
+unfolding record_at head_at cell_at Rattle.std.specs.Str.chars
 nulls_come = refl
 
 -- ---- refusals: of the record that is at fault, unless it passes
@@ -224,7 +224,7 @@ missing = transform_of false (codes "a" ∷ codes "q" ∷ [])
     ((codes "T", 0 ∷ 0 ∷ 1 ∷ 0 ∷ 0 ∷ 0 ∷ 2 ∷ 0 ∷ []) ∷ []) []
 
 pub missing_row : refusal_of (outcome strict missing) ≡ refused_at NotFound 0 1
-unfolding record_at head_at cell_at
+unfolding record_at head_at cell_at Rattle.std.specs.Str.chars
 missing_row = refl
 
 pub missing_passes : tables_of (outcome lenient missing) ≡ (
@@ -232,7 +232,7 @@ pub missing_passes : tables_of (outcome lenient missing) ≡ (
   (Str (codes "b") ∷ Null ∷ Null ∷ Null ∷ [])
       ∷ (Str (codes "c") ∷ Str (codes "y") ∷ Int (negsuc 4) ∷ Int (pos 0) ∷ []) ∷ [],
 ) ∷ []
-unfolding record_at head_at cell_at
+unfolding record_at head_at cell_at Rattle.std.specs.Str.chars
 missing_passes = refl
 
 -- the second record is cut: nothing is applied
@@ -241,5 +241,5 @@ cut = transform_of false (codes "a" ∷ [])
     ((codes "T", 0 ∷ 0 ∷ 1 ∷ 0 ∷ 0 ∷ 0 ∷ 1 ∷ []) ∷ []) []
 
 pub cut_record : refusal_of (outcome strict cut) ≡ refused_at InvalidData 0 1
-unfolding record_at head_at cell_at
+unfolding record_at head_at cell_at Rattle.std.specs.Str.chars
 cut_record = refl
