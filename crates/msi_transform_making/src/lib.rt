@@ -1,0 +1,2 @@
+//! Making a transform of two databases.
+#![tactic(auto)]
