@@ -1,2 +1,4 @@
 -- The words of this crate.
 pub mod Making
+pub mod Names
+pub mod Telling

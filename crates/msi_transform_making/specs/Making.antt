@@ -22,7 +22,7 @@ use Rattle.msi_table_values.specs.Values.{is_null, value_cmp}
 use Rattle.msi_table_values.specs.Columns.{ColumnDef}
 use Rattle.msi_database_schema.specs.Schema.{value_at}
 use Rattle.msi_database_schema.specs.System.{columns_columns, columns_name, is_schema_table, tables_columns, tables_name}
-use Rattle.msi_database_changes.specs.Database.{Database, rows_of, table_at}
+use Rattle.msi_database_changes.specs.Database.{Database, has_table, table_at}
 use Rattle.msi_database_changes.specs.Texts.{PoolInUse, cell_put, in_turn}
 use Rattle.msi_database_storage.specs.Kept.{Kept}
 use Rattle.msi_database_storage.specs.Streams.{Streams, stream_at, with_stream}
@@ -38,36 +38,44 @@ use Rattle.msi_transform_applying.specs.Applying.{is_broken, reads_back, same_st
 
 -- ROWS AS THEY ARE TOLD
 
--- a row by its key: its values, of which those in columns of streams are null without a stream; and its stream
+-- a row: its values, of which those in columns of streams are null without a stream; and its stream
 pub record ToldRow : Type 0 where
-  pub key : List Value
   pub values : List Value
   pub stream : Option (List ℕ)
+
+-- rows beside their keys, in the order of these
+abbrev pub ToldRows : Type 0
+ToldRows = List (List Value × ToldRow)
 
 -- the package whose rows are told: its database with all streams
 abbrev pub stream_of_row : Kept → List ℕ → List Value → Option (List ℕ)
 stream_of_row k table key = option_and_then (λ name. stream_at name k.streams) (row_stream table key)
 
-abbrev pub told_value : Option (List ℕ) → ColumnDef × Value → Value
-told_value stream e = if is_of_streams e.0.coltype then (if is_some stream then Binary else Null) else e.1
+abbrev pub told_stream : Kept → List ℕ → List ColumnDef → List Value → Option (List ℕ)
+told_stream k table columns key = if has_streams columns then stream_of_row k table key else None
 
-abbrev pub told_values : List ColumnDef → Option (List ℕ) → List Value → List Value
-told_values columns stream values = map (told_value stream) (zip columns values)
+-- whether there is a stream
+abbrev pub told_value : Bool → ColumnDef × Value → Value
+told_value there e = if is_of_streams e.0.coltype then (if there then Binary else Null) else e.1
 
-abbrev pub told_row_with : Kept → List ℕ → List ColumnDef → List Value → List Value → ToldRow
-told_row_with k table columns values key = let stream = stream_of_row k table key in record {
-  key = key;
-  values = told_values columns stream values;
-  stream = if has_streams columns then stream else None;
+abbrev pub told_values : Bool → List ColumnDef → List Value → List Value
+told_values there columns values = map (told_value there) (zip columns values)
+
+-- with null in each of so many columns that are added; a row of a table that gets its first column of streams has none
+abbrev pub told_row_with : Option (List ℕ) → List ColumnDef → ℕ → List Value → ToldRow
+told_row_with stream columns added values = record {
+  values = told_values (is_some stream) columns values ++ replicate added Null;
+  stream = stream;
 }
 
-abbrev pub told_row : Kept → List ℕ → List ColumnDef → List Value → ToldRow
-told_row k table columns values = told_row_with k table columns values (key_of columns values)
+abbrev pub told_row : Kept → List ℕ → List ColumnDef → ℕ → List Value → List Value × ToldRow
+told_row k table columns added values = let key = key_of columns values in
+    (key, told_row_with (told_stream k table columns key) columns added values)
 
 -- a table's rows by their keys, in the order of these
-abbrev pub by_keys : List ToldRow → List (List Value × ToldRow)
+abbrev pub by_keys : ToldRows → ToldRows
 by_keys [] = []
-by_keys (r ∷ rs) = put key_cmp r.key r (by_keys rs)
+by_keys (e ∷ es) = put key_cmp e.0 e.1 (by_keys es)
 
 abbrev pub values_in_table : Kept → List ℕ → List (List Value)
 values_in_table k name = map (row_values k.database.pool.places) (system_rows k.database name)
@@ -75,27 +83,23 @@ values_in_table k name = map (row_values k.database.pool.places) (system_rows k.
 abbrev pub columns_in_table : Kept → List ℕ → List ColumnDef
 columns_in_table k name = unwrap_or (option_map (λ t. t.columns) (table_at name k.database)) []
 
-abbrev pub told_rows : Kept → List ℕ → List (List Value × ToldRow)
-told_rows k name = by_keys (map (told_row k name (columns_in_table k name)) (values_in_table k name))
-
--- the old rows with null in each column that is added; a row of a table that gets its first column of streams has none
-abbrev pub filled : ℕ → ToldRow → ToldRow
-filled n row = record row { values = row.values ++ replicate n Null }
-
-abbrev pub filled_rows : ℕ → List (List Value × ToldRow) → List (List Value × ToldRow)
-filled_rows n rows = map (λ e. (e.0, filled n e.1)) rows
+abbrev pub told_rows : Kept → List ℕ → ℕ → ToldRows
+told_rows k name added = by_keys (map (told_row k name (columns_in_table k name) added) (values_in_table k name))
 
 -- WHAT DIFFERS
 
--- a value told once more, or another stream
-abbrev pub same_value : ToldRow → ToldRow → Value × Value → Bool
-same_value old new (Binary, Binary) = same_stream old.stream new.stream
-same_value old new (v, w) = eq_by_cmp value_cmp v w
+-- a value told once more; where both are streams, whether these are the same
+abbrev pub same_value : Bool → Value × Value → Bool
+same_value same (Binary, Binary) = same
+same_value same (v, w) = eq_by_cmp value_cmp v w
 
 -- the numbers of the columns in which two rows differ, from 0 on
+abbrev pub differing_values : Bool → List Value → List Value → List ℕ
+differing_values same old new = map (λ e. e.0) (filter (λ e. not (same_value same e.1))
+    (enumerate_from 0 (zip old new)))
+
 abbrev pub differing : ToldRow → ToldRow → List ℕ
-differing old new = map (λ e. e.0) (filter (λ e. not (same_value old new e.1))
-    (enumerate_from 0 (zip old.values new.values)))
+differing old new = differing_values (same_stream old.stream new.stream) old.values new.values
 
 -- a mask has bits for the columns 1 to 15 alone
 abbrev pub has_bit_for : ℕ → Bool
@@ -116,11 +120,12 @@ pub record ToldRecord : Type 0 where
   pub key : List Value
   pub stream : Option (List ℕ)
 
-abbrev pub removal : ToldRow → ToldRecord
-removal row = record { action = Remove; values = row.key; key = row.key; stream = None }
+abbrev pub removal : List Value → ToldRecord
+removal key = record { action = Remove; values = key; key = key; stream = None }
 
-abbrev pub addition : ToldRow → ToldRecord
-addition row = record { action = Add (length row.values); values = row.values; key = row.key; stream = row.stream }
+abbrev pub addition : List Value × ToldRow → ToldRecord
+addition e =
+    record { action = Add (length e.1.values); values = e.1.values; key = e.0; stream = e.1.stream }
 
 -- the values of the key and of the marked columns, in the table's order
 abbrev pub is_marked_in : List ℕ → ℕ × (ColumnDef × Value) → Bool
@@ -133,62 +138,66 @@ marked_values columns marked values =
 abbrev pub tells_stream : List (ColumnDef × Value) → Bool
 tells_stream told = list_any (λ e. is_of_streams e.0.coltype && not (is_null e.1)) told
 
-abbrev pub changing : List ColumnDef → List ℕ → ToldRow → ToldRecord
-changing columns marked new = let told = marked_values columns marked new.values in record {
+abbrev pub changing : List ColumnDef → List ℕ → List Value × ToldRow → ToldRecord
+changing columns marked new = let told = marked_values columns marked new.1.values in record {
   action = Change (mask_for marked);
   values = map (λ e. e.1) told;
-  key = new.key;
-  stream = if tells_stream told then new.stream else None;
+  key = new.0;
+  stream = if tells_stream told then new.1.stream else None;
 }
 
 -- a row that both have: nothing, a change, or where a column has no bit a removal and an addition
-abbrev pub is_replaced : List (List Value × ToldRow) → List Value × ToldRow → Bool
+abbrev pub is_replaced : ToldRows → List Value × ToldRow → Bool
 is_replaced others e = option_map_or (λ other. not (can_be_marked (differing other e.1)))
     (find key_cmp e.0 others) true
 
-abbrev pub removals : List (List Value × ToldRow) → List (List Value × ToldRow) → List ToldRecord
-removals old new = map (λ e. removal e.1) (filter (is_replaced new) old)
+abbrev pub removals : ToldRows → ToldRows → List ToldRecord
+removals old new = map (λ e. removal e.0) (filter (is_replaced new) old)
 
-abbrev pub additions : List (List Value × ToldRow) → List (List Value × ToldRow) → List ToldRecord
-additions old new = map (λ e. addition e.1) (filter (is_replaced old) new)
+abbrev pub additions : ToldRows → ToldRows → List ToldRecord
+additions old new = map addition (filter (is_replaced old) new)
 
-abbrev pub change_of_row : List ColumnDef → List (List Value × ToldRow) → List Value × ToldRow → Option ToldRecord
+abbrev pub change_of_row : List ColumnDef → ToldRows → List Value × ToldRow → Option ToldRecord
 change_of_row columns old e = option_and_then (λ other. let marked = differing other e.1 in
-    if can_be_marked marked && nat_lt 0 (length marked) then Some (changing columns marked e.1) else None)
+    if can_be_marked marked && nat_lt 0 (length marked) then Some (changing columns marked e) else None)
     (find key_cmp e.0 old)
 
-abbrev pub changes : List ColumnDef → List (List Value × ToldRow) → List (List Value × ToldRow) → List ToldRecord
+abbrev pub changes : List ColumnDef → ToldRows → ToldRows → List ToldRecord
 changes columns old new = filter_map (change_of_row columns old) new
 
-abbrev pub differences : List ColumnDef → List (List Value × ToldRow) → List (List Value × ToldRow) → List ToldRecord
+abbrev pub differences : List ColumnDef → ToldRows → ToldRows → List ToldRecord
 differences columns old new = removals old new ++ changes columns old new ++ additions old new
 
 -- A table that gets columns and has rows is told of, also where no row differs: its first row as if it did in the first
 -- new column, since other programs misread the table without that
-abbrev pub first_told : List ColumnDef → ℕ → List (List Value × ToldRow) → List ToldRecord
+abbrev pub first_told : List ColumnDef → ℕ → ToldRows → List ToldRecord
 first_told columns n [] = []
-first_told columns n (e ∷ es) = if has_bit_for n then changing columns (n ∷ []) e.1 ∷ []
-    else removal e.1 ∷ addition e.1 ∷ []
+first_told columns n (e ∷ es) = if has_bit_for n then changing columns (n ∷ []) e ∷ []
+    else removal e.0 ∷ addition e ∷ []
 
-abbrev pub or_first_told : List ColumnDef → ℕ → ℕ → List (List Value × ToldRow) → List ToldRecord → List ToldRecord
+abbrev pub or_first_told : List ColumnDef → ℕ → ℕ → ToldRows → List ToldRecord → List ToldRecord
 or_first_told columns before added rows told =
     if length told == 0 && nat_lt 0 added then first_told columns before rows else told
 
--- the records of a table that new has: old has so many of its columns, or it isn't there
-abbrev pub records_of_old : Kept → Kept → List ℕ → TableCells → List ToldRecord
-records_of_old old new name t =
+abbrev pub columns_before : Database → List ℕ → ℕ
+columns_before d name = option_map_or (λ t. length t.columns) (table_at name d) 0
+
+-- the records of a table that new has: old has it with so many of its columns, or not at all
+abbrev pub records_beside : Kept → Kept → List ℕ → ℕ → List ToldRecord
+records_beside old new name before =
     let columns = columns_in_table new name in
-    let added = length columns - length t.columns in
-    let before = filled_rows added (told_rows old name) in
-    or_first_told columns (length t.columns) added before (differences columns before (told_rows new name))
+    let added = length columns - before in
+    let rows = told_rows old name added in
+    or_first_told columns before added rows (differences columns rows (told_rows new name 0))
 
 abbrev pub records_of_table : Kept → Kept → List ℕ → List ToldRecord
-records_of_table old new name = option_map_or (records_of_old old new name)
-    (table_at name old.database) (map (λ e. addition e.1) (told_rows new name))
+records_of_table old new name = if has_table name old.database
+    then records_beside old new name (columns_before old.database name)
+    else map addition (told_rows new name 0)
 
 -- the tables, and their columns
 abbrev pub names_beside : Database → Database → List (List ℕ)
-names_beside d other = filter (λ name. is_none (table_at name other)) (map (λ t. t.0) d.tables)
+names_beside d other = filter (λ name. not (has_table name other)) (map (λ t. t.0) d.tables)
 
 abbrev pub listing_record : Action → List ℕ → ToldRecord
 listing_record action name = record { action = action; values = Str name ∷ []; key = Str name ∷ []; stream = None }
@@ -199,7 +208,7 @@ records_of_tables old new = map (listing_record Remove) (names_beside old new)
 
 abbrev pub described_columns : Kept → List ℕ → List (List Value)
 described_columns k name = filter (λ row. eq_by_cmp value_cmp (value_at 0 row) (Str name))
-    (map (λ e. e.1.values) (told_rows k columns_name))
+    (map (λ e. e.1.values) (told_rows k columns_name 0))
 
 abbrev pub with_number_if : Bool → List Value → List Value
 with_number_if is_kept (table ∷ number ∷ others) = table ∷ (if is_kept then number else Null) ∷ others
@@ -207,17 +216,14 @@ with_number_if is_kept row = row
 
 abbrev pub describing_record : Bool → List Value → ToldRecord
 describing_record is_kept row = record {
-  action = Add 4;
+  action = Add (length (with_number_if is_kept row));
   values = with_number_if is_kept row;
   key = take 2 row;
   stream = None;
 }
 
-abbrev pub columns_before : Database → List ℕ → ℕ
-columns_before d name = option_map_or (λ t. length t.columns) (table_at name d) 0
-
 abbrev pub records_of_columns : Kept → Kept → List ℕ → List ToldRecord
-records_of_columns old new name = map (describing_record (is_some (table_at name old.database)))
+records_of_columns old new name = map (describing_record (has_table name old.database))
     (drop (columns_before old.database name) (described_columns new name))
 
 -- each table's records in order: of the lists first, then of the tables of new
@@ -248,8 +254,18 @@ told_tables old new = filter (λ (t : ToldTable). nat_lt 0 (length t.records))
 -- THE TRANSFORM
 
 -- the records with their texts in a pool, each text at the first place that takes it
+-- A mask has 8 bits for how many cells an added row has: where it has more, there is no such record
+abbrev pub stored_action : Action → Option Action
+stored_action (Add k) = if nat_lt 255 k then None else Some (Add k)
+stored_action Remove = Some Remove
+stored_action (Change mask) = Some (Change mask)
+
+abbrev pub stored_record_with : PoolInUse → List Value → Action → Option (Record × PoolInUse)
+stored_record_with pool values action =
+    option_map (λ s. (record_with action s.0, s.1)) (in_turn (cell_put true) pool values)
+
 abbrev pub stored_record : PoolInUse → ToldRecord → Option (Record × PoolInUse)
-stored_record pool r = option_map (λ s. (record_with r.action s.0, s.1)) (in_turn (cell_put true) pool r.values)
+stored_record pool r = option_and_then (stored_record_with pool r.values) (stored_action r.action)
 
 abbrev pub stored_table : PoolInUse → ToldTable → Option ((ToldTable × List Record) × PoolInUse)
 stored_table pool t = option_map (λ s. ((t, s.0), s.1)) (in_turn stored_record pool t.records)
@@ -289,13 +305,13 @@ pub record Pair : Type 0 where
   pub new_page : ℕ
   pub new : Kept
 
-abbrev pub is_odd_table : Database → List ℕ → Bool
-is_odd_table d name = not (is_name_to_list name) || option_map_or
-    (λ t. is_broken d t.columns (rows_of t)) (table_at name d) false
+abbrev pub is_odd_table : Kept → List ℕ → Bool
+is_odd_table k name = not (is_name_to_list name) || (has_table name k.database
+    && is_broken k.database (columns_in_table k name) (system_rows k.database name))
 
 -- a package of which no transform is made
 abbrev pub is_unfit : Kept → Bool
-is_unfit k = list_any (is_odd_table k.database) (told_names k)
+is_unfit k = list_any (is_odd_table k) (told_names k)
 
 abbrev pub loses_page : Pair → Bool
 loses_page p = (p.new_page == 0) && not (p.old_page == 0)
@@ -325,18 +341,22 @@ abbrev pub has_odd_columns : List ColumnDef → Bool
 has_odd_columns columns = nat_lt 32 (length columns) || list_any (λ c. length c.name == 0) columns
     || has_pair bytes_eq (map (λ c. c.name) columns)
 
--- a stream that is told has a name that no stream may have
-abbrev pub has_odd_stream : ToldTable → Bool
-has_odd_stream t = list_any (λ (r : ToldRecord). is_some r.stream && is_none (row_stream t.name r.key)) t.records
-
 abbrev pub table_reasons : Pair → List ℕ → Refusals
-table_reasons p name = (is_some (table_at name p.old.database) && not (keeps_columns p.old p.new name), InvalidInput)
-    ∷ (gains_columns p.old p.new name && has_odd_columns (columns_in_table p.new name), InvalidInput)
-    ∷ (has_odd_stream (told_table p.old p.new name), InvalidInput) ∷ []
+table_reasons p name = (has_table name p.old.database && not (keeps_columns p.old p.new name), InvalidInput)
+    ∷ (gains_columns p.old p.new name && has_odd_columns (columns_in_table p.new name), InvalidInput) ∷ []
 
 abbrev pub reasons : Pair → Refusals
 reasons p = (is_unfit p.old, InvalidInput) ∷ (is_unfit p.new, InvalidInput) ∷ (loses_page p, InvalidInput)
     ∷ (lacks_text p.new, InvalidInput) ∷ flat_map (table_reasons p) (told_names p.new)
+
+-- one database beside another, each with the id of its pool's page
+pub record Side : Type 0 where
+  pub page_id : ℕ
+  pub kept : Kept
+
+abbrev pub pair_of : Side → Side → Pair
+pair_of old new =
+    record { old_page = old.page_id; old = old.kept; new_page = new.page_id; new = new.kept }
 
 abbrev pub made : Pair → Result TransformDef ErrorKind
 made p = let tables = told_tables p.old p.new in unless_refused (reasons p) tables >>=
