@@ -180,7 +180,7 @@ or_first_told columns before added rows told =
     if length told == 0 && nat_lt 0 added then first_told columns before rows else told
 
 abbrev pub columns_before : Database → List ℕ → ℕ
-columns_before d name = option_map_or (λ t. length t.columns) (table_at name d) 0
+columns_before d name = length (unwrap_or (option_map (λ t. t.columns) (table_at name d)) [])
 
 -- the records of a table that new has: old has it with so many of its columns, or not at all
 abbrev pub records_beside : Kept → Kept → List ℕ → ℕ → List ToldRecord

@@ -2,8 +2,11 @@
 #![tactic(auto)]
 
 pub mod base;
+mod differences;
 mod differing;
 mod reading;
+mod record;
+mod schema_records;
 mod seen;
 mod telling;
 mod told;
