@@ -242,8 +242,11 @@ told_table old new name = record {
   records = records_of_table old new name;
 }
 
+abbrev pub is_told : ToldTable → Bool
+is_told t = nat_lt 0 (length t.records)
+
 abbrev pub told_tables : Kept → Kept → List ToldTable
-told_tables old new = filter (λ (t : ToldTable). nat_lt 0 (length t.records))
+told_tables old new = filter is_told
     (record { name = tables_name; columns = tables_columns; records = records_of_tables old.database new.database }
     ∷ record {
       name = columns_name;

@@ -4,11 +4,17 @@
 pub mod base;
 mod differences;
 mod differing;
+mod fitness;
+mod making;
 mod reading;
+mod reasons;
 mod record;
 mod schema_records;
 mod seen;
+mod storing;
+mod tables;
 mod telling;
 mod told;
 
 pub use base::Base;
+pub use making::make;

@@ -14,7 +14,7 @@ ghost use Rattle.msi_transform_making.specs.Telling.{action_of};
 ghost use Rattle.msi_table_values.specs.declared.value.Value.{Value as ValueOf};
 
 use crate::differing::mask_for;
-use crate::seen::{SeenValues, copied, copied_key};
+use crate::seen::{SeenValues, copied, key_with};
 use crate::telling::Telling;
 use crate::told::ToldRow;
 use msi_base::errors::Error;
@@ -120,7 +120,7 @@ pub(crate) fn removal<'a>(alloc: Global, key: &Key<'a>) -> Result<ToldRecord<'a>
     ensures kind { OnlyMemory result }
 {
     let values = copied(alloc, key.values())?;
-    let key = copied_key(alloc, key)?;
+    let key = key_with(alloc, key.values())?;
     Ok(ToldRecord::new(Telling::Remove, values, key, None))
 }
 
@@ -137,7 +137,7 @@ pub(crate) fn addition<'a>(
     ensures kind { OnlyMemory result }
 {
     let values = row.values().copy(alloc)?;
-    let key = copied_key(alloc, key)?;
+    let key = key_with(alloc, key.values())?;
     Ok(ToldRecord::new(Telling::Add, values, key, row.stream()))
 }
 
@@ -209,5 +209,6 @@ pub(crate) fn changing<'a>(
         None
     };
     let telling = Telling::Change(mask_for(marked));
-    Ok(ToldRecord::new(telling, values, copied_key(alloc, key)?, stream))
+    let key = key_with(alloc, key.values())?;
+    Ok(ToldRecord::new(telling, values, key, stream))
 }

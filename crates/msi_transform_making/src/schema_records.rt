@@ -19,7 +19,7 @@ ghost use Rattle.msi_transform_making.specs.Telling.{action_of};
 
 use crate::base::Base;
 use crate::record::ToldRecord;
-use crate::seen::SeenValues;
+use crate::seen::{SeenValues, key_with};
 use crate::telling::Telling;
 use crate::told::ToldRows;
 use msi_base::errors::Error;
@@ -86,7 +86,7 @@ pub(crate) fn described_columns<'a>(
     base: &Base<'a>,
     described: &ToldRows<'a>,
     name: &str,
-) -> Result<Vec<SeenValues<'a>>, Error>
+) -> Result<Vec<Key<'a>>, Error>
     requires { entries described.now ≡ rows_told base.now.kept columns_name 0 }
     ensures ok { IfOk result (λ rows. rows.items ≡ rows_of_name base.now.kept name.now) }
     ensures kind { OnlyMemory result }
@@ -94,7 +94,7 @@ pub(crate) fn described_columns<'a>(
     let mut rows = Vec::new(base.alloc);
     for (_, row) in described.iter() {
         if is_name(row.values().at(0), name) {
-            rows.push(row.values().copy(base.alloc)?)?;
+            rows.push(key_with(base.alloc, row.values().as_slice())?)?;
         }
     }
     Ok(rows)
@@ -132,21 +132,21 @@ fn first_two<'a, 'b>(row: &'b [ValueView<'a>]) -> &'b [ValueView<'a>]
 fn describing_record<'a>(
     alloc: Global,
     is_kept: bool,
-    row: &SeenValues<'a>,
+    row: &Key<'a>,
 ) -> Result<ToldRecord<'a>, Error>
     ensures ok { IfOk result (λ told. told ≡ record_describing is_kept row.now) }
     ensures kind { OnlyMemory result }
 {
-    let values = with_number_if(alloc, is_kept, row.as_slice())?;
-    let key = Vec::from_slice(alloc, first_two(row.as_slice()))?;
-    Ok(ToldRecord::new(Telling::Add, values, Key::of_values(key), None))
+    let values = with_number_if(alloc, is_kept, row.values())?;
+    let key = key_with(alloc, first_two(row.values()))?;
+    Ok(ToldRecord::new(Telling::Add, values, key, None))
 }
 
 fn push_describing<'a>(
     alloc: Global,
     records: &mut Vec<ToldRecord<'a>>,
     is_kept: bool,
-    rows: &[SeenValues<'a>],
+    rows: &[Key<'a>],
 ) -> Result<(), Error>
     ensures ok { OnOk result (records.new.items
         ≡ records.old.items ++ map (record_describing is_kept) rows.now) }

@@ -82,12 +82,12 @@ pub(crate) fn copied<'a>(
     Ok(SeenValues::from_vec(Vec::from_slice(alloc, values)?))
 }
 
-/// Returns the same key once more.
-pub(crate) fn copied_key<'a>(alloc: Global, key: &Key<'a>) -> Result<Key<'a>, Error>
-    ensures ok { IfOk result (λ copy. copy ≡ key.now) }
+/// Returns the key of these values.
+pub(crate) fn key_with<'a>(alloc: Global, values: &[ValueView<'a>]) -> Result<Key<'a>, Error>
+    ensures ok { IfOk result (λ key. key ≡ seen_row values.now) }
     ensures kind { OnlyMemory result }
 {
-    Ok(Key::of_values(Vec::from_slice(alloc, key.values())?))
+    Ok(Key::of_values(Vec::from_slice(alloc, values)?))
 }
 
 /// Returns the values, each with its own text.
