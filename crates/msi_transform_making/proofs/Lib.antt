@@ -1,1 +1,6 @@
+pub mod BaseLemmas
+pub mod FitnessLemmas
 pub mod MakingRows
+pub mod SchemaLemmas
+pub mod SideLemmas
+pub mod ToldRowsLemmas

@@ -98,11 +98,7 @@ impl<'a> Base<'a> {
         ensures ok { IfOk result (λ names. names_in names.items ≡ map (λ t. t.0) self.now.kept.database.tables) }
         ensures kind { OnlyMemory result }
     {
-        let mut names = Vec::with_capacity(self.alloc, self.tables.len())?;
-        for table in self.tables {
-            names.push(table.name())?;
-        }
-        Ok(names)
+        names_of_tables(self.alloc, self.tables)
     }
 
     /// Returns the names of the tables, but for `_Tables` and `_Columns`.
@@ -154,6 +150,17 @@ impl<'a> Base<'a> {
             None => Ok(Vec::new(self.alloc)),
         }
     }
+}
+
+fn names_of_tables<'a>(alloc: Global, tables: &'a [Table]) -> Result<Vec<&'a str>, Error>
+    ensures ok { IfOk result (λ names. names_in names.items ≡ map (λ t. t.name) tables.now) }
+    ensures kind { OnlyMemory result }
+{
+    let mut names = Vec::with_capacity(alloc, tables.len())?;
+    for table in tables {
+        names.push(table.name())?;
+    }
+    Ok(names)
 }
 
 fn names_of_rows<'a>(alloc: Global, all: &[&'a str]) -> Result<Vec<&'a str>, Error>

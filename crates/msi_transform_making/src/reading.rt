@@ -91,7 +91,7 @@ fn push_nulls(values: &mut Vec<ValueView>, count: usize) -> Result<(), Error>
     ensures ok { OnOk result (seen_row values.new.items ≡ seen_row values.old.items ++ replicate count Null) }
     ensures kind { OnlyMemory result }
 {
-    for _ in 0..count {
+    for i in 0..count {
         values.push(ValueView::Null)?;
     }
     Ok(())
