@@ -1,7 +1,7 @@
 -- Making a transform of two packages: what it says of each table, in which order, or why there is none.
 use Rattle.std.specs.Prelude.{ℕ, ◌+◌, ◌-◌, ◌^◌, Bool, true, false, not, List, [], ◌∷◌, ◌++◌, map, filter, zip, length}
 use Rattle.std.specs.Prelude.{Option, Some, None, option_map, option_and_then, unwrap_or, if◌then◌else◌, nat_lt}
-use Rattle.std.specs.Prelude.{◌==◌, ◌&&◌, ◌||◌, is_some, is_none, bytes_eq, drop, take, sum, filter_map, replicate}
+use Rattle.std.specs.Prelude.{◌==◌, ◌&&◌, ◌||◌, is_some, is_none, bytes_eq, drop, take, filter_map, replicate}
 use Rattle.std.specs.Prelude.{Result, Ok}
 use Rattle.std.specs.FinMap.{find, put}
 use Rattle.std.specs.List.{flat_map, fold, list_all, list_any, enumerate_from}
@@ -109,7 +109,8 @@ abbrev pub can_be_marked : List ℕ → Bool
 can_be_marked columns = list_all has_bit_for columns
 
 abbrev pub mask_for : List ℕ → ℕ
-mask_for columns = sum (map (λ i. 2 ^ i) columns)
+mask_for [] = 0
+mask_for (column ∷ columns) = 2 ^ column + mask_for columns
 
 -- RECORDS
 

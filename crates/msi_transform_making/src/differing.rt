@@ -97,15 +97,23 @@ pub(crate) fn can_be_marked(columns: &[usize]) -> bool
     columns.iter().all(|column| has_bit_for(*column))
 }
 
+fn bit_of(column: usize) -> u16
+    requires { column < 16 }
+    ensures { result ≡ 2 ^ column }
+{
+    1 << column
+}
+
 /// Returns the mask of a change of these columns.
+#[tactic(auto, using(crate::proofs::MaskLemmas::bits_first))]
 pub(crate) fn mask_for(columns: &[usize]) -> u16
     requires bits { all_have_bits columns.now ≡ true }
-    requires small { mask_of_columns columns.now < 2 ^ 16 }
+    requires small { mask_of_columns columns.now < 65536 }
     ensures { result ≡ mask_of_columns columns.now }
 {
     let mut mask = 0;
     for column in columns {
-        mask += 1 << *column;
+        mask += bit_of(*column);
     }
     mask
 }

@@ -1,6 +1,6 @@
 //! Records that are made, by their values.
 
-ghost use Rattle.std.specs.Prelude.{◌≡◌, ◌&&◌, ◌<◌, ◌^◌, IfOk, length, map, not, option_copied, true};
+ghost use Rattle.std.specs.Prelude.{◌≡◌, ◌&&◌, ◌<◌, IfOk, length, map, not, option_copied, true};
 ghost use Rattle.msi_base.specs.Results.{OnlyMemory};
 ghost use Rattle.msi_database_changes.specs.Views.{seen_row};
 ghost use Rattle.msi_table_values.specs.Values.{is_null as is_null_value};
@@ -197,7 +197,7 @@ pub(crate) fn changing<'a>(
     row: &ToldRow<'a>,
 ) -> Result<ToldRecord<'a>, Error>
     requires bits { all_have_bits marked.now ≡ true }
-    requires small { mask_of_columns marked.now < 2 ^ 16 }
+    requires small { mask_of_columns marked.now < 65536 }
     ensures ok { IfOk result (λ told. told ≡ changing_of columns.now marked.now (key.now, row.now)) }
     ensures kind { OnlyMemory result }
 {
