@@ -1,10 +1,10 @@
 -- Why no transform is made, as loops find it.
 use Rattle.std.proofs.Common.{◌≡◌, ℕ, ◌+◌, ◌-◌, ◌<◌, ◌≤◌, Bool, true, false, List, [], ◌∷◌, ◌++◌, drop, get_or, length, map, not, refl, sym, ap, arith, ◌∙◌}
-use Rattle.std.specs.Prelude.{◌&&◌, ◌||◌, Option, Some, None, Result, Ok, Err, nat_lt, slice_get, option_map_or, bytes_eq}
-use Rattle.std.specs.List.{flat_map, list_any}
+use Rattle.std.specs.Prelude.{◌&&◌, ◌||◌, Option, Some, None, Result, Ok, Err, nat_lt, slice_get}
+use Rattle.std.specs.List.{list_any}
+use Rattle.std.specs.Option.{option_map_or}
 use Rattle.std.proofs.lemmas.List.{drop_all, drop_more}
 use Rattle.std.proofs.lemmas.Option.{slice_get-get_or}
-use Rattle.msi_base.specs.Lists.{has_pair}
 use Rattle.msi_base.specs.Refusals.{IsRefusal, Refusals, earlier, first_refusal, unless, unless_refused}
 use Rattle.msi_base.specs.declared.codepage.CodePage.{CodePage}
 use Rattle.msi_base.specs.declared.errors.ErrorKind.{ErrorKind}
@@ -12,28 +12,28 @@ use Rattle.msi_base.proofs.BoolLemmas.{by_test}
 use Rattle.msi_pool.specs.Pool.{Place}
 use Rattle.msi_pool.specs.FirstFit.{count_of}
 use Rattle.msi_pool.specs.FirstFitLaws.{count_at, text_at}
-use Rattle.msi_table_values.specs.Columns.{ColumnDef}
-use Rattle.msi_transform_applying.specs.Applying.{reads_back}
+use Rattle.msi_transform_making.specs.Making.{is_lacking}
 
 -- A TEXT THAT THE PAGE LACKS
 
 abbrev pub is_lacked : CodePage → List Place → Bool
-is_lacked page places = list_any (λ (place : Place). nat_lt 0 place.count && not (reads_back page place.text)) places
+is_lacked page places = list_any (is_lacking page) places
 
 abbrev nowhere : Place
 nowhere = record { text = []; count = 0 }
 
-pub lacked_more : (page : CodePage) (places : List Place) (at count : ℕ) (text : List ℕ) → at < length places → count ≡ count_at places (at + 1) → text ≡ text_at places (at + 1)
-    → is_lacked page (drop at places) ≡ ((nat_lt 0 count && not (reads_back page text)) || is_lacked page (drop (at + 1) places))
-lacked_more page places at count text h c t =
+pub lacked_more : (page : CodePage) (places : List Place) (at count : ℕ) (text : List ℕ) (b : Bool) → at < length places → count ≡ count_at places (at + 1) → text ≡ text_at places (at + 1)
+    → b ≡ is_lacking page (record { text = text; count = count }) → is_lacked page (drop at places) ≡ (b || is_lacked page (drop (at + 1) places))
+lacked_more page places at count text b h c t is =
     let p = get_or places at nowhere in
     let same : at + 1 - 1 ≡ at = omega arith in
     let there : slice_get places at ≡ Some p = slice_get-get_or places at nowhere h in
     let count_is : count ≡ p.count = c ∙ ap (λ (n : ℕ). count_of (slice_get places n)) same ∙ ap count_of there in
     let text_is : text ≡ p.text = t ∙ ap (λ (n : ℕ). option_map_or (λ (p : Place). p.text) (slice_get places n) []) same ∙ ap (λ (o : Option Place). option_map_or (λ (p : Place). p.text) o []) there in
     ap (is_lacked page) (drop_more places at nowhere h)
-    ∙ ap (λ (n : ℕ). (nat_lt 0 n && not (reads_back page p.text)) || is_lacked page (drop (at + 1) places)) (sym count_is)
-    ∙ ap (λ (bs : List ℕ). (nat_lt 0 count && not (reads_back page bs)) || is_lacked page (drop (at + 1) places)) (sym text_is)
+    ∙ ap (λ (n : ℕ). is_lacking page (record { text = p.text; count = n }) || is_lacked page (drop (at + 1) places)) (sym count_is)
+    ∙ ap (λ (bs : List ℕ). is_lacking page (record { text = bs; count = count }) || is_lacked page (drop (at + 1) places)) (sym text_is)
+    ∙ ap (λ (x : Bool). x || is_lacked page (drop (at + 1) places)) (sym is)
 
 -- REASONS IN ORDER
 

@@ -1,10 +1,10 @@
 -- Masks of columns: those that have bits give a number of 16 bits.
-use Rattle.std.proofs.Common.{◌≡◌, ℕ, ◌+◌, ◌*◌, ◌^◌, ◌<◌, ◌≤◌, ⊤, Bool, true, false, List, [], ◌∷◌, map, refl, arith, subst, sym}
-use Rattle.std.specs.Prelude.{◌&&◌, filter, nat_lt}
+use Rattle.std.proofs.Common.{◌≡◌, ℕ, ◌+◌, ◌*◌, ◌^◌, ◌<◌, ◌≤◌, Bool, true, false, List, [], ◌∷◌, map, refl, arith, subst, sym}
+use Rattle.std.specs.Prelude.{◌&&◌, ⊤, filter, nat_lt}
 use Rattle.std.specs.List.{enumerate_from, list_all}
 use Rattle.std.proofs.Math.Nat.{pow-le-pow_right}
 use Rattle.std.proofs.lemmas.Bool.{and_parts, ltb-true}
-use Rattle.std.proofs.lemmas.Nat.{pow-add, pow_below}
+use Rattle.std.proofs.lemmas.Nat.{pow-add}
 use Rattle.msi_base.proofs.BoolLemmas.{by_test}
 use Rattle.msi_table_values.specs.declared.value.Value.{Value}
 use Rattle.msi_transform_making.specs.Making.{ToldRow, can_be_marked, differing, has_bit_for, mask_for}
@@ -21,13 +21,13 @@ Above n [] = ⊤
 Above n (i ∷ is) = (n ≤ i) × Above (i + 1) is
 
 mask_fits : (n : ℕ) (is : List ℕ) → n ≤ 16 → Above n is → can_be_marked is ≡ true → mask_for is + 2 ^ n ≤ 65536
-mask_fits n [] h a b = pow-le-pow_right {2} {n} {16} (omega arith) h
+mask_fits n [] h a b = pow-le-pow_right {n = 2} (omega arith) {i = n} {j = 16} h
 mask_fits n (i ∷ is) h a b =
     let p = bits_first i is b in
     let below : i < 16 = p.0 in
     let from : n ≤ i = a.0 in
     let rest : mask_for is + 2 ^ (i + 1) ≤ 65536 = mask_fits (i + 1) is (omega arith) a.1 p.1 in
-    let here : 2 ^ n ≤ 2 ^ i = pow-le-pow_right {2} {n} {i} (omega arith) from in
+    let here : 2 ^ n ≤ 2 ^ i = pow-le-pow_right {n = 2} (omega arith) {i = n} {j = i} from in
     let twice : 2 ^ (i + 1) ≡ 2 ^ i * 2 = pow-add 2 i 1 in
     let first : mask_for (i ∷ is) ≡ 2 ^ i + mask_for is = refl in
     omega arith

@@ -76,12 +76,12 @@ abbrev marked_of : List ℕ → ℕ → List (ColumnDef × Value) → List (Colu
 marked_of marked i pairs = map (λ e. e.1) (filter (is_marked_in marked) (enumerate_from i pairs))
 
 pub marked_yes : (columns : List ColumnDef) (marked : List ℕ) (values : List ValueView) (i : ℕ) (c : ColumnDef) → i < length columns → i < length values → c ≡ get_or columns i c
-    → is_marked_in marked (i, c, seen_value (view_at values i)) ≡ true
+    → is_marked_in marked (i, (c, seen_value (view_at values i))) ≡ true
     → marked_from columns marked values i ≡ (c, seen_value (view_at values i)) ∷ marked_from columns marked values (i + 1)
 marked_yes columns marked values i c h l at t = ap (marked_of marked i) (beside_more columns values i c h l at) ∙ rw t refl
 
 pub marked_no : (columns : List ColumnDef) (marked : List ℕ) (values : List ValueView) (i : ℕ) (c : ColumnDef) → i < length columns → i < length values → c ≡ get_or columns i c
-    → is_marked_in marked (i, c, seen_value (view_at values i)) ≡ false
+    → is_marked_in marked (i, (c, seen_value (view_at values i))) ≡ false
     → marked_from columns marked values i ≡ marked_from columns marked values (i + 1)
 marked_no columns marked values i c h l at t = ap (marked_of marked i) (beside_more columns values i c h l at) ∙ rw t refl
 

@@ -9,10 +9,11 @@ use Rattle.std.specs.Option.{option_map_or}
 use Rattle.std.specs.Ordering.{eq_by_cmp, is_eq}
 use Rattle.msi_base.specs.Lists.{has_pair, list_cmp}
 use Rattle.msi_base.specs.Refusals.{Refusals, or_refused, unless_refused, ◌>>=◌}
+use Rattle.msi_base.specs.declared.codepage.CodePage.{CodePage}
 use Rattle.msi_base.specs.declared.errors.ErrorKind.{ErrorKind}
 use Rattle.msi_base.specs.declared.errors.ErrorKind.TheVariants.{InvalidInput}
 use Rattle.msi_pool.specs.FirstFit.{is_long_with}
-use Rattle.msi_pool.specs.Pool.{Place}
+use Rattle.msi_pool.specs.Pool.{Place, Pool}
 use Rattle.msi_table_cells.specs.CellValues.{row_values}
 use Rattle.msi_table_cells.specs.KeyOrder.{key_of}
 use Rattle.msi_table_cells.specs.TableCells.{TableCells}
@@ -32,7 +33,7 @@ use Rattle.msi_transform_records.specs.declared.records.Record.{Record}
 use Rattle.msi_transform_records.specs.Records.{record_bytes, record_with}
 use Rattle.msi_transform.specs.Transforms.{TransformDef, shapes_of}
 use Rattle.msi_transform_applying.specs.RowStreams.{has_streams, is_of_streams, row_stream}
-use Rattle.msi_transform_applying.specs.RowChanges.{key_cmp}
+use Rattle.msi_transform_applying.specs.KeyOfRows.{key_cmp}
 use Rattle.msi_transform_applying.specs.SchemaChanges.{is_name_to_list}
 use Rattle.msi_transform_applying.specs.Applying.{is_broken, reads_back, same_stream, system_rows}
 
@@ -320,9 +321,14 @@ is_unfit k = list_any (is_odd_table k) (told_names k)
 abbrev pub loses_page : Pair → Bool
 loses_page p = (p.new_page == 0) && not (p.old_page == 0)
 
+abbrev pub is_lacking : CodePage → Place → Bool
+is_lacking page place = nat_lt 0 place.count && not (reads_back page place.text)
+
+abbrev pub lacks_text_of : Pool → Bool
+lacks_text_of pool = list_any (is_lacking pool.page) pool.places
+
 abbrev pub lacks_text : Kept → Bool
-lacks_text k = list_any (λ (place : Place). nat_lt 0 place.count && not (reads_back k.database.pool.page place.text))
-    k.database.pool.places
+lacks_text k = lacks_text_of k.database.pool
 
 -- both packages describe the columns that both have alike, and what is added is no key
 abbrev pub same_row : List Value → List Value → Bool
@@ -362,10 +368,12 @@ abbrev pub pair_of : Side → Side → Pair
 pair_of old new =
     record { old_page = old.page_id; old = old.kept; new_page = new.page_id; new = new.kept }
 
+abbrev pub transform_of : ℕ → Kept → List ToldTable → Result TransformDef ErrorKind
+transform_of page_id new tables =
+    or_refused InvalidInput (stored_tables tables) >>= λ s. Ok (transform_with page_id new tables s)
+
 abbrev pub made : Pair → Result TransformDef ErrorKind
-made p = let tables = told_tables p.old p.new in unless_refused (reasons p) tables >>=
-    λ tables. or_refused InvalidInput (stored_tables tables) >>=
-    λ s. Ok (transform_with p.new_page p.new tables s)
+made p = unless_refused (reasons p) (told_tables p.old p.new) >>= transform_of p.new_page p.new
 
 -- the faults that have to pass where the transform is applied to the old package
 abbrev pub needs_other_page : Pair → Bool

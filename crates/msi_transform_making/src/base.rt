@@ -170,9 +170,10 @@ fn names_of_rows<'a>(alloc: Global, all: &[&'a str]) -> Result<Vec<&'a str>, Err
 {
     let mut names = Vec::new(alloc);
     for name in all {
-        if !is_schema_table(name) {
-            names.push(*name)?;
+        if is_schema_table(name) {
+            continue;
         }
+        names.push(*name)?;
     }
     Ok(names)
 }
@@ -184,9 +185,10 @@ fn names_missing<'a>(alloc: Global, all: &[&'a str], other: &Base) -> Result<Vec
 {
     let mut names = Vec::new(alloc);
     for name in all {
-        if !other.has_table(name) {
-            names.push(*name)?;
+        if other.has_table(name) {
+            continue;
         }
+        names.push(*name)?;
     }
     Ok(names)
 }

@@ -51,9 +51,11 @@ fn push_removals<'a>(
     ensures kind { OnlyMemory result }
 {
     for (key, row) in old.iter() {
-        if is_replaced(alloc, new, key, row)? {
-            records.push(removal(alloc, key)?)?;
+        let replaced = is_replaced(alloc, new, key, row)?;
+        if !replaced {
+            continue;
         }
+        records.push(removal(alloc, key)?)?;
     }
     Ok(())
 }
@@ -69,9 +71,11 @@ fn push_additions<'a>(
     ensures kind { OnlyMemory result }
 {
     for (key, row) in new.iter() {
-        if is_replaced(alloc, old, key, row)? {
-            records.push(addition(alloc, key, row)?)?;
+        let replaced = is_replaced(alloc, old, key, row)?;
+        if !replaced {
+            continue;
         }
+        records.push(addition(alloc, key, row)?)?;
     }
     Ok(())
 }
@@ -109,9 +113,10 @@ fn push_changes<'a>(
     ensures kind { OnlyMemory result }
 {
     for (key, row) in new.iter() {
-        if let Some(told) = change_of_row(alloc, columns, old, key, row)? {
-            records.push(told)?;
-        }
+        let Some(told) = change_of_row(alloc, columns, old, key, row)? else {
+            continue;
+        };
+        records.push(told)?;
     }
     Ok(())
 }
@@ -191,15 +196,27 @@ fn records_beside<'a>(
     Ok(records)
 }
 
+fn push_all_added<'a>(
+    alloc: Global,
+    records: &mut Vec<ToldRecord<'a>>,
+    rows: &ToldRows<'a>,
+) -> Result<(), Error>
+    ensures ok { OnOk result (records.new.items ≡ records.old.items ++ map addition_of (entries rows.now)) }
+    ensures kind { OnlyMemory result }
+{
+    for (key, row) in rows.iter() {
+        records.push(addition(alloc, key, row)?)?;
+    }
+    Ok(())
+}
+
 fn all_added<'a>(base: &Base<'a>, table: &str) -> Result<Vec<ToldRecord<'a>>, Error>
     ensures ok { IfOk result (λ records. records.items ≡ map addition_of (rows_told base.now.kept table.now 0)) }
     ensures kind { OnlyMemory result }
 {
     let rows = told_rows(base, table, 0)?;
     let mut records = Vec::new(base.alloc);
-    for (key, row) in rows.iter() {
-        records.push(addition(base.alloc, key, row)?)?;
-    }
+    push_all_added(base.alloc, &mut records, &rows)?;
     Ok(records)
 }
 

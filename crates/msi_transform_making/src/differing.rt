@@ -17,7 +17,7 @@ use std::alloc::Global;
 use std::cmp::Ordering;
 
 fn same_stream(stream: Option<&Bytes>, other: Option<&Bytes>) -> bool
-    ensures { result ≡ is_same_stream (option_copied stream) (option_copied other) }
+    ensures { result ≡ is_same_stream (option_copied stream.entry) (option_copied other.entry) }
 {
     match stream {
         None => other.is_none(),
@@ -55,9 +55,10 @@ fn differing_values(
 {
     let mut columns = Vec::new(alloc);
     for i in 0..old.len().min(new.len()) {
-        if !same_value(same, old[i], new[i]) {
-            columns.push(i)?;
+        if same_value(same, old[i], new[i]) {
+            continue;
         }
+        columns.push(i)?;
     }
     Ok(columns)
 }
@@ -97,6 +98,7 @@ pub(crate) fn can_be_marked(columns: &[usize]) -> bool
     columns.iter().all(|column| has_bit_for(*column))
 }
 
+#[tactic(auto, using(std::proofs::lemmas::Nat::one_shl))]
 fn bit_of(column: usize) -> u16
     requires { column < 16 }
     ensures { result ≡ 2 ^ column }

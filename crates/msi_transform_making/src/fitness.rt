@@ -19,6 +19,7 @@ ghost use Rattle.msi_transform_making.specs.Making.{begin_alike as rows_begin_al
 ghost use Rattle.msi_transform_making.specs.Making.{gains_columns as are_columns_gained, has_odd_columns as are_columns_odd};
 ghost use Rattle.msi_transform_making.specs.Making.{is_odd_table as is_table_odd, is_unfit as is_kept_unfit};
 ghost use Rattle.msi_transform_making.specs.Making.{keeps_columns as are_columns_kept, lacks_text as is_text_lacking};
+ghost use Rattle.msi_transform_making.specs.Making.{is_lacking as is_place_lacking, lacks_text_of as is_text_of_pool_lacking};
 ghost use Rattle.msi_transform_making.specs.Making.{loses_page as is_page_lost, pair_of, reasons as all_reasons};
 ghost use Rattle.msi_transform_making.specs.Making.{table_reasons, told_rows as rows_told};
 ghost use Rattle.msi_transform_making.specs.Names.{names_in};
@@ -146,21 +147,33 @@ fn loses_page(old: &Base, new: &Base) -> bool
 fn reads_back(page: CodePage, text: &str) -> bool
     ensures { result ≡ reads_back_in page text.now }
 {
-    page == CodePage::Utf8 || page.reads_back(text)
+    page.reads_back(text)
 }
 
-/// Returns whether a page lacks a text in use of its pool.
-fn lacks_text(base: &Base) -> bool
-    ensures { result ≡ is_text_lacking base.now.kept }
+fn is_lacking(page: CodePage, count: u16, text: &str) -> bool
+    ensures { result ≡ is_place_lacking page (record { text = text.now; count = count }) }
 {
-    let pool = base.pool();
+    count > 0 && !reads_back(page, text)
+}
+
+/// Returns whether the page of a pool lacks a text in use.
+fn lacks_text_of(pool: &StringPool) -> bool
+    ensures { result ≡ is_text_of_pool_lacking pool.now }
+{
     for at in 0..pool.num_strings() {
         let reference = string_ref(at + 1);
-        if pool.refcount(reference) > 0 && !reads_back(pool.codepage(), pool.get(reference)) {
+        let lacking = is_lacking(pool.codepage(), pool.refcount(reference), pool.get(reference));
+        if lacking {
             return true;
         }
     }
     false
+}
+
+fn lacks_text(base: &Base) -> bool
+    ensures { result ≡ is_text_lacking base.now.kept }
+{
+    lacks_text_of(base.pool())
 }
 
 /// Returns whether rows are those with which others begin.

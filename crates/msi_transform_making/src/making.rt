@@ -1,9 +1,8 @@
 //! Making a transform of two databases.
 
 ghost use Rattle.std.specs.Prelude.{◌≡◌, IfErr, IfOk, Ok};
-ghost use Rattle.msi_base.specs.Refusals.{◌>>=◌, IsRefusal, or_refused};
-ghost use Rattle.msi_base.specs.declared.errors.ErrorKind.TheVariants.{InvalidInput};
-ghost use Rattle.msi_transform_making.specs.Making.{made, pair_of, stored_tables as tables_stored, transform_with};
+ghost use Rattle.msi_base.specs.Refusals.{IsRefusal};
+ghost use Rattle.msi_transform_making.specs.Making.{made, pair_of, transform_of as transform_told};
 
 use crate::base::Base;
 use crate::fitness::{Described, check_pair};
@@ -18,9 +17,8 @@ use msi_transform::Transform;
 
 /// Returns the transform that tells of these tables.
 fn transform_of(new: &Base, tables: &[ToldTable]) -> Result<Transform, Error>
-    ensures ok { IfOk result (λ made. (or_refused InvalidInput (tables_stored tables.now)
-        >>= λ s. Ok (transform_with new.now.page_id new.now.kept tables.now s)) ≡ Ok made) }
-    ensures kind { IfErr result (IsRefusal (or_refused InvalidInput (tables_stored tables.now))) }
+    ensures ok { IfOk result (λ made. transform_told new.now.page_id new.now.kept tables.now ≡ Ok made) }
+    ensures kind { IfErr result (IsRefusal (transform_told new.now.page_id new.now.kept tables.now)) }
 {
     let page = new.pool().codepage();
     let mut pool = PoolInUse::new(StringPool::new(new.alloc, page));
@@ -40,7 +38,7 @@ fn transform_of(new: &Base, tables: &[ToldTable]) -> Result<Transform, Error>
 /// table loses or changes a column, gets one of the key, or gets columns and has more than 32 then, or two of one name,
 /// or one without a name; a row of more than 255 columns would have to be added; or the texts are too many. Otherwise
 /// it fails with `OutOfMemory`, which may come in place of the others.
-pub fn make(old: &Base, new: &Base) -> Result<Transform, Error>
+pub fn make<'a>(old: &Base<'a>, new: &Base<'a>) -> Result<Transform, Error>
     ensures ok { IfOk result (λ transform. made (pair_of old.now new.now) ≡ Ok transform) }
     ensures kind { IfErr result (IsRefusal (made (pair_of old.now new.now))) }
 {

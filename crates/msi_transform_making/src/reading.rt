@@ -1,12 +1,14 @@
 //! The rows of a database's tables, as a transform tells them.
 
-ghost use Rattle.std.specs.Prelude.{◌≡◌, ◌++◌, IfOk, OnOk, is_some, map, option_copied, replicate};
-ghost use Rattle.std.specs.FinMap.{entries};
+ghost use Rattle.std.specs.Prelude.{◌≡◌, ◌++◌, IfOk, OnOk, is_some, map, option_and_then, option_copied, replicate};
+ghost use Rattle.std.specs.FinMap.{entries, put};
 ghost use Rattle.msi_base.specs.Results.{OnlyMemory};
 ghost use Rattle.msi_database_changes.specs.Views.{seen_row};
+ghost use Rattle.msi_database_storage.specs.Streams.{stream_at};
 ghost use Rattle.msi_table_cells.specs.CellValues.{row_values};
 ghost use Rattle.msi_table_values.specs.Views.{seen_value};
 ghost use Rattle.msi_table_values.specs.declared.value.Value.TheVariants.{Null};
+ghost use Rattle.msi_transform_applying.specs.KeyOfRows.{key_cmp};
 ghost use Rattle.msi_transform_making.specs.Making.{by_keys, stream_of_row as row_stream_in, told_row as row_told};
 ghost use Rattle.msi_transform_making.specs.Making.{told_rows as rows_told, told_row_with, told_stream as stream_told};
 ghost use Rattle.msi_transform_making.specs.Making.{told_value as value_told, told_values as values_told};
@@ -16,7 +18,8 @@ use crate::seen::SeenValues;
 use crate::told::{ToldRow, ToldRows};
 use msi_base::errors::Error;
 use msi_base::text::Items;
-use msi_container_format::contents::Bytes;
+use msi_container_format::contents::{Bytes, StreamMap};
+use msi_container_format::name::Name;
 use msi_database_changes::keys::Key;
 use msi_database_changes::views::views_of_cells;
 use msi_table_cells::cell::ValueRef;
@@ -24,6 +27,15 @@ use msi_table_values::column::Column;
 use msi_table_values::parts::ValueView;
 use msi_transform_applying::row_streams::{has_streams, is_of_streams, row_stream};
 use std::alloc::Global;
+
+fn stream_named<'a>(streams: &'a StreamMap, name: &Option<Name>) -> Option<&'a Bytes>
+    ensures { option_copied result ≡ option_and_then (λ name. stream_at name (entries streams.now)) name.now }
+{
+    match name {
+        Some(name) => streams.get(name),
+        None => None,
+    }
+}
 
 /// Returns the stream of a row, if there is one under its name.
 fn stream_of_row<'a>(
@@ -35,10 +47,7 @@ fn stream_of_row<'a>(
     ensures kind { OnlyMemory result }
 {
     let name = row_stream(base.alloc, table, key)?;
-    Ok(match &name {
-        Some(name) => base.streams().get(name),
-        None => None,
-    })
+    Ok(stream_named(base.streams(), &name))
 }
 
 /// Returns the stream of a row, if its table has columns of streams and there is one.
@@ -105,7 +114,7 @@ fn told_row_of<'a>(
     values: &[ValueView<'a>],
 ) -> Result<ToldRow<'a>, Error>
     ensures ok { IfOk result (λ row.
-        row ≡ told_row_with (option_copied stream) columns.now added (seen_row values.now)) }
+        row ≡ told_row_with (option_copied stream.entry) columns.now added (seen_row values.now)) }
     ensures kind { OnlyMemory result }
 {
     let mut told = told_values(alloc, stream.is_some(), columns, values)?;
@@ -131,6 +140,23 @@ fn told_row<'a>(
     Ok((key, row))
 }
 
+fn put_row<'a>(
+    base: &Base<'a>,
+    table: &str,
+    columns: &[Column],
+    added: usize,
+    rows: &mut ToldRows<'a>,
+    cells: &Items<ValueRef>,
+) -> Result<(), Error>
+    ensures ok { let values = row_values base.now.kept.database.pool.places cells.now in
+        let row = row_told base.now.kept table.now columns.now added values in
+        OnOk result (entries rows.new ≡ put key_cmp row.0 row.1 (entries rows.old)) }
+    ensures kind { OnlyMemory result }
+{
+    let (key, row) = told_row(base, table, columns, added, cells.as_slice())?;
+    rows.insert(key, row)
+}
+
 /// Returns rows of cells by their keys: of two with one key the first.
 fn rows_by_keys<'a>(
     base: &Base<'a>,
@@ -145,9 +171,14 @@ fn rows_by_keys<'a>(
 {
     let mut rows = ToldRows::new(base.alloc);
     for i in 0..cells.len() {
-        let cells = cells[cells.len() - 1 - i].as_slice();
-        let (key, row) = told_row(base, table, columns, added, cells)?;
-        rows.insert(key, row)?;
+        put_row(
+            base,
+            table,
+            columns,
+            added,
+            &mut rows,
+            &cells[cells.len() - 1 - i],
+        )?;
     }
     Ok(rows)
 }

@@ -61,10 +61,10 @@ impl<'a> ToldRecord<'a> {
         stream: Option<&'a Bytes>,
     ) -> ToldRecord<'a>
         ensures { result ≡ record {
-          action = action_of telling (length values);
-          values = values;
+          action = action_of telling (length values.entry);
+          values = values.entry;
           key = key.entry;
-          stream = option_copied stream;
+          stream = option_copied stream.entry;
         } }
     {
         ToldRecord {
@@ -142,7 +142,7 @@ pub(crate) fn addition<'a>(
 }
 
 fn is_marked(marked: &[usize], column: &Column, index: usize) -> bool
-    ensures { (value : ValueOf) → result ≡ is_marked_in marked.now (index, column.now, value) }
+    ensures { (value : ValueOf) → result ≡ is_marked_in marked.now (index, (column.now, value)) }
 {
     column.is_primary_key() || marked.iter().any(|other| *other == index)
 }
@@ -160,9 +160,10 @@ fn marked_values<'a>(
 {
     let mut told = Vec::new(alloc);
     for i in 0..columns.len().min(values.len()) {
-        if is_marked(marked, &columns[i], i) {
-            told.push(values[i])?;
+        if !is_marked(marked, &columns[i], i) {
+            continue;
         }
+        told.push(values[i])?;
     }
     Ok(SeenValues::from_vec(told))
 }

@@ -19,7 +19,7 @@ ghost use Rattle.msi_transform_making.specs.Telling.{action_of};
 
 use crate::base::Base;
 use crate::record::ToldRecord;
-use crate::seen::{SeenValues, key_with};
+use crate::seen::{SeenValues, copied, key_with};
 use crate::telling::Telling;
 use crate::told::ToldRows;
 use msi_base::errors::Error;
@@ -93,9 +93,10 @@ pub(crate) fn described_columns<'a>(
 {
     let mut rows = Vec::new(base.alloc);
     for (_, row) in described.iter() {
-        if is_name(row.values().at(0), name) {
-            rows.push(key_with(base.alloc, row.values().as_slice())?)?;
+        if !is_name(row.values().at(0), name) {
+            continue;
         }
+        rows.push(key_with(base.alloc, row.values().as_slice())?)?;
     }
     Ok(rows)
 }
@@ -115,10 +116,14 @@ fn with_number_if<'a>(
     ensures ok { IfOk result (λ told. told ≡ number_kept is_kept (seen_row row.now)) }
     ensures kind { OnlyMemory result }
 {
-    let mut told = Vec::from_slice(alloc, row)?;
-    if !is_kept && told.len() >= 2 {
-        told[1] = ValueView::Null;
+    if is_kept {
+        return copied(alloc, row);
     }
+    if row.len() < 2 {
+        return copied(alloc, row);
+    }
+    let mut told = Vec::from_slice(alloc, row)?;
+    told[1] = ValueView::Null;
     Ok(SeenValues::from_vec(told))
 }
 

@@ -111,9 +111,10 @@ fn push_if_told<'a>(tables: &mut Vec<ToldTable<'a>>, table: ToldTable<'a>) -> Re
     ensures ok { OnOk result (tables.new.items ≡ tables.old.items ++ filter is_told (table.entry ∷ [])) }
     ensures kind { OnlyMemory result }
 {
-    if !table.records().is_empty() {
-        tables.push(table)?;
+    if table.records().is_empty() {
+        return Ok(());
     }
+    tables.push(table)?;
     Ok(())
 }
 

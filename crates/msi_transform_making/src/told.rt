@@ -32,7 +32,7 @@ impl<'a> Model for ToldRow<'a> {
 
 impl<'a> ToldRow<'a> {
     pub(crate) fn new(values: SeenValues<'a>, stream: Option<&'a Bytes>) -> ToldRow<'a>
-        ensures { result ≡ record { values = values; stream = option_copied stream } }
+        ensures { result ≡ record { values = values.entry; stream = option_copied stream.entry } }
     {
         ToldRow { values, stream }
     }

@@ -1,6 +1,7 @@
 //! The cells of records, and their bytes.
 
-ghost use Rattle.std.specs.Prelude.{◌≡◌, ◌<◌, ◌≤◌, ◌+◌, ◌++◌, ◌^◌, length, OnOk};
+ghost use Rattle.std.specs.Prelude.{◌≡◌, ◌<◌, ◌≤◌, ◌+◌, ◌++◌, ◌^◌, ◌+ℤ◌, length, OnOk, pos};
+ghost use Rattle.std.specs.Int.{cast_unsigned, w16};
 ghost use Rattle.msi_base.specs.Results.{OnlyMemory};
 ghost use Rattle.msi_base.specs.declared.errors.ErrorKind.TheVariants.{InvalidData};
 ghost use Rattle.msi_table.specs.Cells.{cell_of_number, width as width_of};
@@ -104,13 +105,27 @@ pub(crate) fn read_cell<'a>(
     Ok((cell, rest))
 }
 
-/// Returns the number whose bytes a cell takes. Of a number that doesn't fit its column they are the lowest.
+/// Returns the number whose bytes a number takes in a column of short ones. Those that are far too low for it take 0.
+fn short_number(number: i32) -> u32
+    ensures { result ≡ cast_unsigned w16 (number +ℤ pos (2 ^ 15)) }
+{
+    let number = number as i64 + 0x8000;
+    if number >= 0 {
+        return number as u32;
+    }
+    if number < -0x10000 {
+        return 0;
+    }
+    (number + 0x10000) as u32
+}
+
+/// Returns the number whose bytes a cell takes.
 fn number_for(coltype: ColumnType, cell: ValueRef) -> u32
     ensures { result ≡ number_of_cell coltype cell }
 {
     match coltype {
         ColumnType::Int16 => match cell {
-            ValueRef::Int(number) => (number as i64 + 0x8000).rem_euclid(0x10000) as u32,
+            ValueRef::Int(number) => short_number(number),
             ValueRef::Null | ValueRef::Str(_) | ValueRef::Binary => 0,
         },
         ColumnType::Int32 => match cell {

@@ -27,12 +27,14 @@ fn push_cells(
 {
     let mut rest = cells;
     for i in 0..shapes.len() {
-        if tells(action, i, shapes[i])
-            && let Some((cell, others)) = rest.split_first()
-        {
-            push_cell(bytes, long, shapes[i].coltype, *cell)?;
-            rest = others;
+        if !tells(action, i, shapes[i]) {
+            continue;
         }
+        let Some((cell, others)) = rest.split_first() else {
+            continue;
+        };
+        push_cell(bytes, long, shapes[i].coltype, *cell)?;
+        rest = others;
     }
     Ok(())
 }

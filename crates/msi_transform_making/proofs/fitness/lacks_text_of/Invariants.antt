@@ -1,6 +1,6 @@
 use Rattle.std.proofs.Common.{◌≡◌, drop}
 use Rattle.msi_transform_making.proofs.FitnessLemmas.{is_lacked}
-use Rattle.msi_transform_making.proofs.fitness.lacks_text.Given as goal
+use Rattle.msi_transform_making.proofs.fitness.lacks_text_of.Given as goal
 
 abbrev pub invariant-loop-at : goal.invariant-loop-at
 invariant-loop-at l = record {
