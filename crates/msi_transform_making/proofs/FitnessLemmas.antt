@@ -5,7 +5,7 @@ use Rattle.std.specs.List.{list_any}
 use Rattle.std.specs.Option.{option_map_or}
 use Rattle.std.proofs.lemmas.List.{drop_all, drop_more}
 use Rattle.std.proofs.lemmas.Option.{slice_get-get_or}
-use Rattle.msi_base.specs.Refusals.{IsRefusal, Refusals, earlier, first_refusal, unless, unless_refused}
+use Rattle.msi_base.specs.Refusals.{Refusals, earlier, first_refusal, unless_refused}
 use Rattle.msi_base.specs.declared.codepage.CodePage.{CodePage}
 use Rattle.msi_base.specs.declared.errors.ErrorKind.{ErrorKind}
 use Rattle.msi_base.proofs.BoolLemmas.{by_test}
@@ -41,19 +41,17 @@ pub joined : (rs others : Refusals) → first_refusal (rs ++ others) ≡ earlier
 joined [] others = refl
 joined (r ∷ rs) others = by_test r.0 (λ t. rw t refl) (λ t. rw t (joined rs others))
 
-passes : {A : Type 0} (o : Option ErrorKind) (x y : A) → unless o x ≡ Ok y → o ≡ None
-passes None x y e = refl
-passes (Some k) x y e = cc
+pub after_passed : (rs others : Refusals) → first_refusal rs ≡ None → first_refusal (rs ++ others) ≡ first_refusal others
+after_passed rs others e = joined rs others ∙ ap (λ (o : Option ErrorKind). earlier o (first_refusal others)) e
 
--- where the first ones don't hold, the others decide
-pub after_passed : (rs others : Refusals) (x y : Unit {0}) → unless_refused rs x ≡ Ok y → first_refusal (rs ++ others) ≡ first_refusal others
-after_passed rs others x y e = joined rs others ∙ ap (λ (o : Option ErrorKind). earlier o (first_refusal others)) (passes (first_refusal rs) x y e)
+pub stopped : (rs others : Refusals) (k : ErrorKind) → first_refusal rs ≡ Some k → first_refusal (rs ++ others) ≡ Some k
+stopped rs others k e = joined rs others ∙ ap (λ (o : Option ErrorKind). earlier o (first_refusal others)) e
 
-stops : {A : Type 0} (o : Option ErrorKind) (x : A) (k : ErrorKind) → unless o x ≡ Err k → o ≡ Some k
-stops None x k e = cc
-stops (Some l) x k e = cc
+-- a reason that is tested by itself, in front of others
+pub one_passes : (b reason : Bool) (k : ErrorKind) (rs : Refusals) (x y : Unit {0}) → b ≡ reason → Ok y ≡ unless_refused ((b, k) ∷ []) x → first_refusal ((reason, k) ∷ rs) ≡ first_refusal rs
+one_passes true reason k rs x y same e = cc (e)
+one_passes false reason k rs x y same e = rw (← same) refl
 
--- where one of them holds, so it does before the others
-pub stopped : (rs others : Refusals) (x y : Unit {0}) (k : ErrorKind) → unless_refused rs x ≡ Err k → unless_refused (rs ++ others) y ≡ Err k
-stopped rs others x y k e =
-    ap (λ (o : Option ErrorKind). unless o y) (joined rs others ∙ ap (λ (o : Option ErrorKind). earlier o (first_refusal others)) (stops (first_refusal rs) x k e))
+pub one_stops : (b reason : Bool) (k l : ErrorKind) (rs : Refusals) (x : Unit {0}) → b ≡ reason → Err l ≡ unless_refused ((b, k) ∷ []) x → first_refusal ((reason, k) ∷ rs) ≡ Some l
+one_stops true reason k l rs x same e = let h : k ≡ l = cc (e) in rw (← same) (ap Some h)
+one_stops false reason k l rs x same e = cc (e)

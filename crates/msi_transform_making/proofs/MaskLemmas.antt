@@ -1,5 +1,5 @@
 -- Masks of columns: those that have bits give a number of 16 bits.
-use Rattle.std.proofs.Common.{◌≡◌, ℕ, ◌+◌, ◌*◌, ◌^◌, ◌<◌, ◌≤◌, Bool, true, false, List, [], ◌∷◌, map, refl, arith, subst, sym}
+use Rattle.std.proofs.Common.{◌≡◌, ℕ, ◌+◌, ◌*◌, ◌^◌, ◌<◌, ◌≤◌, Bool, true, false, List, [], ◌∷◌, map, not, refl, arith, subst, sym, zip}
 use Rattle.std.specs.Prelude.{◌&&◌, ⊤, filter, nat_lt}
 use Rattle.std.specs.List.{enumerate_from, list_all}
 use Rattle.std.proofs.Math.Nat.{pow-le-pow_right}
@@ -7,7 +7,8 @@ use Rattle.std.proofs.lemmas.Bool.{and_parts, ltb-true}
 use Rattle.std.proofs.lemmas.Nat.{pow-add}
 use Rattle.msi_base.proofs.BoolLemmas.{by_test}
 use Rattle.msi_table_values.specs.declared.value.Value.{Value}
-use Rattle.msi_transform_making.specs.Making.{ToldRow, can_be_marked, differing, has_bit_for, mask_for}
+use Rattle.msi_transform_applying.specs.Applying.{same_stream}
+use Rattle.msi_transform_making.specs.Making.{ToldRow, can_be_marked, differing, has_bit_for, mask_for, same_value}
 
 pub bits_first : (i : ℕ) (is : List ℕ) → can_be_marked (i ∷ is) ≡ true → (i < 16) × (can_be_marked is ≡ true)
 bits_first i is h =
@@ -21,7 +22,7 @@ Above n [] = ⊤
 Above n (i ∷ is) = (n ≤ i) × Above (i + 1) is
 
 mask_fits : (n : ℕ) (is : List ℕ) → n ≤ 16 → Above n is → can_be_marked is ≡ true → mask_for is + 2 ^ n ≤ 65536
-mask_fits n [] h a b = pow-le-pow_right {n = 2} (omega arith) {i = n} {j = 16} h
+mask_fits n [] h a b = let most : 2 ^ n ≤ 65536 = pow-le-pow_right {n = 2} (omega arith) {i = n} {j = 16} h in omega arith
 mask_fits n (i ∷ is) h a b =
     let p = bits_first i is b in
     let below : i < 16 = p.0 in
@@ -40,7 +41,7 @@ numbers_rise {X = X} p m n (x ∷ xs) h = by_test (p (n, x))
 
 pub mask_small : (is : List ℕ) (old new : ToldRow) → is ≡ differing old new → can_be_marked is ≡ true → mask_for is < 65536
 mask_small is old new at b =
-    let rises : Above 0 is = subst (Above 0) (sym at) (numbers_rise _ 0 0 _ (omega arith)) in
+    let rises : Above 0 is = subst (Above 0) (sym at) (numbers_rise {X = Value × Value} (λ e. not (same_value (same_stream old.stream new.stream) e.1)) 0 0 (zip old.values new.values) (omega arith)) in
     let fits : mask_for is + 2 ^ 0 ≤ 65536 = mask_fits 0 is (omega arith) rises b in
     omega arith
 

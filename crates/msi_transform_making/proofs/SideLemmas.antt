@@ -1,7 +1,7 @@
 -- Lists that are gone through side by side, and values that are seen where they lie.
 use Rattle.std.proofs.Common.{◌≡◌, ℕ, ◌+◌, ◌<◌, ◌≤◌, ◌⊎◌, Bool, true, false, List, [], ◌∷◌, ◌++◌, length, map, drop, get_or, zip, not, refl, sym, ap, ◌∙◌, inl, inr}
-use Rattle.std.specs.Prelude.{◌&&◌, filter}
-use Rattle.std.specs.List.{enumerate_from, list_any}
+use Rattle.std.specs.Prelude.{◌&&◌, ◌||◌, filter}
+use Rattle.std.specs.List.{enumerate_from}
 use Rattle.std.proofs.lemmas.List.{append-nil, append_assoc, drop_all, drop_more, map_push}
 use Rattle.msi_table_values.specs.declared.value.Value.{Value}
 use Rattle.msi_table_values.specs.declared.views.ValueView.{ValueView}
@@ -9,8 +9,8 @@ use Rattle.msi_table_values.specs.declared.views.ValueView.TheVariants as view
 use Rattle.msi_table_values.specs.Views.{seen_value}
 use Rattle.msi_table_values.specs.Columns.{ColumnDef}
 use Rattle.msi_database_changes.specs.Views.{seen_row}
-use Rattle.msi_transform_applying.specs.RowStreams.{is_of_streams}
-use Rattle.msi_transform_making.specs.Making.{differing_values, is_marked_in, marked_values, same_value, tells_stream, told_value, told_values}
+use Rattle.msi_base.proofs.BoolLemmas.{by_test}
+use Rattle.msi_transform_making.specs.Making.{is_marked, is_marked_in, is_stream, same_value, tells_stream, told_value}
 
 -- the view at a place
 abbrev pub view_at : List ValueView → ℕ → ValueView
@@ -84,6 +84,16 @@ pub marked_no : (columns : List ColumnDef) (marked : List ℕ) (values : List Va
     → is_marked_in marked (i, (c, seen_value (view_at values i))) ≡ false
     → marked_from columns marked values i ≡ marked_from columns marked values (i + 1)
 marked_no columns marked values i c h l at t = ap (marked_of marked i) (beside_more columns values i c h l at) ∙ rw t refl
+
+pub stream_more : (columns : List ColumnDef) (marked : List ℕ) (values : List ValueView) (i : ℕ) (c : ColumnDef) (b : Bool) → i < length columns → i < length values → c ≡ get_or columns i c
+    → b ≡ (is_marked marked i c && is_stream (c, seen_value (view_at values i)))
+    → tells_stream (marked_from columns marked values i) ≡ (b || tells_stream (marked_from columns marked values (i + 1)))
+stream_more columns marked values i c b h l at is =
+    let rest = tells_stream (marked_from columns marked values (i + 1)) in
+    let stream = is_stream (c, seen_value (view_at values i)) in
+    by_test (is_marked marked i c)
+    (λ t. ap tells_stream (marked_yes columns marked values i c h l at t) ∙ ap (λ (x : Bool). (x && stream) || rest) (sym t) ∙ ap (λ (x : Bool). x || rest) (sym is))
+    (λ t. ap tells_stream (marked_no columns marked values i c h l at t) ∙ ap (λ (x : Bool). (x && stream) || rest) (sym t) ∙ ap (λ (x : Bool). x || rest) (sym is))
 
 pub marked_end : (columns : List ColumnDef) (marked : List ℕ) (values : List ValueView) (i : ℕ) → (length columns ≤ i) ⊎ (length values ≤ i) → marked_from columns marked values i ≡ []
 marked_end columns marked values i past = ap (marked_of marked i) (beside_end columns values i past)

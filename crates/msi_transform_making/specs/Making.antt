@@ -2,16 +2,16 @@
 use Rattle.std.specs.Prelude.{ℕ, ◌+◌, ◌-◌, ◌^◌, Bool, true, false, not, List, [], ◌∷◌, ◌++◌, map, filter, zip, length}
 use Rattle.std.specs.Prelude.{Option, Some, None, option_map, option_and_then, unwrap_or, if◌then◌else◌, nat_lt}
 use Rattle.std.specs.Prelude.{◌==◌, ◌&&◌, ◌||◌, is_some, is_none, bytes_eq, drop, take, filter_map, replicate}
-use Rattle.std.specs.Prelude.{Result, Ok}
+use Rattle.std.specs.Prelude.{◌≡◌, ◌⊎◌, Result, Ok}
 use Rattle.std.specs.FinMap.{find, put}
 use Rattle.std.specs.List.{flat_map, fold, list_all, list_any, enumerate_from}
 use Rattle.std.specs.Option.{option_map_or}
 use Rattle.std.specs.Ordering.{eq_by_cmp, is_eq}
 use Rattle.msi_base.specs.Lists.{has_pair, list_cmp}
-use Rattle.msi_base.specs.Refusals.{Refusals, or_refused, unless_refused, ◌>>=◌}
+use Rattle.msi_base.specs.Refusals.{Refusals, first_refusal, or_refused, unless_refused, ◌>>=◌}
 use Rattle.msi_base.specs.declared.codepage.CodePage.{CodePage}
 use Rattle.msi_base.specs.declared.errors.ErrorKind.{ErrorKind}
-use Rattle.msi_base.specs.declared.errors.ErrorKind.TheVariants.{InvalidInput}
+use Rattle.msi_base.specs.declared.errors.ErrorKind.TheVariants.{InvalidInput, OutOfMemory}
 use Rattle.msi_pool.specs.FirstFit.{is_long_with}
 use Rattle.msi_pool.specs.Pool.{Place, Pool}
 use Rattle.msi_table_cells.specs.CellValues.{row_values}
@@ -30,6 +30,7 @@ use Rattle.msi_database_storage.specs.Streams.{Streams, stream_at, with_stream}
 use Rattle.msi_transform_records.specs.declared.action.Action.{Action}
 use Rattle.msi_transform_records.specs.declared.action.Action.TheVariants.{Add, Remove, Change}
 use Rattle.msi_transform_records.specs.declared.records.Record.{Record}
+use Rattle.msi_transform_records.specs.declared.shape.Shape.{Shape}
 use Rattle.msi_transform_records.specs.Records.{record_bytes, record_with}
 use Rattle.msi_transform.specs.Transforms.{TransformDef, shapes_of}
 use Rattle.msi_transform_applying.specs.RowStreams.{has_streams, is_of_streams, row_stream}
@@ -130,15 +131,21 @@ addition e =
     record { action = Add (length e.1.values); values = e.1.values; key = e.0; stream = e.1.stream }
 
 -- the values of the key and of the marked columns, in the table's order
+abbrev pub is_marked : List ℕ → ℕ → ColumnDef → Bool
+is_marked marked number column = column.is_primary_key || list_any (λ i. i == number) marked
+
 abbrev pub is_marked_in : List ℕ → ℕ × (ColumnDef × Value) → Bool
-is_marked_in marked e = e.1.0.is_primary_key || list_any (λ i. i == e.0) marked
+is_marked_in marked e = is_marked marked e.0 e.1.0
 
 abbrev pub marked_values : List ColumnDef → List ℕ → List Value → List (ColumnDef × Value)
 marked_values columns marked values =
     map (λ e. e.1) (filter (is_marked_in marked) (enumerate_from 0 (zip columns values)))
 
+abbrev pub is_stream : ColumnDef × Value → Bool
+is_stream e = is_of_streams e.0.coltype && not (is_null e.1)
+
 abbrev pub tells_stream : List (ColumnDef × Value) → Bool
-tells_stream told = list_any (λ e. is_of_streams e.0.coltype && not (is_null e.1)) told
+tells_stream told = list_any is_stream told
 
 abbrev pub changing : List ColumnDef → List ℕ → List Value × ToldRow → ToldRecord
 changing columns marked new = let told = marked_values columns marked new.1.values in record {
@@ -231,7 +238,7 @@ records_of_columns old new name = map (describing_record (has_table name old.dat
 -- each table's records in order: of the lists first, then of the tables of new
 pub record ToldTable : Type 0 where
   pub name : List ℕ
-  pub columns : List ColumnDef
+  pub shapes : List Shape
   pub records : List ToldRecord
 
 abbrev pub told_names : Kept → List (List ℕ)
@@ -240,7 +247,7 @@ told_names k = filter (λ name. not (is_schema_table name)) (map (λ t. t.0) k.d
 abbrev pub told_table : Kept → Kept → List ℕ → ToldTable
 told_table old new name = record {
   name = name;
-  columns = columns_in_table new name;
+  shapes = shapes_of (columns_in_table new name);
   records = records_of_table old new name;
 }
 
@@ -249,10 +256,10 @@ is_told t = nat_lt 0 (length t.records)
 
 abbrev pub told_tables : Kept → Kept → List ToldTable
 told_tables old new = filter is_told
-    (record { name = tables_name; columns = tables_columns; records = records_of_tables old.database new.database }
+    (record { name = tables_name; shapes = shapes_of tables_columns; records = records_of_tables old.database new.database }
     ∷ record {
       name = columns_name;
-      columns = columns_columns;
+      shapes = shapes_of columns_columns;
       records = flat_map (records_of_columns old new) (told_names new);
     } ∷ map (told_table old new) (told_names new))
 
@@ -279,7 +286,7 @@ abbrev pub stored_tables : List ToldTable → Option (List (ToldTable × List Re
 stored_tables tables = in_turn stored_table (record { places = []; is_used = false }) tables
 
 abbrev pub table_records : Bool → ToldTable × List Record → List ℕ × List ℕ
-table_records long e = (e.0.name, flat_map (record_bytes long (shapes_of e.0.columns)) e.1)
+table_records long e = (e.0.name, flat_map (record_bytes long e.0.shapes) e.1)
 
 abbrev pub by_names : List (List ℕ × List ℕ) → List (List ℕ × List ℕ)
 by_names [] = []
@@ -358,6 +365,10 @@ table_reasons p name = (has_table name p.old.database && not (keeps_columns p.ol
 abbrev pub reasons : Pair → Refusals
 reasons p = (is_unfit p.old, InvalidInput) ∷ (is_unfit p.new, InvalidInput) ∷ (loses_page p, InvalidInput)
     ∷ (lacks_text p.new, InvalidInput) ∷ flat_map (table_reasons p) (told_names p.new)
+
+-- a fault of a check, where it isn't want of memory: the first of these that holds
+abbrev pub StopsBy : Refusals → ErrorKind → Type 0
+StopsBy refusals kind = (kind ≡ OutOfMemory) ⊎ (first_refusal refusals ≡ Some kind)
 
 -- one database beside another, each with the id of its pool's page
 pub record Side : Type 0 where

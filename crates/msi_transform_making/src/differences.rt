@@ -139,6 +139,7 @@ fn differences<'a>(
 }
 
 /// Returns the records of a row as if it differed in the column of this index.
+#[tactic(auto, using(crate::proofs::MaskLemmas::mask_of_one))]
 fn told_as_differing<'a>(
     alloc: Global,
     columns: &[Column],

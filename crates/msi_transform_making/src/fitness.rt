@@ -1,11 +1,11 @@
 //! Whether a transform can be made of databases.
 
-ghost use Rattle.std.specs.Prelude.{◌≡◌, ◌∷◌, ◌&&◌, ◌==◌, [], IfErr, IfOk, Ok, OnOk};
+ghost use Rattle.std.specs.Prelude.{◌≡◌, ◌∷◌, ◌&&◌, ◌==◌, [], IfErr, IfOk, None, OnOk};
 ghost use Rattle.std.specs.Prelude.{bytes_eq, drop, length, map, not};
 ghost use Rattle.std.specs.FinMap.{entries};
 ghost use Rattle.std.specs.List.{flat_map, list_any};
 ghost use Rattle.msi_base.specs.Lists.{has_pair};
-ghost use Rattle.msi_base.specs.Refusals.{IsRefusal, unless_refused};
+ghost use Rattle.msi_base.specs.Refusals.{first_refusal, unless_refused};
 ghost use Rattle.msi_base.specs.Results.{OnlyMemory};
 ghost use Rattle.msi_base.specs.declared.errors.ErrorKind.TheVariants.{InvalidInput};
 ghost use Rattle.msi_database_changes.specs.Database.{has_table};
@@ -15,7 +15,7 @@ ghost use Rattle.msi_transform_applying.specs.Applying.{have_own_keys as are_key
 ghost use Rattle.msi_transform_applying.specs.Applying.{reads_back as reads_back_in};
 ghost use Rattle.msi_transform_applying.specs.RowStreams.{is_of_streams as holds_stream};
 ghost use Rattle.msi_transform_applying.specs.SchemaChanges.{is_name_to_list as may_be_listed};
-ghost use Rattle.msi_transform_making.specs.Making.{begin_alike as rows_begin_alike};
+ghost use Rattle.msi_transform_making.specs.Making.{StopsBy, begin_alike as rows_begin_alike};
 ghost use Rattle.msi_transform_making.specs.Making.{gains_columns as are_columns_gained, has_odd_columns as are_columns_odd};
 ghost use Rattle.msi_transform_making.specs.Making.{is_odd_table as is_table_odd, is_unfit as is_kept_unfit};
 ghost use Rattle.msi_transform_making.specs.Making.{keeps_columns as are_columns_kept, lacks_text as is_text_lacking};
@@ -181,7 +181,10 @@ fn begin_alike(rows: &[Key], others: &[Key]) -> bool
     ensures { result ≡ rows_begin_alike rows.now others.now }
 {
     for i in 0..rows.len() {
-        if i >= others.len() || rows[i] != others[i] {
+        if i >= others.len() {
+            return false;
+        }
+        if rows[i] != others[i] {
             return false;
         }
     }
@@ -299,8 +302,8 @@ fn check_table<'a>(
 ) -> Result<(), Error>
     requires old { entries described.now.old ≡ rows_told old.now.kept columns_name 0 }
     requires new { entries described.now.new ≡ rows_told new.now.kept columns_name 0 }
-    ensures ok { OnOk result (unless_refused (table_reasons (pair_of old.now new.now) name.now) tt ≡ Ok tt) }
-    ensures kind { IfErr result (IsRefusal (unless_refused (table_reasons (pair_of old.now new.now) name.now) tt)) }
+    ensures ok { OnOk result (first_refusal (table_reasons (pair_of old.now new.now) name.now) ≡ None) }
+    ensures kind { IfErr result (StopsBy (table_reasons (pair_of old.now new.now) name.now)) }
 {
     let lost = loses_columns(old, new, described, name)?;
     refuse_if(lost, reasons::COLUMNS_DIFFER)?;
@@ -317,9 +320,9 @@ fn check_tables<'a>(
     requires old { entries described.now.old ≡ rows_told old.now.kept columns_name 0 }
     requires new { entries described.now.new ≡ rows_told new.now.kept columns_name 0 }
     ensures ok { let rules = flat_map (table_reasons (pair_of old.now new.now)) (names_in names.now) in
-        OnOk result (unless_refused rules tt ≡ Ok tt) }
+        OnOk result (first_refusal rules ≡ None) }
     ensures kind { let rules = flat_map (table_reasons (pair_of old.now new.now)) (names_in names.now) in
-        IfErr result (IsRefusal (unless_refused rules tt)) }
+        IfErr result (StopsBy rules) }
 {
     for name in names {
         check_table(old, new, described, name)?;
@@ -338,8 +341,8 @@ pub(crate) fn check_pair<'a>(
 ) -> Result<(), Error>
     requires old { entries described.now.old ≡ rows_told old.now.kept columns_name 0 }
     requires new { entries described.now.new ≡ rows_told new.now.kept columns_name 0 }
-    ensures ok { OnOk result (unless_refused (all_reasons (pair_of old.now new.now)) tt ≡ Ok tt) }
-    ensures kind { IfErr result (IsRefusal (unless_refused (all_reasons (pair_of old.now new.now)) tt)) }
+    ensures ok { OnOk result (first_refusal (all_reasons (pair_of old.now new.now)) ≡ None) }
+    ensures kind { IfErr result (StopsBy (all_reasons (pair_of old.now new.now))) }
 {
     refuse_if(is_unfit(old)?, reasons::OLD_UNFIT)?;
     refuse_if(is_unfit(new)?, reasons::NEW_UNFIT)?;

@@ -8,7 +8,7 @@ use crate::base::Base;
 use crate::fitness::{Described, check_pair};
 use crate::reading::told_rows;
 use crate::storing::{records_by_table, stored_tables, told_streams};
-use crate::tables::{SystemColumns, ToldTable, told_tables};
+use crate::tables::{ToldTable, told_tables};
 use msi_base::errors::Error;
 use msi_database_changes::texts::PoolInUse;
 use msi_database_schema::system::COLUMNS;
@@ -42,12 +42,13 @@ pub fn make<'a>(old: &Base<'a>, new: &Base<'a>) -> Result<Transform, Error>
     ensures ok { IfOk result (λ transform. made (pair_of old.now new.now) ≡ Ok transform) }
     ensures kind { IfErr result (IsRefusal (made (pair_of old.now new.now))) }
 {
+    let old_rows = told_rows(old, COLUMNS, 0)?;
+    let new_rows = told_rows(new, COLUMNS, 0)?;
     let described = Described {
-        old: told_rows(old, COLUMNS, 0)?,
-        new: told_rows(new, COLUMNS, 0)?,
+        old: old_rows,
+        new: new_rows,
     };
     check_pair(old, new, &described)?;
-    let system = SystemColumns::new(new.alloc)?;
-    let tables = told_tables(old, new, &described.new, &system)?;
+    let tables = told_tables(old, new, &described.new)?;
     transform_of(new, tables.as_slice())
 }

@@ -129,8 +129,10 @@ fn told_row<'a>(
     added: usize,
     cells: &[ValueRef],
 ) -> Result<(Key<'a>, ToldRow<'a>), Error>
-    ensures ok { let values = row_values base.now.kept.database.pool.places cells.now in
-        IfOk result (λ row. row ≡ row_told base.now.kept table.now columns.now added values) }
+    ensures key { let values = row_values base.now.kept.database.pool.places cells.now in
+        IfOk result (λ entry. entry.0 ≡ (row_told base.now.kept table.now columns.now added values).0) }
+    ensures row { let values = row_values base.now.kept.database.pool.places cells.now in
+        IfOk result (λ entry. entry.1 ≡ (row_told base.now.kept table.now columns.now added values).1) }
     ensures kind { OnlyMemory result }
 {
     let views = views_of_cells(base.alloc, base.pool(), cells)?;

@@ -1,17 +1,16 @@
 //! Records that are made, by their values.
 
-ghost use Rattle.std.specs.Prelude.{◌≡◌, ◌&&◌, ◌<◌, IfOk, length, map, not, option_copied, true};
+ghost use Rattle.std.specs.Prelude.{◌≡◌, ◌&&◌, ◌<◌, ◌==◌, IfOk, length, map, option_copied, true};
+ghost use Rattle.std.specs.List.{list_any};
 ghost use Rattle.msi_base.specs.Results.{OnlyMemory};
 ghost use Rattle.msi_database_changes.specs.Views.{seen_row};
-ghost use Rattle.msi_table_values.specs.Values.{is_null as is_null_value};
 ghost use Rattle.msi_table_values.specs.Views.{seen_value};
-ghost use Rattle.msi_transform_applying.specs.RowStreams.{is_of_streams as holds_stream};
 ghost use Rattle.msi_transform_making.specs.Making.{addition as addition_of, can_be_marked as all_have_bits};
-ghost use Rattle.msi_transform_making.specs.Making.{changing as changing_of, is_marked_in, mask_for as mask_of_columns};
+ghost use Rattle.msi_transform_making.specs.Making.{changing as changing_of, is_marked as is_column_marked};
+ghost use Rattle.msi_transform_making.specs.Making.{is_stream as is_stream_value, mask_for as mask_of_columns};
 ghost use Rattle.msi_transform_making.specs.Making.{marked_values as values_marked, removal as removal_of};
 ghost use Rattle.msi_transform_making.specs.Making.{stored_action, tells_stream as is_stream_told};
 ghost use Rattle.msi_transform_making.specs.Telling.{action_of};
-ghost use Rattle.msi_table_values.specs.declared.value.Value.{Value as ValueOf};
 
 use crate::differing::mask_for;
 use crate::seen::{SeenValues, copied, key_with};
@@ -141,10 +140,16 @@ pub(crate) fn addition<'a>(
     Ok(ToldRecord::new(Telling::Add, values, key, row.stream()))
 }
 
-fn is_marked(marked: &[usize], column: &Column, index: usize) -> bool
-    ensures { (value : ValueOf) → result ≡ is_marked_in marked.now (index, (column.now, value)) }
+fn has_index(marked: &[usize], index: usize) -> bool
+    ensures { result ≡ list_any (λ i. i == index) marked.now }
 {
-    column.is_primary_key() || marked.iter().any(|other| *other == index)
+    marked.iter().any(|other| *other == index)
+}
+
+fn is_marked(marked: &[usize], column: &Column, index: usize) -> bool
+    ensures { result ≡ is_column_marked marked.now index column.now }
+{
+    column.is_primary_key() || has_index(marked, index)
 }
 
 /// Returns the values of the key and of the marked columns, in order.
@@ -169,9 +174,16 @@ fn marked_values<'a>(
 }
 
 fn is_stream(column: &Column, value: ValueView) -> bool
-    ensures { result ≡ (holds_stream column.now.coltype && not (is_null_value (seen_value value.entry))) }
+    ensures { result ≡ is_stream_value (column.now, seen_value value.entry) }
 {
     is_of_streams(column.coltype()) && !matches!(value, ValueView::Null)
+}
+
+fn tells(marked: &[usize], column: &Column, index: usize, value: ValueView) -> bool
+    ensures { result ≡ (is_column_marked marked.now index column.now
+        && is_stream_value (column.now, seen_value value.entry)) }
+{
+    is_marked(marked, column, index) && is_stream(column, value)
 }
 
 /// Returns whether one of the values of the key and of the marked columns is a stream.
@@ -179,7 +191,7 @@ fn tells_stream(columns: &[Column], marked: &[usize], values: &[ValueView]) -> b
     ensures { result ≡ is_stream_told (values_marked columns.now marked.now (seen_row values.now)) }
 {
     for i in 0..columns.len().min(values.len()) {
-        if is_marked(marked, &columns[i], i) && is_stream(&columns[i], values[i]) {
+        if tells(marked, &columns[i], i, values[i]) {
             return true;
         }
     }

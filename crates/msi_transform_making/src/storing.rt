@@ -25,7 +25,6 @@ use msi_container_format::name::Name;
 use msi_database_changes::texts::PoolInUse;
 use msi_transform::records_by_table::RecordsByTable;
 use msi_transform_applying::row_streams::row_stream;
-use msi_transform_applying::table_change::shapes_of;
 use msi_transform_records::parts::push_record;
 use msi_transform_records::{Record, Shape};
 use std::alloc::Global;
@@ -156,9 +155,9 @@ fn put_table(
         ≡ put list_cmp stored.now.0.name (table_records long stored.now).1 (entries by_table.old)) }
     ensures kind { OnlyMemory result }
 {
-    let shapes = shapes_of(alloc, stored.table().columns())?;
-    let bytes = spelled(alloc, long, shapes.as_slice(), stored.records())?;
-    let name = String::from_str(alloc, stored.table().name())?;
+    let table = stored.table();
+    let bytes = spelled(alloc, long, table.shapes(), stored.records())?;
+    let name = String::from_str(alloc, table.name())?;
     by_table.insert(name, Bytes::from_vec(bytes))
 }
 

@@ -5,6 +5,7 @@ ghost use Rattle.std.specs.FinMap.{entries};
 ghost use Rattle.msi_base.specs.Results.{OnlyMemory};
 ghost use Rattle.msi_database_schema.specs.System.{columns_columns as columns_of_columns, columns_name};
 ghost use Rattle.msi_database_schema.specs.System.{tables_columns as columns_of_tables};
+ghost use Rattle.msi_transform.specs.Transforms.{shapes_of as shapes_in};
 ghost use Rattle.msi_transform_making.specs.Making.{is_told, told_rows as rows_told};
 ghost use Rattle.msi_transform_making.specs.Making.{told_table as table_told, told_tables as tables_told};
 ghost use Rattle.msi_transform_making.specs.Names.{names_in};
@@ -17,15 +18,16 @@ use crate::told::ToldRows;
 use msi_base::errors::Error;
 use msi_base::text::Items;
 use msi_database_schema::system::{COLUMNS, TABLES, columns_columns, tables_columns};
-use msi_table_values::column::Column;
+use msi_transform_applying::table_change::shapes_of;
+use msi_transform_records::Shape;
 use std::alloc::Global;
 use std::marker::Model;
 
-/// A table of which a transform tells, with its columns and its records.
+/// A table of which a transform tells: its name, what its records need to know of its columns, and the records.
 #[derive(Drop)]
 pub(crate) struct ToldTable<'a> {
     name: &'a str,
-    columns: &'a [Column],
+    shapes: Items<Shape>,
     records: Vec<ToldRecord<'a>>,
 }
 
@@ -34,20 +36,20 @@ impl<'a> Model for ToldTable<'a> {
 
     ghost Value = { TableOf };
 
-    ghost view = { λ t. record { name = t.name.now; columns = t.columns.now; records = t.records.items } };
+    ghost view = { λ t. record { name = t.name.now; shapes = t.shapes; records = t.records.items } };
 }
 
 impl<'a> ToldTable<'a> {
     pub(crate) fn new(
         name: &'a str,
-        columns: &'a [Column],
+        shapes: Items<Shape>,
         records: Vec<ToldRecord<'a>>,
     ) -> ToldTable<'a>
-        ensures { result ≡ record { name = name.now; columns = columns.now; records = records.entry.items } }
+        ensures { result ≡ record { name = name.now; shapes = shapes; records = records.entry.items } }
     {
         ToldTable {
             name,
-            columns,
+            shapes,
             records,
         }
     }
@@ -58,10 +60,10 @@ impl<'a> ToldTable<'a> {
         self.name
     }
 
-    pub(crate) fn columns(&self) -> &'a [Column]
-        ensures { result.now ≡ self.now.columns }
+    pub(crate) fn shapes(&self) -> &[Shape]
+        ensures { result.now ≡ self.now.shapes }
     {
-        self.columns
+        self.shapes.as_slice()
     }
 
     pub(crate) fn records(&self) -> &[ToldRecord<'a>]
@@ -71,39 +73,20 @@ impl<'a> ToldTable<'a> {
     }
 }
 
-/// The columns of `_Tables` and of `_Columns`.
-#[derive(Drop)]
-pub(crate) struct SystemColumns {
-    tables: Items<Column>,
-    columns: Items<Column>,
-    ghost of_tables: { tables ≡ columns_of_tables },
-    ghost of_columns: { columns ≡ columns_of_columns },
+fn shapes_of_tables(alloc: Global) -> Result<Items<Shape>, Error>
+    ensures ok { IfOk result (λ shapes. shapes ≡ shapes_in columns_of_tables) }
+    ensures kind { OnlyMemory result }
+{
+    let columns = tables_columns(alloc)?;
+    shapes_of(alloc, columns.as_slice())
 }
 
-impl SystemColumns {
-    /// Returns the columns.
-    ///
-    /// # Errors
-    /// Fails with `OutOfMemory`.
-    pub(crate) fn new(alloc: Global) -> Result<SystemColumns, Error>
-        ensures kind { OnlyMemory result }
-    {
-        let tables = tables_columns(alloc)?;
-        let columns = columns_columns(alloc)?;
-        Ok(SystemColumns { tables, columns })
-    }
-
-    fn of_tables(&self) -> &[Column]
-        ensures { result.now ≡ columns_of_tables }
-    {
-        self.tables.as_slice()
-    }
-
-    fn of_columns(&self) -> &[Column]
-        ensures { result.now ≡ columns_of_columns }
-    {
-        self.columns.as_slice()
-    }
+fn shapes_of_columns(alloc: Global) -> Result<Items<Shape>, Error>
+    ensures ok { IfOk result (λ shapes. shapes ≡ shapes_in columns_of_columns) }
+    ensures kind { OnlyMemory result }
+{
+    let columns = columns_columns(alloc)?;
+    shapes_of(alloc, columns.as_slice())
 }
 
 /// Adds a table, unless it has no records.
@@ -127,7 +110,8 @@ fn told_table<'a>(
     ensures kind { OnlyMemory result }
 {
     let records = records_of_table(old, new, name)?;
-    Ok(ToldTable::new(name, new.columns_of(name), records))
+    let shapes = shapes_of(new.alloc, new.columns_of(name))?;
+    Ok(ToldTable::new(name, shapes, records))
 }
 
 fn push_told_tables<'a>(
@@ -155,7 +139,6 @@ pub(crate) fn told_tables<'a>(
     old: &Base<'a>,
     new: &Base<'a>,
     described: &ToldRows<'a>,
-    system: &'a SystemColumns,
 ) -> Result<Vec<ToldTable<'a>>, Error>
     requires { entries described.now ≡ rows_told new.now.kept columns_name 0 }
     ensures ok { IfOk result (λ tables. tables.items ≡ tables_told old.now.kept new.now.kept) }
@@ -165,8 +148,10 @@ pub(crate) fn told_tables<'a>(
     let listed = records_of_tables(old, new)?;
     let described = records_of_columns(old, new, described, names.as_slice())?;
     let mut tables = Vec::new(new.alloc);
-    push_if_told(&mut tables, ToldTable::new(TABLES, system.of_tables(), listed))?;
-    push_if_told(&mut tables, ToldTable::new(COLUMNS, system.of_columns(), described))?;
+    let shapes = shapes_of_tables(new.alloc)?;
+    push_if_told(&mut tables, ToldTable::new(TABLES, shapes, listed))?;
+    let shapes = shapes_of_columns(new.alloc)?;
+    push_if_told(&mut tables, ToldTable::new(COLUMNS, shapes, described))?;
     push_told_tables(old, new, &mut tables, names.as_slice())?;
     Ok(tables)
 }

@@ -19,7 +19,7 @@ pub loop-i-preserved-then-not-is_marked : goal.loop-i-preserved-then-not-is_mark
 loop-i-preserved-then-not-is_marked c = record {
   whole = ap (λ (es : List (ColumnDef × Value)). seen_row c.loop-i.told.items ++ map (λ e. e.1) es)
       (sym (marked_no c.args.columns.now c.args.marked.now c.args.values.now c.loop-i.i c.index-columns-i.result (omega arith) (omega arith) c.index-columns-i.is
-      (sym (c.is_marked.ensures _) ∙ c.if-not-is_marked.true)))
+      (sym c.is_marked.ensures ∙ c.if-not-is_marked.true)))
       ∙ c.loop-i.invariant.whole;
 }
 
@@ -29,6 +29,6 @@ loop-i-preserved c = record {
       (map (λ e. e.1) (marked_from c.args.columns.now c.args.marked.now c.args.values.now (c.loop-i.i + 1))) (map (λ e. e.1) (marked_from c.args.columns.now c.args.marked.now c.args.values.now c.loop-i.i)) _
       c.in_ok-push.ensures.items refl
       (ap (map (λ (e : ColumnDef × Value). e.1)) (marked_yes c.args.columns.now c.args.marked.now c.args.values.now c.loop-i.i c.index-columns-i.result (omega arith) (omega arith) c.index-columns-i.is
-      (sym (c.is_marked.ensures _) ∙ c.if-not-is_marked.false)))
+      (sym c.is_marked.ensures ∙ c.if-not-is_marked.false)))
       c.loop-i.invariant.whole;
 }
