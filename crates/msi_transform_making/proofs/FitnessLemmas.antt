@@ -1,7 +1,8 @@
 -- Why no transform is made, as loops find it.
-use Rattle.std.proofs.Common.{◌≡◌, ℕ, ◌+◌, ◌-◌, ◌<◌, ◌≤◌, Bool, true, false, List, [], ◌∷◌, ◌++◌, drop, get_or, length, map, not, refl, sym, ap, arith, ◌∙◌}
+use Rattle.std.proofs.Common.{◌≡◌, ℕ, ◌+◌, ◌-◌, ◌<◌, ◌≤◌, Bool, true, false, List, [], ◌∷◌, ◌++◌, drop, get_or, length, map, not, inl, inr, refl, sym, ap, arith, ◌∙◌}
 use Rattle.std.specs.Prelude.{◌&&◌, ◌||◌, Option, Some, None, Result, Ok, Err, nat_lt, slice_get}
-use Rattle.std.specs.List.{list_any}
+use Rattle.std.specs.Borrow.{Bor}
+use Rattle.std.specs.List.{flat_map, list_any}
 use Rattle.std.specs.Option.{option_map_or}
 use Rattle.std.proofs.lemmas.List.{drop_all, drop_more}
 use Rattle.std.proofs.lemmas.Option.{slice_get-get_or}
@@ -12,7 +13,9 @@ use Rattle.msi_base.proofs.BoolLemmas.{by_test}
 use Rattle.msi_pool.specs.Pool.{Place}
 use Rattle.msi_pool.specs.FirstFit.{count_of}
 use Rattle.msi_pool.specs.FirstFitLaws.{count_at, text_at}
-use Rattle.msi_transform_making.specs.Making.{is_lacking}
+use Rattle.msi_table_values.specs.declared.value.Value.{Value}
+use Rattle.msi_transform_making.specs.Making.{StopsBy, begin_alike, is_lacking}
+use Rattle.msi_transform_making.specs.Names.{names_in}
 
 -- A TEXT THAT THE PAGE LACKS
 
@@ -35,6 +38,12 @@ lacked_more page places at count text b h c t is =
     ∙ ap (λ (bs : List ℕ). is_lacking page (record { text = bs; count = count }) || is_lacked page (drop (at + 1) places)) (sym text_is)
     ∙ ap (λ (x : Bool). x || is_lacked page (drop (at + 1) places)) (sym is)
 
+-- ROWS THAT BEGIN ALIKE
+
+pub ends_early : (rows others : List (List Value)) (i : ℕ) → i < length rows → length others ≤ i → begin_alike (drop i rows) (drop i others) ≡ false
+ends_early rows others i inside past =
+    ap (begin_alike (drop i rows)) (drop_all i others past) ∙ ap (λ (rs : List (List Value)). begin_alike rs []) (drop_more rows i [] inside)
+
 -- REASONS IN ORDER
 
 pub joined : (rs others : Refusals) → first_refusal (rs ++ others) ≡ earlier (first_refusal rs) (first_refusal others)
@@ -46,6 +55,19 @@ after_passed rs others e = joined rs others ∙ ap (λ (o : Option ErrorKind). e
 
 pub stopped : (rs others : Refusals) (k : ErrorKind) → first_refusal rs ≡ Some k → first_refusal (rs ++ others) ≡ Some k
 stopped rs others k e = joined rs others ∙ ap (λ (o : Option ErrorKind). earlier o (first_refusal others)) e
+
+-- table by table, each by its name
+module _ (f : List ℕ → Refusals) (all : List (Bor (List ℕ))) (i : ℕ) (d : Bor (List ℕ)) (inside : i < length all)
+    (same : first_refusal (flat_map f (names_in (drop i all))) ≡ first_refusal (flat_map f (names_in all))) where
+  opened : first_refusal (flat_map f (names_in (drop i all))) ≡ first_refusal (f (get_or all i d).now ++ flat_map f (names_in (drop (i + 1) all)))
+  opened = ap (λ (ns : List (Bor (List ℕ))). first_refusal (flat_map f (names_in ns))) (drop_more all i d inside)
+
+  pub tables_stop : (k : ErrorKind) → StopsBy (f (get_or all i d).now) k → StopsBy (flat_map f (names_in all)) k
+  tables_stop k (inl m) = inl m
+  tables_stop k (inr e) = inr (sym same ∙ opened ∙ stopped (f (get_or all i d).now) (flat_map f (names_in (drop (i + 1) all))) k e)
+
+  pub tables_pass : first_refusal (f (get_or all i d).now) ≡ None → first_refusal (flat_map f (names_in (drop (i + 1) all))) ≡ first_refusal (flat_map f (names_in all))
+  tables_pass e = sym (opened ∙ after_passed (f (get_or all i d).now) (flat_map f (names_in (drop (i + 1) all))) e) ∙ same
 
 -- a reason that is tested by itself, in front of others
 pub one_passes : (b reason : Bool) (k : ErrorKind) (rs : Refusals) (x y : Unit {0}) → b ≡ reason → Ok y ≡ unless_refused ((b, k) ∷ []) x → first_refusal ((reason, k) ∷ rs) ≡ first_refusal rs
