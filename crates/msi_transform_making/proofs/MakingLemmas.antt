@@ -1,5 +1,5 @@
 -- What is made once no reason stands against it.
-use Rattle.std.proofs.Common.{◌≡◌, ℕ, Bool, true, false, List, [], ◌∷◌, map, Option, Some, None, Result, Ok, Err, refl, sym, ap, inl, inr, ◌∙◌}
+use Rattle.std.proofs.Common.{◌≡◌, ℕ, Bool, false, List, [], map, Option, Some, None, Result, Ok, Err, sym, ap, inl, inr, ◌∙◌}
 use Rattle.std.specs.List.{fold}
 use Rattle.msi_base.specs.Refusals.{◌>>=◌, IsRefusal, Refusals, first_refusal, or_refused, unless, unless_refused}
 use Rattle.msi_base.specs.declared.codepage.CodePage.{CodePage}
@@ -56,5 +56,5 @@ module _ (page_id : ℕ) (new : Kept) (tables : List ToldTable) (pool : UsedPool
       ∙ ap {B = TransformDef} (λ (x : ℕ). record { page_id = x; pool = p; tables = tb; streams = st }) e1
       ∙ ap {B = TransformDef} (λ (q : Pool). record { page_id = page_id; pool = q; tables = tb; streams = st }) e2
       ∙ ap {B = TransformDef} (λ (ts : List (List ℕ × List ℕ)). record { page_id = page_id; pool = settled pool.pool; tables = ts; streams = st })
-        (e4 ∙ ap (λ (b : Bool). by_names (map (table_records b) stored)) (e3 ∙ ap (λ (q : Pool). q.long) e2))
+      (e4 ∙ ap (λ (b : Bool). by_names (map (table_records b) stored)) (e3 ∙ ap (λ (q : Pool). q.long) e2))
       ∙ ap {B = TransformDef} (λ (ss : Streams). record { page_id = page_id; pool = settled pool.pool; tables = by_names (map (table_records (settled pool.pool).long) stored); streams = ss }) e5

@@ -9,7 +9,7 @@ use Rattle.msi_database_schema.specs.System.{columns_columns, columns_name, tabl
 use Rattle.msi_database_storage.specs.Kept.{Kept}
 use Rattle.msi_transform.specs.Transforms.{TransformDef}
 use Rattle.msi_transform_making.specs.Making as making
-use Rattle.msi_transform_applying.proofs.ApplyingRows.{Listing, column, column_rows, described, p_columns, p_rows, place}
+use Rattle.msi_transform_applying.proofs.ApplyingRows.{Listing, column_rows, p_columns, p_rows, place}
 use Rattle.msi_transform_applying.proofs.ApplyingRows.{rows_of_t, stored_tables, t_columns, t_rows, table_rows}
 
 abbrev lists : List (List Value) → Listing
@@ -36,13 +36,18 @@ abbrev old_t : Listing
 old_t = (codes "T", t_columns, t_rows) ∷ lists column_rows
 
 abbrev new_t : Listing
-new_t = (codes "T", t_columns,
-    (Str (codes "a") ∷ Str (codes "z") ∷ Int (pos 1) ∷ Int (negsuc 0) ∷ [])
-    ∷ (Str (codes "c") ∷ Str (codes "y") ∷ Int (negsuc 4) ∷ Int (pos 0) ∷ [])
-    ∷ (Str (codes "d") ∷ Null ∷ Int (pos 7) ∷ Int (pos 5) ∷ []) ∷ []) ∷ lists column_rows
+new_t = (
+  codes "T",
+  t_columns,
+  (Str (codes "a") ∷ Str (codes "z") ∷ Int (pos 1) ∷ Int (negsuc 0) ∷ [])
+      ∷ (Str (codes "c") ∷ Str (codes "y") ∷ Int (negsuc 4) ∷ Int (pos 0) ∷ [])
+      ∷ (Str (codes "d") ∷ Null ∷ Int (pos 7) ∷ Int (pos 5) ∷ []) ∷ [],
+) ∷ lists column_rows
 
-pub rows_differ : told (transform_of (kept old_t) (kept new_t)) ≡ Some ((codes "T", rows_of_t) ∷ [],
-    place (codes "b") ∷ place (codes "a") ∷ place (codes "z") ∷ place (codes "d") ∷ [])
+pub rows_differ : told (transform_of (kept old_t) (kept new_t)) ≡ Some (
+  (codes "T", rows_of_t) ∷ [],
+  place (codes "b") ∷ place (codes "a") ∷ place (codes "z") ∷ place (codes "d") ∷ [],
+)
 rows_differ = refl
 
 pub nothing_differs : told (transform_of (kept old_t) (kept old_t)) ≡ Some ([], [])
@@ -54,8 +59,13 @@ with_p columns rows described_rows = (codes "P", columns, rows) ∷ lists descri
 pub keys_differ : told (transform_of (kept (with_p p_columns p_rows column_rows)) (kept (with_p p_columns
     ((Int (pos 2) ∷ Str (codes "u") ∷ Str (codes "new") ∷ [])
     ∷ (Int (pos 3) ∷ Str (codes "u") ∷ Str (codes "w") ∷ []) ∷ []) column_rows)))
-    ≡ Some ((codes "P", 0 ∷ 0 ∷ 1 ∷ 0x80 ∷ 1 ∷ 0
-    ∷ 4 ∷ 0 ∷ 2 ∷ 0x80 ∷ 1 ∷ 0 ∷ 2 ∷ 0
-    ∷ 1 ∷ 3 ∷ 3 ∷ 0x80 ∷ 1 ∷ 0 ∷ 3 ∷ 0 ∷ []) ∷ [],
-    record { text = codes "u"; count = 3 } ∷ place (codes "new") ∷ place (codes "w") ∷ [])
+    ≡ Some (
+      (
+        codes "P",
+        0 ∷ 0 ∷ 1 ∷ 0x80 ∷ 1 ∷ 0
+            ∷ 4 ∷ 0 ∷ 2 ∷ 0x80 ∷ 1 ∷ 0 ∷ 2 ∷ 0
+            ∷ 1 ∷ 3 ∷ 3 ∷ 0x80 ∷ 1 ∷ 0 ∷ 3 ∷ 0 ∷ [],
+      ) ∷ [],
+      record { text = codes "u"; count = 3 } ∷ place (codes "new") ∷ place (codes "w") ∷ [],
+    )
 keys_differ = refl

@@ -1,7 +1,7 @@
 -- Masks of columns: those that have bits give a number of 16 bits.
-use Rattle.std.proofs.Common.{◌≡◌, ℕ, ◌+◌, ◌*◌, ◌^◌, ◌<◌, ◌≤◌, Bool, true, false, List, [], ◌∷◌, map, not, refl, arith, subst, sym, zip}
-use Rattle.std.specs.Prelude.{◌&&◌, ⊤, filter, nat_lt}
-use Rattle.std.specs.List.{enumerate_from, list_all}
+use Rattle.std.proofs.Common.{◌≡◌, ℕ, ◌+◌, ◌*◌, ◌^◌, ◌<◌, ◌≤◌, Bool, true, List, [], ◌∷◌, map, not, refl, arith, subst, sym, zip}
+use Rattle.std.specs.Prelude.{⊤, filter, nat_lt}
+use Rattle.std.specs.List.{enumerate_from}
 use Rattle.std.proofs.Math.Nat.{pow-le-pow_right}
 use Rattle.std.proofs.lemmas.Bool.{and_parts, ltb-true}
 use Rattle.std.proofs.lemmas.Nat.{pow-add}

@@ -1,7 +1,7 @@
 -- Making a transform of two packages: what it says of each table, in which order, or why there is none.
 use Rattle.std.specs.Prelude.{ℕ, ◌+◌, ◌-◌, ◌^◌, Bool, true, false, not, List, [], ◌∷◌, ◌++◌, map, filter, zip, length}
 use Rattle.std.specs.Prelude.{Option, Some, None, option_map, option_and_then, unwrap_or, if◌then◌else◌, nat_lt}
-use Rattle.std.specs.Prelude.{◌==◌, ◌&&◌, ◌||◌, is_some, is_none, bytes_eq, drop, take, filter_map, replicate}
+use Rattle.std.specs.Prelude.{◌==◌, ◌&&◌, ◌||◌, is_some, bytes_eq, drop, take, filter_map, replicate}
 use Rattle.std.specs.Prelude.{◌≡◌, ◌⊎◌, Result, Ok}
 use Rattle.std.specs.FinMap.{find, put}
 use Rattle.std.specs.List.{flat_map, fold, list_all, list_any, enumerate_from}
@@ -16,7 +16,6 @@ use Rattle.msi_pool.specs.FirstFit.{is_long_with}
 use Rattle.msi_pool.specs.Pool.{Place, Pool}
 use Rattle.msi_table_cells.specs.CellValues.{row_values}
 use Rattle.msi_table_cells.specs.KeyOrder.{key_of}
-use Rattle.msi_table_cells.specs.TableCells.{TableCells}
 use Rattle.msi_table_values.specs.declared.value.Value.{Value}
 use Rattle.msi_table_values.specs.declared.value.Value.TheVariants.{Null, Str, Binary}
 use Rattle.msi_table_values.specs.Values.{is_null, value_cmp}
@@ -256,8 +255,11 @@ is_told t = nat_lt 0 (length t.records)
 
 abbrev pub told_tables : Kept → Kept → List ToldTable
 told_tables old new = filter is_told
-    (record { name = tables_name; shapes = shapes_of tables_columns; records = records_of_tables old.database new.database }
-    ∷ record {
+    (record {
+      name = tables_name;
+      shapes = shapes_of tables_columns;
+      records = records_of_tables old.database new.database;
+    } ∷ record {
       name = columns_name;
       shapes = shapes_of columns_columns;
       records = flat_map (records_of_columns old new) (told_names new);

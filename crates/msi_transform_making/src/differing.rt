@@ -67,11 +67,7 @@ fn differing_values(
 ///
 /// # Errors
 /// Fails with `OutOfMemory`.
-pub(crate) fn differing(
-    alloc: Global,
-    old: &ToldRow,
-    new: &ToldRow,
-) -> Result<Vec<usize>, Error>
+pub(crate) fn differing(alloc: Global, old: &ToldRow, new: &ToldRow) -> Result<Vec<usize>, Error>
     ensures ok { IfOk result (λ columns. columns.items ≡ columns_differing old.now new.now) }
     ensures kind { OnlyMemory result }
 {

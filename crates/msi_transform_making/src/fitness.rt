@@ -16,10 +16,12 @@ ghost use Rattle.msi_transform_applying.specs.Applying.{reads_back as reads_back
 ghost use Rattle.msi_transform_applying.specs.RowStreams.{is_of_streams as holds_stream};
 ghost use Rattle.msi_transform_applying.specs.SchemaChanges.{is_name_to_list as may_be_listed};
 ghost use Rattle.msi_transform_making.specs.Making.{StopsBy, begin_alike as rows_begin_alike};
-ghost use Rattle.msi_transform_making.specs.Making.{gains_columns as are_columns_gained, has_odd_columns as are_columns_odd};
+ghost use Rattle.msi_transform_making.specs.Making.{gains_columns as are_columns_gained};
+ghost use Rattle.msi_transform_making.specs.Making.{has_odd_columns as are_columns_odd};
 ghost use Rattle.msi_transform_making.specs.Making.{is_odd_table as is_table_odd, is_unfit as is_kept_unfit};
 ghost use Rattle.msi_transform_making.specs.Making.{keeps_columns as are_columns_kept, lacks_text as is_text_lacking};
-ghost use Rattle.msi_transform_making.specs.Making.{is_lacking as is_place_lacking, lacks_text_of as is_text_of_pool_lacking};
+ghost use Rattle.msi_transform_making.specs.Making.{is_lacking as is_place_lacking};
+ghost use Rattle.msi_transform_making.specs.Making.{lacks_text_of as is_text_of_pool_lacking};
 ghost use Rattle.msi_transform_making.specs.Making.{loses_page as is_page_lost, pair_of, reasons as all_reasons};
 ghost use Rattle.msi_transform_making.specs.Making.{table_reasons, told_rows as rows_told};
 ghost use Rattle.msi_transform_making.specs.Names.{names_in};
@@ -162,7 +164,11 @@ fn lacks_text_of(pool: &StringPool) -> bool
 {
     for at in 0..pool.num_strings() {
         let reference = string_ref(at + 1);
-        let lacking = is_lacking(pool.codepage(), pool.refcount(reference), pool.get(reference));
+        let lacking = is_lacking(
+            pool.codepage(),
+            pool.refcount(reference),
+            pool.get(reference),
+        );
         if lacking {
             return true;
         }

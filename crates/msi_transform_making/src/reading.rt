@@ -1,6 +1,6 @@
 //! The rows of a database's tables, as a transform tells them.
 
-ghost use Rattle.std.specs.Prelude.{◌≡◌, ◌++◌, IfOk, OnOk, is_some, map, option_and_then, option_copied, replicate};
+ghost use Rattle.std.specs.Prelude.{◌≡◌, ◌++◌, IfOk, OnOk, map, option_and_then, option_copied, replicate};
 ghost use Rattle.std.specs.FinMap.{entries, put};
 ghost use Rattle.msi_base.specs.Results.{OnlyMemory};
 ghost use Rattle.msi_database_changes.specs.Views.{seen_row};

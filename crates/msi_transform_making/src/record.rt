@@ -74,7 +74,8 @@ impl<'a> ToldRecord<'a> {
         }
     }
 
-    /// Returns the action of a record, unless it adds a row of more than 255 values: a mask has 8 bits for their number.
+    /// Returns the action of a record, unless it adds a row of more than 255 values: a mask has 8 bits for their
+    /// number.
     pub(crate) fn action(&self) -> Option<Action>
         ensures { result ≡ stored_action self.now.action }
     {

@@ -72,10 +72,7 @@ impl<'a> SeenValues<'a> {
 }
 
 /// Returns these values.
-pub(crate) fn copied<'a>(
-    alloc: Global,
-    values: &[ValueView<'a>],
-) -> Result<SeenValues<'a>, Error>
+pub(crate) fn copied<'a>(alloc: Global, values: &[ValueView<'a>]) -> Result<SeenValues<'a>, Error>
     ensures ok { IfOk result (λ copy. copy ≡ seen_row values.now) }
     ensures kind { OnlyMemory result }
 {

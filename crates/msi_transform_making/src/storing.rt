@@ -67,11 +67,7 @@ impl<'a, 'b> StoredTable<'a, 'b> {
     }
 }
 
-fn stored_record(
-    alloc: Global,
-    pool: &mut PoolInUse,
-    told: &ToldRecord,
-) -> Result<Record, Error>
+fn stored_record(alloc: Global, pool: &mut PoolInUse, told: &ToldRecord) -> Result<Record, Error>
     ensures ok { IfOk result (λ made. record_stored (in_use pool.old) told.now ≡ Some (made, in_use pool.new)) }
     ensures kind { IfErr result (IsRefusal (or_refused InvalidInput (record_stored (in_use pool.old) told.now))) }
     ensures page { pool.new.pool.page ≡ pool.old.pool.page }
@@ -209,11 +205,7 @@ fn put_told_stream(
     }
 }
 
-fn put_told_streams(
-    alloc: Global,
-    streams: &mut StreamMap,
-    table: &ToldTable,
-) -> Result<(), Error>
+fn put_told_streams(alloc: Global, streams: &mut StreamMap, table: &ToldTable) -> Result<(), Error>
     ensures ok { OnOk result (entries streams.new ≡ with_told_streams (entries streams.old) table.now) }
     ensures kind { OnlyMemory result }
 {

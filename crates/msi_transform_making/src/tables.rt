@@ -101,11 +101,7 @@ fn push_if_told<'a>(tables: &mut Vec<ToldTable<'a>>, table: ToldTable<'a>) -> Re
     Ok(())
 }
 
-fn told_table<'a>(
-    old: &Base<'a>,
-    new: &Base<'a>,
-    name: &'a str,
-) -> Result<ToldTable<'a>, Error>
+fn told_table<'a>(old: &Base<'a>, new: &Base<'a>, name: &'a str) -> Result<ToldTable<'a>, Error>
     ensures ok { IfOk result (λ table. table ≡ table_told old.now.kept new.now.kept name.now) }
     ensures kind { OnlyMemory result }
 {

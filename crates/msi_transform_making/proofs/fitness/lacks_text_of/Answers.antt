@@ -11,7 +11,7 @@ returns-then-lacking c =
     let pool = c.args.pool.now in
     let rest = is_lacked pool.page (drop (c.loop-at.at + 1) pool.places) in
     let more = lacked_more pool.page pool.places c.loop-at.at c.refcount.result c.get.result.now c.is_lacking-lacking.result (omega arith)
-        (c.refcount.ensures ∙ ap (count_at pool.places) c.string_ref-reference.ensures) (c.get.ensures ∙ ap (text_at pool.places) c.string_ref-reference.ensures) (c.is_lacking-lacking.ensures ∙ ap (λ (p : CodePage). is_lacking p (record { text = c.get.result.now; count = c.refcount.result })) c.codepage.ensures) in
+    (c.refcount.ensures ∙ ap (count_at pool.places) c.string_ref-reference.ensures) (c.get.ensures ∙ ap (text_at pool.places) c.string_ref-reference.ensures) (c.is_lacking-lacking.ensures ∙ ap (λ (p : CodePage). is_lacking p (record { text = c.get.result.now; count = c.refcount.result })) c.codepage.ensures) in
     sym (sym c.loop-at.invariant.same ∙ more ∙ ap (λ (b : Bool). b || rest) c.if-lacking.true)
 
 pub loop-at-preserved : goal.loop-at-preserved
@@ -19,5 +19,5 @@ loop-at-preserved c =
     let pool = c.args.pool.now in
     let rest = is_lacked pool.page (drop (c.loop-at.at + 1) pool.places) in
     let more = lacked_more pool.page pool.places c.loop-at.at c.refcount.result c.get.result.now c.is_lacking-lacking.result (omega arith)
-        (c.refcount.ensures ∙ ap (count_at pool.places) c.string_ref-reference.ensures) (c.get.ensures ∙ ap (text_at pool.places) c.string_ref-reference.ensures) (c.is_lacking-lacking.ensures ∙ ap (λ (p : CodePage). is_lacking p (record { text = c.get.result.now; count = c.refcount.result })) c.codepage.ensures) in
+    (c.refcount.ensures ∙ ap (count_at pool.places) c.string_ref-reference.ensures) (c.get.ensures ∙ ap (text_at pool.places) c.string_ref-reference.ensures) (c.is_lacking-lacking.ensures ∙ ap (λ (p : CodePage). is_lacking p (record { text = c.get.result.now; count = c.refcount.result })) c.codepage.ensures) in
     record { same = sym (more ∙ ap (λ (b : Bool). b || rest) c.if-lacking.false) ∙ c.loop-at.invariant.same }

@@ -11,7 +11,7 @@ returns-clause-key c =
     let columns = c.args.columns.now in
     let cells = c.args.cells.now in
     let seen : seen_row c.as_slice.result.now ≡ row_values c.args.base.now.kept.database.pool.places cells =
-        ap seen_row c.as_slice.ensures.value ∙ c.in_ok-views.ensures.ok ∙ ap (λ (p : Pool). row_values p.places cells) c.pool.ensures in
+    ap seen_row c.as_slice.ensures.value ∙ c.in_ok-views.ensures.ok ∙ ap (λ (p : Pool). row_values p.places cells) c.pool.ensures in
     c.in_ok-key.ensures.ok ∙ ap (key_of columns) seen
 
 pub returns-clause-row : goal.returns-clause-row
@@ -21,9 +21,9 @@ returns-clause-row c =
     let values = row_values c.args.base.now.kept.database.pool.places cells in
     let told = told_stream c.args.base.now.kept c.args.table.now columns in
     let seen : seen_row c.as_slice.result.now ≡ values =
-        ap seen_row c.as_slice.ensures.value ∙ c.in_ok-views.ensures.ok ∙ ap (λ (p : Pool). row_values p.places cells) c.pool.ensures in
+    ap seen_row c.as_slice.ensures.value ∙ c.in_ok-views.ensures.ok ∙ ap (λ (p : Pool). row_values p.places cells) c.pool.ensures in
     let again : seen_row c.as_slice-2.result.now ≡ values =
-        ap seen_row c.as_slice-2.ensures.value ∙ c.in_ok-views.ensures.ok ∙ ap (λ (p : Pool). row_values p.places cells) c.pool.ensures in
+    ap seen_row c.as_slice-2.ensures.value ∙ c.in_ok-views.ensures.ok ∙ ap (λ (p : Pool). row_values p.places cells) c.pool.ensures in
     c.in_ok-row.ensures.ok
     ∙ ap (λ (s : Option (List ℕ)). told_row_with s columns c.args.added (seen_row c.as_slice-2.result.now)) (c.in_ok-stream.ensures.ok ∙ ap told (c.in_ok-key.ensures.ok ∙ ap (key_of columns) seen))
     ∙ ap (told_row_with (told (key_of columns values)) columns c.args.added) again

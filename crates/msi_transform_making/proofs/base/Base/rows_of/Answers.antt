@@ -1,4 +1,4 @@
-use Rattle.std.proofs.Common.{◌≡◌, ◌∙◌, [], ap, Some, None}
+use Rattle.std.proofs.Common.{◌∙◌, ap, Some, None}
 use Rattle.std.proofs.lemmas.Result.{IfOk-weaker}
 use Rattle.std.specs.FinMap.{entries}
 use Rattle.msi_database_storage.specs.Streams.{stored_rows}
