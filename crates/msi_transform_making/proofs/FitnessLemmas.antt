@@ -2,19 +2,22 @@
 use Rattle.std.proofs.Common.{◌≡◌, ℕ, ◌+◌, ◌-◌, ◌<◌, ◌≤◌, Bool, true, false, List, [], ◌∷◌, ◌++◌, drop, get_or, length, inl, inr, refl, sym, ap, arith, ◌∙◌}
 use Rattle.std.specs.Prelude.{◌||◌, Option, Some, None, Ok, Err, slice_get}
 use Rattle.std.specs.Borrow.{Bor}
+use Rattle.std.specs.Prelude.{◌≢◌, IfSome}
 use Rattle.std.specs.List.{flat_map, list_any}
 use Rattle.std.specs.Option.{option_map_or}
-use Rattle.std.proofs.lemmas.List.{drop_all, drop_more}
+use Rattle.std.proofs.lemmas.List.{drop_all, drop_more, get_or-map}
 use Rattle.std.proofs.lemmas.Option.{slice_get-get_or}
 use Rattle.msi_base.specs.Refusals.{Refusals, earlier, first_refusal, unless_refused}
 use Rattle.msi_base.specs.declared.codepage.CodePage.{CodePage}
 use Rattle.msi_base.specs.declared.errors.ErrorKind.{ErrorKind}
+use Rattle.msi_base.specs.declared.errors.ErrorKind.TheVariants.{OutOfMemory}
 use Rattle.msi_base.proofs.BoolLemmas.{by_test}
 use Rattle.msi_pool.specs.Pool.{Place}
 use Rattle.msi_pool.specs.FirstFit.{count_of}
 use Rattle.msi_pool.specs.FirstFitLaws.{count_at, text_at}
 use Rattle.msi_table_values.specs.declared.value.Value.{Value}
 use Rattle.msi_transform_making.specs.Making.{StopsBy, begin_alike, is_lacking}
+use Rattle.msi_transform_making.specs.MakingRefusals.{IsAtFault}
 use Rattle.msi_transform_making.specs.Names.{names_in}
 
 -- A TEXT THAT THE PAGE LACKS
@@ -68,6 +71,16 @@ module _ (f : List ℕ → Refusals) (all : List (Bor (List ℕ))) (i : ℕ) (d 
 
   pub tables_pass : first_refusal (f (get_or all i d).now) ≡ None → first_refusal (flat_map f (names_in (drop (i + 1) all))) ≡ first_refusal (flat_map f (names_in all))
   tables_pass e = sym (opened ∙ after_passed (f (get_or all i d).now) (flat_map f (names_in (drop (i + 1) all))) e) ∙ same
+
+-- the table that is at fault
+pub fault_found : (f : List ℕ → Refusals) (all : List (Bor (List ℕ))) (i : ℕ) (d : Bor (List ℕ)) (kind error : ErrorKind) (table : Option ℕ) → i < length all → kind ≡ error
+    → IfSome table (λ place. (place ≡ i) × (error ≢ OutOfMemory)) → StopsBy (f (get_or all i d).now) error → IsAtFault f (names_in all) (record { kind = kind; table = table })
+fault_found f all i d kind error None inside same at stops = tt
+fault_found f all i d kind error (Some place) inside same at (inl m) = absurd (at.1 m)
+fault_found f all i d kind error (Some place) inside same at (inr e) =
+    ap (λ (n : ℕ). first_refusal (f (get_or (names_in all) n []))) at.0
+    ∙ ap (λ (name : List ℕ). first_refusal (f name)) (get_or-map (λ (n : Bor (List ℕ)). n.now) all i d [] inside)
+    ∙ e ∙ ap Some (sym same)
 
 -- a reason that is tested by itself, in front of others
 pub one_passes : (b reason : Bool) (k : ErrorKind) (rs : Refusals) (x y : Unit {0}) → b ≡ reason → Ok y ≡ unless_refused ((b, k) ∷ []) x → first_refusal ((reason, k) ∷ rs) ≡ first_refusal rs

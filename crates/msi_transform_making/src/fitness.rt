@@ -1,13 +1,13 @@
 //! Whether a transform can be made of databases.
 
-ghost use Rattle.std.specs.Prelude.{◌≡◌, ◌∷◌, ◌&&◌, ◌==◌, [], IfErr, IfOk, None, OnOk};
+ghost use Rattle.std.specs.Prelude.{◌≡◌, ◌≢◌, ◌∷◌, ◌&&◌, ◌==◌, [], IfErr, IfOk, IfSome, None, OnOk};
 ghost use Rattle.std.specs.Prelude.{bytes_eq, drop, length, map, not};
 ghost use Rattle.std.specs.FinMap.{entries};
 ghost use Rattle.std.specs.List.{flat_map, list_any};
 ghost use Rattle.msi_base.specs.Lists.{has_pair};
 ghost use Rattle.msi_base.specs.Refusals.{first_refusal, unless_refused};
 ghost use Rattle.msi_base.specs.Results.{OnlyMemory};
-ghost use Rattle.msi_base.specs.declared.errors.ErrorKind.TheVariants.{InvalidInput};
+ghost use Rattle.msi_base.specs.declared.errors.ErrorKind.TheVariants.{InvalidInput, OutOfMemory};
 ghost use Rattle.msi_database_changes.specs.Database.{has_table};
 ghost use Rattle.msi_database_changes.specs.KeySets.{keys_of_rows};
 ghost use Rattle.msi_database_schema.specs.System.{columns_name};
@@ -23,11 +23,13 @@ ghost use Rattle.msi_transform_making.specs.Making.{keeps_columns as are_columns
 ghost use Rattle.msi_transform_making.specs.Making.{is_lacking as is_place_lacking};
 ghost use Rattle.msi_transform_making.specs.Making.{lacks_text_of as is_text_of_pool_lacking};
 ghost use Rattle.msi_transform_making.specs.Making.{loses_page as is_page_lost, pair_of, reasons as all_reasons};
-ghost use Rattle.msi_transform_making.specs.Making.{table_reasons, told_rows as rows_told};
+ghost use Rattle.msi_transform_making.specs.Making.{table_reasons, told_names as names_told, told_rows as rows_told};
+ghost use Rattle.msi_transform_making.specs.MakingRefusals.{IsAtFault};
 ghost use Rattle.msi_transform_making.specs.Names.{names_in};
 
 use crate::base::Base;
 use crate::reasons;
+use crate::refusal::MakingRefusal;
 use crate::schema_records::described_columns;
 use crate::told::ToldRows;
 use msi_base::codepage::CodePage;
@@ -317,21 +319,39 @@ fn check_table<'a>(
     refuse_if(odd, reasons::COLUMNS_ODD)
 }
 
+/// Returns why a table of this place is refused. Want of memory is no table's fault.
+fn refusal_at(error: Error, table: usize) -> MakingRefusal
+    ensures kind { result.kind ≡ error }
+    ensures table { IfSome result.table (λ place. (place ≡ table) × (error ≢ OutOfMemory)) }
+{
+    match error.kind() {
+        ErrorKind::OutOfMemory => MakingRefusal::nowhere(error),
+        ErrorKind::AlreadyExists
+        | ErrorKind::InvalidData
+        | ErrorKind::InvalidInput
+        | ErrorKind::NotFound
+        | ErrorKind::Io => MakingRefusal::at(error, table),
+    }
+}
+
 fn check_tables<'a>(
     old: &Base<'a>,
     new: &Base<'a>,
     described: &Described<'a>,
     names: &[&str],
-) -> Result<(), Error>
+) -> Result<(), MakingRefusal>
     requires old { entries described.now.old ≡ rows_told old.now.kept columns_name 0 }
     requires new { entries described.now.new ≡ rows_told new.now.kept columns_name 0 }
     ensures ok { let rules = flat_map (table_reasons (pair_of old.now new.now)) (names_in names.now) in
         OnOk result (first_refusal rules ≡ None) }
     ensures kind { let rules = flat_map (table_reasons (pair_of old.now new.now)) (names_in names.now) in
-        IfErr result (StopsBy rules) }
+        IfErr result (λ refusal. StopsBy rules refusal.kind) }
+    ensures table { IfErr result (IsAtFault (table_reasons (pair_of old.now new.now)) (names_in names.now)) }
 {
-    for name in names {
-        check_table(old, new, described, name)?;
+    for i in 0..names.len() {
+        if let Err(error) = check_table(old, new, described, names[i]) {
+            return Err(refusal_at(error, i));
+        }
     }
     Ok(())
 }
@@ -344,11 +364,13 @@ pub(crate) fn check_pair<'a>(
     old: &Base<'a>,
     new: &Base<'a>,
     described: &Described<'a>,
-) -> Result<(), Error>
+) -> Result<(), MakingRefusal>
     requires old { entries described.now.old ≡ rows_told old.now.kept columns_name 0 }
     requires new { entries described.now.new ≡ rows_told new.now.kept columns_name 0 }
     ensures ok { OnOk result (first_refusal (all_reasons (pair_of old.now new.now)) ≡ None) }
-    ensures kind { IfErr result (StopsBy (all_reasons (pair_of old.now new.now))) }
+    ensures kind { IfErr result (λ refusal. StopsBy (all_reasons (pair_of old.now new.now)) refusal.kind) }
+    ensures table { let rules = table_reasons (pair_of old.now new.now) in
+        IfErr result (IsAtFault rules (names_told new.now.kept)) }
 {
     refuse_if(is_unfit(old)?, reasons::OLD_UNFIT)?;
     refuse_if(is_unfit(new)?, reasons::NEW_UNFIT)?;

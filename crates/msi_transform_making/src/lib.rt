@@ -9,6 +9,7 @@ mod making;
 mod reading;
 mod reasons;
 mod record;
+mod refusal;
 mod schema_records;
 mod seen;
 mod storing;
@@ -18,3 +19,4 @@ mod told;
 
 pub use base::Base;
 pub use making::make;
+pub use refusal::MakingRefusal;

@@ -2,11 +2,14 @@
 
 ghost use Rattle.std.specs.Prelude.{◌≡◌, IfErr, IfOk, Ok};
 ghost use Rattle.msi_base.specs.Refusals.{IsRefusal};
-ghost use Rattle.msi_transform_making.specs.Making.{made, pair_of, transform_of as transform_told};
+ghost use Rattle.msi_transform_making.specs.Making.{made, pair_of, table_reasons, told_names};
+ghost use Rattle.msi_transform_making.specs.Making.{transform_of as transform_told};
+ghost use Rattle.msi_transform_making.specs.MakingRefusals.{IsAtFault};
 
 use crate::base::Base;
 use crate::fitness::{Described, check_pair};
 use crate::reading::told_rows;
+use crate::refusal::MakingRefusal;
 use crate::storing::{records_by_table, stored_tables, told_streams};
 use crate::tables::{ToldTable, told_tables};
 use msi_base::errors::Error;
@@ -37,10 +40,13 @@ fn transform_of(new: &Base, tables: &[ToldTable]) -> Result<Transform, Error>
 /// or under a name that none may have; the new one's page is neutral and the old one's isn't, or it lacks a text; a
 /// table loses or changes a column, gets one of the key, or gets columns and has more than 32 then, or two of one name,
 /// or one without a name; a row of more than 255 columns would have to be added; or the texts are too many. Otherwise
-/// it fails with `OutOfMemory`, which may come in place of the others.
-pub fn make<'a>(old: &Base<'a>, new: &Base<'a>) -> Result<Transform, Error>
+/// it fails with `OutOfMemory`, which may come in place of the others. Where a table is at fault for its columns, the
+/// refusal says which.
+pub fn make<'a>(old: &Base<'a>, new: &Base<'a>) -> Result<Transform, MakingRefusal>
     ensures ok { IfOk result (λ transform. made (pair_of old.now new.now) ≡ Ok transform) }
-    ensures kind { IfErr result (IsRefusal (made (pair_of old.now new.now))) }
+    ensures kind { IfErr result (λ refusal. IsRefusal (made (pair_of old.now new.now)) refusal.kind) }
+    ensures table { let rules = table_reasons (pair_of old.now new.now) in
+        IfErr result (IsAtFault rules (told_names new.now.kept)) }
 {
     let old_rows = told_rows(old, COLUMNS, 0)?;
     let new_rows = told_rows(new, COLUMNS, 0)?;
@@ -50,5 +56,5 @@ pub fn make<'a>(old: &Base<'a>, new: &Base<'a>) -> Result<Transform, Error>
     };
     check_pair(old, new, &described)?;
     let tables = told_tables(old, new, &described.new)?;
-    transform_of(new, tables.as_slice())
+    Ok(transform_of(new, tables.as_slice())?)
 }

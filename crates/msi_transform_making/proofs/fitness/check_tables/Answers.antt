@@ -1,15 +1,22 @@
-use Rattle.std.proofs.Common.{arith}
-use Rattle.std.proofs.lemmas.Result.{err_from_is_err_and}
-use Rattle.msi_transform_making.specs.Making.{pair_of, table_reasons}
-use Rattle.msi_transform_making.proofs.FitnessLemmas.{tables_pass, tables_stop}
+use Rattle.std.proofs.Common.{arith, subst, sym}
+use Rattle.msi_transform_making.specs.Making.{StopsBy, pair_of, table_reasons}
+use Rattle.std.specs.List.{flat_map}
+use Rattle.msi_transform_making.specs.Names.{names_in}
+use Rattle.msi_transform_making.proofs.FitnessLemmas.{fault_found, tables_pass, tables_stop}
 use Rattle.msi_transform_making.proofs.fitness.check_tables.Goals as goal
 
-pub returns-in_err-check_table-clause-kind : goal.returns-in_err-check_table-clause-kind
-returns-in_err-check_table-clause-kind c =
-    let p = err_from_is_err_and c.from_residual.result c.from_residual.ensures.1 in
-    rw (p.1, p.2) (tables_stop (table_reasons (pair_of c.args.old.now c.args.new.now)) c.args.names.now c.loop-name.name-index _ (omega arith) c.loop-name.invariant.same _ c.in_err-check_table.ensures.kind)
+pub returns-in-Err-clause-kind : goal.returns-in-Err-clause-kind
+returns-in-Err-clause-kind c =
+    let rules = table_reasons (pair_of c.args.old.now c.args.new.now) in
+    subst (StopsBy (flat_map rules (names_in c.args.names.now))) (sym c.refusal_at.ensures.kind)
+    (tables_stop rules c.args.names.now c.loop-i.i _ (omega arith) c.loop-i.invariant.same _ c.in-Err.ensures.kind)
 
-pub loop-name-preserved : goal.loop-name-preserved
-loop-name-preserved c = record {
-  same = tables_pass (table_reasons (pair_of c.args.old.now c.args.new.now)) c.args.names.now c.loop-name.name-index _ (omega arith) c.loop-name.invariant.same c.in_ok-check_table.ensures.ok;
+pub returns-in-Err-clause-table : goal.returns-in-Err-clause-table
+returns-in-Err-clause-table c =
+    fault_found (table_reasons (pair_of c.args.old.now c.args.new.now)) c.args.names.now c.loop-i.i _ c.refusal_at.result.kind c.in-Err.error c.refusal_at.result.table
+    (omega arith) c.refusal_at.ensures.kind c.refusal_at.ensures.table c.in-Err.ensures.kind
+
+pub loop-i-preserved : goal.loop-i-preserved
+loop-i-preserved c = record {
+  same = tables_pass (table_reasons (pair_of c.args.old.now c.args.new.now)) c.args.names.now c.loop-i.i _ (omega arith) c.loop-i.invariant.same c.in_default.ensures.ok;
 }
