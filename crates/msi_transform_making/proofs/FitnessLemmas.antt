@@ -1,13 +1,13 @@
 -- Why no transform is made, as loops find it.
-use Rattle.std.proofs.Common.{◌≡◌, ℕ, ◌+◌, ◌-◌, ◌<◌, ◌≤◌, Bool, true, false, List, [], ◌∷◌, ◌++◌, drop, get_or, length, inl, inr, refl, sym, ap, arith, ◌∙◌}
-use Rattle.std.specs.Prelude.{◌||◌, Option, Some, None, Ok, Err, slice_get}
+use Rattle.std.proofs.Common.{◌≡◌, ℕ, ◌+◌, ◌-◌, ◌<◌, ◌≤◌, Bool, false, List, [], ◌∷◌, ◌++◌, drop, get_or, length, inl, inr, refl, sym, ap, arith, ◌∙◌}
+use Rattle.std.specs.Prelude.{◌||◌, Option, Some, None, slice_get}
 use Rattle.std.specs.Borrow.{Bor}
 use Rattle.std.specs.Prelude.{◌≢◌, IfSome}
 use Rattle.std.specs.List.{flat_map, list_any}
 use Rattle.std.specs.Option.{option_map_or}
 use Rattle.std.proofs.lemmas.List.{drop_all, drop_more, get_or-map}
 use Rattle.std.proofs.lemmas.Option.{slice_get-get_or}
-use Rattle.msi_base.specs.Refusals.{Refusals, earlier, first_refusal, unless_refused}
+use Rattle.msi_base.specs.Refusals.{Refusals, earlier, first_refusal}
 use Rattle.msi_base.specs.declared.codepage.CodePage.{CodePage}
 use Rattle.msi_base.specs.declared.errors.ErrorKind.{ErrorKind}
 use Rattle.msi_base.specs.declared.errors.ErrorKind.TheVariants.{OutOfMemory}
@@ -81,12 +81,3 @@ fault_found f all i d kind error (Some place) inside same at (inr e) =
     ap (λ (n : ℕ). first_refusal (f (get_or (names_in all) n []))) at.0
     ∙ ap (λ (name : List ℕ). first_refusal (f name)) (get_or-map (λ (n : Bor (List ℕ)). n.now) all i d [] inside)
     ∙ e ∙ ap Some (sym same)
-
--- a reason that is tested by itself, in front of others
-pub one_passes : (b reason : Bool) (k : ErrorKind) (rs : Refusals) (x y : Unit {0}) → b ≡ reason → Ok y ≡ unless_refused ((b, k) ∷ []) x → first_refusal ((reason, k) ∷ rs) ≡ first_refusal rs
-one_passes true reason k rs x y same e = cc (e)
-one_passes false reason k rs x y same e = rw (← same) refl
-
-pub one_stops : (b reason : Bool) (k l : ErrorKind) (rs : Refusals) (x : Unit {0}) → b ≡ reason → Err l ≡ unless_refused ((b, k) ∷ []) x → first_refusal ((reason, k) ∷ rs) ≡ Some l
-one_stops true reason k l rs x same e = let h : k ≡ l = cc (e) in rw (← same) (ap Some h)
-one_stops false reason k l rs x same e = cc (e)

@@ -1,11 +1,9 @@
 pub mod BaseLemmas
 pub mod FitnessLemmas
-pub mod MakingLemmas
 pub mod MakingRows
 pub mod MaskLemmas
 pub mod PageLemmas
 pub mod SchemaLemmas
 pub mod SideLemmas
-pub mod StepLemmas
 pub mod StoringLemmas
 pub mod ToldRowsLemmas

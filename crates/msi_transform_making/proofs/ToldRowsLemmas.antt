@@ -1,5 +1,5 @@
 -- Rows under keys: the map that its entries make, in the order of keys.
-use Rattle.std.proofs.Common.{◌≡◌, ℕ, ◌+◌, ◌-◌, ◌<◌, ◌≤◌, Bool, true, false, cond, ◌&&◌, List, [], ◌∷◌, length, map, drop, get_or, refl, sym, ap, subst, ◌∙◌, arith}
+use Rattle.std.proofs.Common.{◌≡◌, ℕ, ◌+◌, ◌-◌, ◌<◌, Bool, true, false, cond, ◌&&◌, List, [], ◌∷◌, length, map, drop, get_or, refl, sym, ap, subst, ◌∙◌, arith}
 use Rattle.std.specs.Prelude.{Some, T}
 use Rattle.std.specs.List.{AllByRecursion}
 use Rattle.std.specs.BTreeMap.{is_at}
@@ -11,7 +11,7 @@ use Rattle.std.specs.List.Sorted.{IsStrictlySortedBy}
 use Rattle.std.specs.Map.{keys_of, lookup}
 use Rattle.std.specs.Ordering.{eq_by_cmp, is_lt}
 use Rattle.std.specs.declared.cmp.Ordering.TheVariants.{Less}
-use Rattle.std.proofs.lemmas.List.{drop_all, drop_more}
+use Rattle.std.proofs.lemmas.List.{drop_more}
 use Rattle.msi_table_values.specs.declared.value.Value.{Value}
 use Rattle.msi_table_values.specs.OrderLaws.{value_cmp-total, values_tie}
 use Rattle.msi_transform_applying.specs.KeyOfRows.{key_cmp}
@@ -85,12 +85,6 @@ last_rest {X = X} xs i x inside at =
     let below : length xs - 1 - i < length xs = omega arith in
     ap (λ (n : ℕ). drop n xs) j ∙ drop_more xs (length xs - 1 - i) x below
     ∙ ap (λ (y : X). y ∷ drop (length xs - 1 - i + 1) xs) (sym at) ∙ ap (λ (n : ℕ). x ∷ drop n xs) next
-
-pub none_put : {X : Type 0} (xs : List X) → drop (length xs - 0) xs ≡ []
-none_put xs = drop_all (length xs - 0) xs (omega arith)
-
-pub all_put : {X : Type 0} (xs : List X) (i : ℕ) → length xs ≤ i → drop (length xs - i) xs ≡ xs
-all_put {X = X} xs i past = let none : length xs - i ≡ 0 = omega arith in ap (λ (n : ℕ). drop n xs) none
 
 pub row_put : {X Y : Type 0} (f : Y → List Value × ToldRow) (g : X → Y) (xs : List X) (i : ℕ) (x : X) (before after : ToldRows) (e : List Value × ToldRow) → i < length xs
     → x ≡ get_or xs (length xs - 1 - i) x → e ≡ f (g x) → before ≡ by_keys (map f (map g (drop (length xs - i) xs))) → after ≡ put key_cmp e.0 e.1 before

@@ -21,7 +21,8 @@ use Rattle.msi_table_values.specs.declared.value.Value.TheVariants.{Null, Str, B
 use Rattle.msi_table_values.specs.Values.{is_null, value_cmp}
 use Rattle.msi_table_values.specs.Columns.{ColumnDef}
 use Rattle.msi_database_schema.specs.Schema.{value_at}
-use Rattle.msi_database_schema.specs.System.{columns_columns, columns_name, is_schema_table, tables_columns, tables_name}
+use Rattle.msi_database_schema.specs.System.{columns_columns, columns_name, is_schema_table}
+use Rattle.msi_database_schema.specs.System.{tables_columns, tables_name}
 use Rattle.msi_database_changes.specs.Database.{Database, has_table, table_at}
 use Rattle.msi_database_changes.specs.Texts.{PoolInUse, cell_put, in_turn}
 use Rattle.msi_database_storage.specs.Kept.{Kept}
