@@ -208,10 +208,7 @@ fn obey(
             Ok(0)
         }
         Command::Change(made) => change(rt, asked, made, output, errors),
-        Command::ChangeInto {
-            change,
-            target,
-        } => make(rt, asked, change, target, errors),
+        Command::ChangeInto { change, target } => make(rt, asked, change, target, errors),
         Command::ShowTransform { base, is_json } => {
             print_transform(rt, asked, base, is_json, output, errors)
         }

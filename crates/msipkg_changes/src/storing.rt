@@ -59,7 +59,11 @@ pub(crate) fn store_new(
         Err(error) => return Err(refusal(alloc, &package, error)),
     };
     let bytes = checked(alloc, path, bytes, state, manner, errors)?;
-    at_file(alloc, path, write_package(rt, path, target.is_forced, &bytes))?;
+    at_file(
+        alloc,
+        path,
+        write_package(rt, path, target.is_forced, &bytes),
+    )?;
     note_signature(path, is_signed, errors);
     Ok(())
 }
