@@ -34,7 +34,7 @@ use msi_table_values::parts::ValueView;
 use std::alloc::{AllocError, Global};
 
 /// Returns whether a column's cells stand for streams.
-pub(crate) fn is_of_streams(coltype: ColumnType) -> bool
+pub fn is_of_streams(coltype: ColumnType) -> bool
     ensures { result ≡ holds_stream coltype }
 {
     matches!(coltype, ColumnType::Binary)

@@ -55,6 +55,11 @@ module _ (shapes : List Shape) (action : Action) (i : ℕ) (d : Shape) (within :
     taken c others x e t takes = append_assoc done (x ∷ []) (f (cells_after (i + 1) shapes action others))
         ∙ ap (λ (l : List X). done ++ l) (sym (takes (cells_after (i + 1) shapes action others))) ∙ front c others e t
 
+    pub taken_all : (c : ValueRef) (others : List ValueRef) (xs : List X) → rest ≡ c ∷ others → tells action i (get_or shapes i d) ≡ true
+        → ((l : List ((ℕ × Shape) × ValueRef)) → f (((i, get_or shapes i d), c) ∷ l) ≡ xs ++ f l) → (done ++ xs) ++ f (cells_after (i + 1) shapes action others) ≡ all
+    taken_all c others xs e t takes = append_assoc done xs (f (cells_after (i + 1) shapes action others))
+        ∙ ap (λ (l : List X). done ++ l) (sym (takes (cells_after (i + 1) shapes action others))) ∙ front c others e t
+
     pub passed_over : (c : ValueRef) (others : List ValueRef) → rest ≡ c ∷ others → tells action i (get_or shapes i d) ≡ true
         → ((l : List ((ℕ × Shape) × ValueRef)) → f (((i, get_or shapes i d), c) ∷ l) ≡ f l) → done ++ f (cells_after (i + 1) shapes action others) ≡ all
     passed_over c others e t passes = ap (λ (l : List X). done ++ l) (sym (passes (cells_after (i + 1) shapes action others))) ∙ front c others e t

@@ -1,10 +1,11 @@
 //! The cells of records, and their bytes.
 
-ghost use Rattle.std.specs.Prelude.{◌≡◌, ◌<◌, ◌≤◌, ◌+◌, ◌++◌, ◌^◌, length, OnOk};
+ghost use Rattle.std.specs.Prelude.{◌≡◌, ◌<◌, ◌≤◌, ◌+◌, ◌++◌, ◌^◌, ◌+ℤ◌, length, OnOk, pos};
+ghost use Rattle.std.specs.Int.{cast_unsigned, w16};
 ghost use Rattle.msi_base.specs.Results.{OnlyMemory};
 ghost use Rattle.msi_base.specs.declared.errors.ErrorKind.TheVariants.{InvalidData};
 ghost use Rattle.msi_table.specs.Cells.{cell_of_number, width as width_of};
-ghost use Rattle.msi_transform_records.specs.Cells.{FitsCell, bytes_of_cell, cell_at, cell_of_bytes, number_of_cell};
+ghost use Rattle.msi_transform_records.specs.Cells.{bytes_of_cell, cell_at, cell_of_bytes, number_of_cell};
 ghost use Rattle.msi_transform_records.specs.Cells.{stream_cell as cell_of_streams, text_cell as cell_of_texts};
 ghost use Rattle.msi_transform_records.specs.Reading.{Reads};
 
@@ -104,14 +105,27 @@ pub(crate) fn read_cell<'a>(
     Ok((cell, rest))
 }
 
-/// Returns the number whose bytes a cell takes, where it fits its column.
-fn number_for(long: bool, coltype: ColumnType, cell: ValueRef) -> u32
-    requires { FitsCell long coltype cell }
+/// Returns the number whose bytes a number takes in a column of short ones. Those that are far too low for it take 0.
+fn short_number(number: i32) -> u32
+    ensures { result ≡ cast_unsigned w16 (number +ℤ pos (2 ^ 15)) }
+{
+    let number = number as i64 + 0x8000;
+    if number >= 0 {
+        return number as u32;
+    }
+    if number < -0x10000 {
+        return 0;
+    }
+    (number + 0x10000) as u32
+}
+
+/// Returns the number whose bytes a cell takes.
+fn number_for(coltype: ColumnType, cell: ValueRef) -> u32
     ensures { result ≡ number_of_cell coltype cell }
 {
     match coltype {
         ColumnType::Int16 => match cell {
-            ValueRef::Int(number) => (number as i64 + 0x8000) as u32,
+            ValueRef::Int(number) => short_number(number),
             ValueRef::Null | ValueRef::Str(_) | ValueRef::Binary => 0,
         },
         ColumnType::Int32 => match cell {
@@ -129,18 +143,17 @@ fn number_for(long: bool, coltype: ColumnType, cell: ValueRef) -> u32
     }
 }
 
-/// Appends the bytes of a cell that fits its column.
+/// Appends the bytes of a cell.
 pub(crate) fn push_cell(
     bytes: &mut Vec<u8>,
     long: bool,
     coltype: ColumnType,
     cell: ValueRef,
 ) -> Result<(), Error>
-    requires { FitsCell long coltype cell }
     ensures ok { OnOk result (bytes.new.items ≡ bytes.old.items ++ bytes_of_cell long coltype cell) }
     ensures kind { OnlyMemory result }
 {
-    let number = number_for(long, coltype, cell).to_le_bytes();
+    let number = number_for(coltype, cell).to_le_bytes();
     bytes.extend_from_slice(&number[..width(long, coltype)])?;
     Ok(())
 }

@@ -3,7 +3,7 @@
 ghost use Rattle.std.specs.Prelude.{◌≡◌, ◌++◌, OnOk};
 ghost use Rattle.msi_base.specs.Results.{OnlyMemory};
 ghost use Rattle.msi_transform_records.specs.Actions.{told};
-ghost use Rattle.msi_transform_records.specs.Records.{FitColumns, FitsRecord, record_bytes, told_bytes};
+ghost use Rattle.msi_transform_records.specs.Records.{record_bytes, told_bytes};
 
 use crate::action::Action;
 use crate::cells::push_cell;
@@ -22,24 +22,26 @@ fn push_cells(
     action: Action,
     cells: &[ValueRef],
 ) -> Result<(), Error>
-    requires { FitColumns long (told shapes.now action) cells.now }
     ensures ok { OnOk result (bytes.new.items ≡ bytes.old.items ++ told_bytes long (told shapes.now action) cells.now) }
     ensures kind { OnlyMemory result }
 {
     let mut rest = cells;
     for i in 0..shapes.len() {
-        if tells(action, i, shapes[i])
-            && let Some((cell, others)) = rest.split_first()
-        {
-            push_cell(bytes, long, shapes[i].coltype, *cell)?;
-            rest = others;
+        if !tells(action, i, shapes[i]) {
+            continue;
         }
+        let Some((cell, others)) = rest.split_first() else {
+            continue;
+        };
+        push_cell(bytes, long, shapes[i].coltype, *cell)?;
+        rest = others;
     }
     Ok(())
 }
 
 /// Appends the bytes of a record of a table with such columns, with references of three bytes where they are long, and
-/// otherwise of two. The record has to have a cell for each column that its action tells, which fits the column.
+/// otherwise of two. They read as the record where that has a cell for each column that its action tells, which fits
+/// the column.
 ///
 /// # Errors
 /// Fails with `OutOfMemory`; the bytes may then have a part of the record.
@@ -49,7 +51,6 @@ pub fn push_record(
     shapes: &[Shape],
     record: &Record,
 ) -> Result<(), Error>
-    requires { FitsRecord long shapes.now «record».now }
     ensures ok { OnOk result (bytes.new.items ≡ bytes.old.items ++ record_bytes long shapes.now «record».now) }
     ensures kind { OnlyMemory result }
 {

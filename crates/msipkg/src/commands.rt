@@ -6,7 +6,9 @@ use crate::escapes::escapes_of;
 use crate::looking::look_at_each;
 use clap::ArgMatches;
 use clap::error::ErrorKind;
-use msipkg_changes::{Change, change_file, create_file, prepare_statements, read_script};
+use msipkg_changes::{
+    Change, Destination, change_file, change_into, create_file, prepare_statements, read_script,
+};
 use msipkg_cli::{given_verb, matches_of};
 use msipkg_diff::compare_files;
 use msipkg_format::{Failure, Output, Shown, Style, System};
@@ -206,19 +208,9 @@ fn obey(
             Ok(0)
         }
         Command::Change(made) => change(rt, asked, made, output, errors),
+        Command::ChangeInto { change, target } => make(rt, asked, change, target, errors),
         Command::ShowTransform { base, is_json } => {
-            let base = base.map(|path| asked.package(path, Purpose::Look));
-            let transform = asked.file();
-            show_transform(
-                rt,
-                asked.style,
-                transform,
-                base.as_ref(),
-                is_json,
-                output,
-                errors,
-            )?;
-            Ok(0)
+            print_transform(rt, asked, base, is_json, output, errors)
         }
         Command::Script(path) => execute_script(rt, asked, path, output, errors),
         Command::Batch => Err(Failure::rule("batch is no command of a batch")),
@@ -248,6 +240,29 @@ pub(crate) fn with_input(rt: &System, files: &[&str]) -> Result<System, Failure>
     }
 }
 
+/// Prints a transform, beside a package if one is named.
+fn print_transform(
+    rt: &System,
+    asked: &Asked<'_, '_>,
+    base: Option<&str>,
+    is_json: bool,
+    output: &mut Output,
+    errors: &mut Output,
+) -> Result<u8, Failure> {
+    let base = base.map(|path| asked.package(path, Purpose::Look));
+    let transform = asked.file();
+    show_transform(
+        rt,
+        asked.style,
+        transform,
+        base.as_ref(),
+        is_json,
+        output,
+        errors,
+    )?;
+    Ok(0)
+}
+
 fn compare(
     rt: &System,
     asked: &Asked<'_, '_>,
@@ -274,6 +289,20 @@ fn change(
     let purpose = asked.purpose_of_change(Purpose::Recode);
     let file = asked.package(asked.file(), purpose);
     change_file(rt, &file, made, manner_of(asked), output, errors)?;
+    Ok(0)
+}
+
+/// Makes a new file of a package, with a change made.
+fn make(
+    rt: &System,
+    asked: &Asked<'_, '_>,
+    change: Change<'_, '_>,
+    target: Destination<'_>,
+    errors: &mut Output,
+) -> Result<u8, Failure> {
+    let purpose = asked.purpose_of_change(Purpose::Recode);
+    let file = asked.package(asked.file(), purpose);
+    change_into(rt, &file, change, target, manner_of(asked), errors)?;
     Ok(0)
 }
 

@@ -30,6 +30,7 @@ pub(crate) fn escapes_of(verb: Verb, given: &ArgMatches<'_>, is_terminal: bool) 
         | Verb::Exec
         | Verb::Export
         | Verb::Import
+        | Verb::ApplyTransform
         | Verb::Batch => Escapes::Nothing,
     }
 }

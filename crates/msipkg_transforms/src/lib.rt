@@ -9,7 +9,8 @@ mod records;
 pub mod showing;
 pub mod validation;
 
-pub use conditions::words_of;
+pub use conditions::{conditions_of, words_of};
 pub use file::{TransformFile, read_transform};
+pub use msi_transform::ErrorConditions;
 pub use showing::show_transform;
 pub use validation::validation_words;

@@ -1,0 +1,9 @@
+pub mod BaseLemmas
+pub mod FitnessLemmas
+pub mod MakingRows
+pub mod MaskLemmas
+pub mod PageLemmas
+pub mod SchemaLemmas
+pub mod SideLemmas
+pub mod StoringLemmas
+pub mod ToldRowsLemmas

@@ -1,0 +1,5 @@
+-- The words of this crate.
+pub mod Making
+pub mod MakingRefusals
+pub mod Names
+pub mod Telling

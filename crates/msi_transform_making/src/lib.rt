@@ -1,0 +1,22 @@
+//! Making a transform of two databases.
+#![tactic(auto)]
+
+pub mod base;
+mod differences;
+mod differing;
+mod fitness;
+mod making;
+mod reading;
+mod reasons;
+mod record;
+mod refusal;
+mod schema_records;
+mod seen;
+mod storing;
+mod tables;
+mod telling;
+mod told;
+
+pub use base::Base;
+pub use making::make;
+pub use refusal::MakingRefusal;
