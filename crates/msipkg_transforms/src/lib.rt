@@ -12,5 +12,6 @@ pub mod validation;
 pub use conditions::{conditions_of, words_of};
 pub use file::{TransformFile, read_transform};
 pub use msi_transform::ErrorConditions;
+pub use records::key_at;
 pub use showing::show_transform;
 pub use validation::validation_words;
