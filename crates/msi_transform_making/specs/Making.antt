@@ -33,10 +33,11 @@ use Rattle.msi_transform_records.specs.declared.records.Record.{Record}
 use Rattle.msi_transform_records.specs.declared.shape.Shape.{Shape}
 use Rattle.msi_transform_records.specs.Records.{record_bytes, record_with}
 use Rattle.msi_transform.specs.Transforms.{TransformDef, shapes_of}
-use Rattle.msi_transform_applying.specs.RowStreams.{has_streams, is_of_streams, row_stream}
-use Rattle.msi_transform_applying.specs.KeyOfRows.{key_cmp}
-use Rattle.msi_transform_applying.specs.SchemaChanges.{is_name_to_list}
-use Rattle.msi_transform_applying.specs.Applying.{is_broken, reads_back, same_stream, system_rows}
+use Rattle.msi_transform_rows.specs.RowStreams.{has_streams, is_of_streams, row_stream}
+use Rattle.msi_transform_rows.specs.KeyOfRows.{key_cmp}
+use Rattle.msi_transform_schema.specs.SchemaChanges.{is_name_to_list}
+use Rattle.msi_transform_applying.specs.Applying.{is_broken, reads_back, same_stream}
+use Rattle.msi_transform_schema.specs.SchemaApplying.{system_rows}
 
 -- ROWS AS THEY ARE TOLD
 
