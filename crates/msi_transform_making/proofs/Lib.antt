@@ -6,4 +6,5 @@ pub mod PageLemmas
 pub mod SchemaLemmas
 pub mod SideLemmas
 pub mod StoringLemmas
+pub mod StreamNamesLemmas
 pub mod ToldRowsLemmas

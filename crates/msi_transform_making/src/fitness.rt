@@ -32,6 +32,7 @@ use crate::base::Base;
 use crate::reasons;
 use crate::refusal::MakingRefusal;
 use crate::schema_records::described_columns;
+use crate::stream_names::shares_stream;
 use crate::told::ToldRows;
 use msi_base::codepage::CodePage;
 use msi_base::errors::{Error, ErrorKind, Reason};
@@ -377,6 +378,7 @@ pub(crate) fn check_pair<'a>(
     refuse_if(is_unfit(new)?, reasons::NEW_UNFIT)?;
     refuse_if(loses_page(old, new), reasons::PAGE_LOST)?;
     refuse_if(lacks_text(new), reasons::TEXT_NOT_IN_PAGE)?;
+    refuse_if(shares_stream(old, new)?, reasons::STREAM_SHARED)?;
     let names = new.told_names()?;
     check_tables(old, new, described, names.as_slice())
 }

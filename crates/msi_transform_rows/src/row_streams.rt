@@ -56,7 +56,11 @@ fn push_key_value(text: &mut String, value: ValueView) -> Result<(), AllocError>
     }
 }
 
-fn stream_text(alloc: Global, table: &str, key: &[ValueView]) -> Result<String, AllocError>
+/// Returns the text that names the stream of a row: its table's name and the values of its key.
+///
+/// # Errors
+/// Fails if memory is refused.
+pub fn stream_text(alloc: Global, table: &str, key: &[ValueView]) -> Result<String, AllocError>
     ensures { IfOk result (λ text. string_bytes text ≡ text_of_stream table.now (seen_row key.now)) }
 {
     let mut text = String::from_str(alloc, table)?;
