@@ -17,10 +17,9 @@ is_installer kind.Installer = true
 is_installer kind.Patch = false
 is_installer kind.Transform = false
 
--- both have to be installer packages, the old one first
-abbrev pub kind_refusals : State → State → Refusals
-kind_refusals old new =
-    (not (is_installer old.kind), InvalidInput) ∷ (not (is_installer new.kind), InvalidInput) ∷ []
+-- both packages have to be of those that install a product, the old one first
+abbrev pub kind_refusal : PackageType → Refusals
+kind_refusal kind = (not (is_installer kind), InvalidInput) ∷ []
 
 -- a package, as a transform is made of it
 abbrev pub side_of : State → Side
@@ -31,8 +30,8 @@ pair_of_states old new = pair_of (side_of old) (side_of new)
 
 -- the transform of two packages
 abbrev pub transform_made : State → State → Result TransformDef ErrorKind
-transform_made old new =
-    unless_refused (kind_refusals old new) tt >>= λ u. transform_between (side_of old) (side_of new)
+transform_made old new = unless_refused (kind_refusal old.kind) tt >>= λ u.
+    unless_refused (kind_refusal new.kind) tt >>= λ u. transform_between (side_of old) (side_of new)
 
 -- the faults that have to pass where it is applied to the old package
 abbrev pub conditions_needed : Pair → ErrorConditions

@@ -1,11 +1,10 @@
 //! Making a transform: of a package and of what it has become.
 
-ghost use Rattle.std.specs.Prelude.{◌≡◌, ◌∷◌, [], IfErr, IfOk, Ok, not};
-ghost use Rattle.msi_base.specs.declared.errors.ErrorKind.TheVariants.{InvalidInput};
+ghost use Rattle.std.specs.Prelude.{◌≡◌, IfErr, IfOk, Ok};
 ghost use Rattle.msi_base.specs.Refusals.{IsRefusal, unless_refused};
 ghost use Rattle.msi_transform_making.specs.Making.{table_reasons, told_names};
 ghost use Rattle.msi_transform_making.specs.MakingRefusals.{IsAtFault};
-ghost use Rattle.msi.specs.TransformMaking.{conditions_needed as needed, is_installer, pair_of_states, transform_made};
+ghost use Rattle.msi.specs.TransformMaking.{conditions_needed as needed, kind_refusal, pair_of_states, transform_made};
 
 use crate::package::{Package, settle};
 use crate::reasons;
@@ -17,7 +16,7 @@ use msi_transform::{ErrorConditions, Transform};
 use msi_transform_making::MakingRefusal;
 
 fn check_installer(kind: PackageType, reason: Reason) -> Result<(), Error>
-    ensures { result ≡ unless_refused ((not (is_installer kind), InvalidInput) ∷ []) tt }
+    ensures { result ≡ unless_refused (kind_refusal kind) tt }
 {
     match kind {
         PackageType::Installer => Ok(()),

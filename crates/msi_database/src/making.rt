@@ -27,8 +27,8 @@ impl Database {
     }
 
     /// Returns the transform that makes a new database of this one: of its page, of its tables with their columns and
-    /// rows, and of the streams of rows. `page_id` is the id of this one's code page as it is stored, or 0 where that is
-    /// neutral, and `new_page_id` that of the new one's. It costs the rows of all tables times a logarithm.
+    /// rows, and of the streams of rows. `page_id` is the id of this one's code page as it is stored, or 0 where that
+    /// is neutral, and `new_page_id` that of the new one's. It costs the rows of all tables times a logarithm.
     ///
     /// # Errors
     /// Fails with `InvalidData` if this database isn't sound, and then if the new one isn't. Then it fails with

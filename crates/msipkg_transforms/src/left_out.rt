@@ -1,5 +1,5 @@
-//! What differs between two packages and is in no transform: properties of the summary, streams of no row, signatures and
-//! storages.
+//! What differs between two packages and is in no transform: properties of the summary, streams of no row, signatures
+//! and storages.
 
 use msipkg_format::{Failure, JsonObject, Opened, Output, Shown, StoredProperty, stream_name};
 use msipkg_packages::msi::{ColumnType, Package, SummaryInfo, SummaryProperty, Table};
