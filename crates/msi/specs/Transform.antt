@@ -4,6 +4,7 @@ pub use Rattle.msi_transform.specs.StoredPools
 pub use Rattle.msi_transform.specs.TransformFiles
 pub use Rattle.msi_transform.specs.Transforms
 pub use Rattle.msi_transform.specs.WrittenTransforms
+pub use Rattle.msi_transform.specs.declared.conditions.ErrorConditions
 pub use Rattle.msi_transform_applying.specs.Applying
 pub use Rattle.msi_transform_applying.specs.RecordRefusals
 pub use Rattle.msi_transform_applying.specs.RowChanges
