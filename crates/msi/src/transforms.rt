@@ -30,7 +30,7 @@ fn stored_page(database: &Database, is_pool_changed: bool) -> u32
 fn look_at_names(streams: &StreamMap)
     ensures { HaveNames (entries streams.now) }
 {
-    for (name, _bytes) in streams.iter() {
+    for (name, _) in streams.iter() {
         let _units = name.units();
     }
 }
