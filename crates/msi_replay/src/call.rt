@@ -4,6 +4,7 @@ use msi::{
     CodePage, Column, Delete, Insert, Items, LanguageId, NumberProperty, Select, SummaryProperty,
     Text, TextProperty, TimeProperty, Timestamp, Update,
 };
+use msi::transforms::{ErrorConditions, Transform};
 use std::io::SeekFrom;
 use uuid::Uuid;
 
@@ -95,6 +96,8 @@ pub enum Change {
     DropTable(Text),
     /// Adds a column to the table of this name.
     AddColumn(Text, Column),
+    /// Applies a transform, where these faults of its records pass.
+    ApplyTransform(Transform, ErrorConditions),
     /// Sets the page in which the database's texts are written.
     SetDatabaseCodepage(CodePage),
     /// Removes the stream of this name.
