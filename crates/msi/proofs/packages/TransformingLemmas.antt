@@ -48,4 +48,3 @@ module _ (old : Whole) (t : TransformDef) (passing : ErrorConditions) (view : Wh
 -- what is left is kept, under names of a container
 pub left_kept : (k : Kept) (name : Option (List ℕ)) (bytes : List ℕ) → name ≡ None → HaveNames k.streams → IsKeptDatabase k → IsLeft (with_open name bytes k)
 left_kept k name bytes none names kept = subst (λ (o : Option (List ℕ)). IsLeft (with_open o bytes k)) (sym none) (record { names = names; database = kept })
-
