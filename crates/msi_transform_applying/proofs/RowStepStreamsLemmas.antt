@@ -12,6 +12,7 @@ use Rattle.msi_database_changes.proofs.describing.ShownTablesLemmas.{ok_first}
 use Rattle.msi_database_changes.proofs.steps.RefusedLemmas.{not_refused, same_Ok}
 use Rattle.msi_database_schema.specs.Keys.{is_stream_name, stream_key, table_key}
 use Rattle.msi_database_schema.specs.Schema.{value_at}
+use Rattle.msi_database_storage.specs.Storing.{stream_gone}
 use Rattle.msi_table_cells.specs.CellValues.{row_values}
 use Rattle.msi_table_cells.specs.KeyOrder.{key_of}
 use Rattle.msi_table_cells.specs.declared.cell.ValueRef.{ValueRef}
@@ -26,7 +27,7 @@ use Rattle.msi_transform_records.specs.declared.records.Record.{Record}
 use Rattle.msi_transform_records.specs.declared.shape.Shape.{Shape}
 use Rattle.msi_transform_rows.specs.RowChanges.{RowsInHand, TableChange, action_applied, cells_changed, pool_for, record_applied, row_added, row_at, row_changed, row_removed, streams_without, values_told, with_changes, with_row, without_row}
 use Rattle.msi_transform_rows.specs.RowStreams.{brought, has_streams, row_stream, row_stream_gone, row_stream_stored, stored_as, stream_text, told_by_changes, told_by_row}
-use Rattle.msi_transform_schema.specs.SchemaChanges.{SchemaChange, SchemaInHand, TableInHand, column_added, column_put, column_record_applied, column_row_added, column_told, columns_in_hand, counted_on, describing_applied, describing_row, has_number, is_gone, is_unlisted, listing_applied, name_to_list, new_column_refusals, number_told, numbered_column_added, old_column_refusals, streams_of_rows, table_added, table_in_hand, table_put, table_record_applied, table_removed, text_told, was_dropped, with_column, with_table, with_table_added, with_table_found, with_table_gone}
+use Rattle.msi_transform_schema.specs.SchemaChanges.{SchemaChange, SchemaInHand, TableInHand, column_added, column_put, column_record_applied, column_row_added, column_told, columns_in_hand, columns_of_package, counted_on, describing_applied, describing_row, has_number, is_gone, is_unlisted, listing_applied, name_to_list, new_column_refusals, number_told, numbered_column_added, old_column_refusals, rows_of_package, streams_of_rows, table_added, table_in_hand, table_put, table_record_applied, table_removed, text_told, was_dropped, with_column, with_table, with_table_added, with_table_found, with_table_gone}
 use Rattle.msi_transform_rows.specs.declared.row.RowInHand.{RowInHand}
 use Rattle.msi_transform_rows.specs.declared.row.RowStream.{RowStream}
 use Rattle.msi_transform_rows.specs.declared.row.RowStream.TheVariants.{AsBefore, Gone, Brought}
@@ -123,7 +124,11 @@ module _ (key : List ℕ) (of_no_table : (name : List ℕ) → key ≢ table_key
     gone_by : (b : Bool) (s t : SchemaInHand) (name : List ℕ) (table : TableInHand)
         → (if b then unless_refused ((not change.passing.removed_table_missing, NotFound) ∷ []) s else Ok (with_table_gone change.database name table s)) ≡ Ok t → SchemaSilent s → SchemaSilent t
     gone_by true s t name table is h = subst SchemaSilent (not_refused ((not change.passing.removed_table_missing, NotFound) ∷ []) s t is).1 h
-    gone_by false s t name table is h = subst SchemaSilent (same_Ok (with_table_gone change.database name table s) t is) (joined s.streams _ h (of_no_table name, rows_silent name _ _))
+    gone_by false s t name table is h =
+        let columns = columns_of_package change.database name table.standing in
+        let rows : List (List Value) = map (row_values change.database.pool.places) (rows_of_package change.database name table.standing) in
+        subst SchemaSilent (same_Ok (with_table_gone change.database name table s) t is)
+        (joined s.streams (stream_gone name ∷ streams_of_rows name columns rows) h (of_no_table name, rows_silent name columns rows))
 
     put_keeps : (s t : SchemaInHand) (name : List ℕ) → table_put change name s ≡ Ok t → SchemaSilent s → SchemaSilent t
     put_keeps s t name is h =
