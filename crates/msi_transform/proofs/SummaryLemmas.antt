@@ -2,6 +2,7 @@
 use Rattle.std.proofs.Common.{◌≡◌, ℕ, false, List, Some, refl, sym, ap, subst, ◌∙◌}
 use Rattle.std.specs.FinMap.{entries, insert}
 use Rattle.msi_container_format.specs.Streams as maps
+use Rattle.msi_pool.specs.Pool.{Pool}
 use Rattle.msi_database_schema.specs.Keys.{summary_key}
 use Rattle.msi_database_storage.specs.Streams.{Streams, with_stream}
 use Rattle.msi_database_storage.proofs.StreamLemmas.{names_put, sorted_put}
@@ -33,3 +34,14 @@ summary_made t bytes h = record {
   streams = sorted_put summary_key bytes t.streams h.streams;
   others = names_put (λ name. is_table_key name ≡ false) summary_key (Some bytes) t.streams summary_no_table h.others;
 }
+
+module _ (page_id : ℕ) (pool : Pool) (tables : List (List ℕ × List ℕ)) where
+  abbrev parts : Streams → TransformDef
+  parts streams = record { page_id = page_id; pool = pool; tables = tables; streams = streams }
+
+  module _ (m n : maps.Streams) (t : TransformDef) (view : parts (entries m) ≡ t) (key bytes put : List ℕ) (is : n ≡ insert m key put) (named : key ≡ summary_key) (held : put ≡ bytes) where
+    pub summary_set : parts (entries n) ≡ with_summary bytes t
+    summary_set = ap parts (summary_put m n key bytes put is named held) ∙ ap (with_summary bytes) view
+
+    pub set_made : IsMade t → IsMade (parts (entries n))
+    set_made h = subst IsMade (sym summary_set) (summary_made t bytes h)
