@@ -8,9 +8,8 @@ ghost use Rattle.msi.specs.TransformMaking.{conditions_needed as needed, kind_re
 ghost use Rattle.msi.specs.TransformMaking.{pair_of_states, transform_made};
 
 use crate::package::{Package, settle};
-use crate::reasons;
 use crate::transforms::stored_page;
-use crate::PackageType;
+use crate::{PackageType, reasons};
 use msi_base::errors::{Error, ErrorKind, Reason};
 use msi_container_device::Source;
 use msi_transform::{ErrorConditions, Transform};
@@ -62,7 +61,8 @@ impl<F: Source> Package<F> {
         settle(&mut new.database, &mut new.open, &mut new.current);
         let page_id = stored_page(&self.database, self.is_pool_changed);
         let new_page_id = stored_page(&new.database, new.is_pool_changed);
-        self.database.transform_to(page_id, &new.database, new_page_id)
+        self.database
+            .transform_to(page_id, &new.database, new_page_id)
     }
 
     /// Returns the faults that have to pass where the transform of `transform_to` is applied to this package: that the
