@@ -1,10 +1,11 @@
 //! Making a transform: of a package and of what it has become.
 
-ghost use Rattle.std.specs.Prelude.{◌≡◌, IfErr, IfOk, Ok};
+ghost use Rattle.std.specs.Prelude.{◌≡◌, ◌==◌, ◌&&◌, IfErr, IfOk, Ok, not};
 ghost use Rattle.msi_base.specs.Refusals.{IsRefusal, unless_refused};
 ghost use Rattle.msi_transform_making.specs.Making.{table_reasons, told_names};
 ghost use Rattle.msi_transform_making.specs.MakingRefusals.{IsAtFault};
-ghost use Rattle.msi.specs.TransformMaking.{conditions_needed as needed, kind_refusal, pair_of_states, transform_made};
+ghost use Rattle.msi.specs.TransformMaking.{conditions_needed as needed, kind_refusal, only_other_page};
+ghost use Rattle.msi.specs.TransformMaking.{pair_of_states, transform_made};
 
 use crate::package::{Package, settle};
 use crate::transforms::stored_page;
@@ -75,9 +76,14 @@ impl<F: Source> Package<F> {
         settle(&mut new.database, &mut new.open, &mut new.current);
         let page_id = stored_page(&self.database, self.is_pool_changed);
         let new_page_id = stored_page(&new.database, new.is_pool_changed);
-        ErrorConditions {
-            other_page: page_id != 0 && page_id != new_page_id,
-            ..ErrorConditions::default()
-        }
+        conditions_between(page_id, new_page_id)
     }
+}
+
+fn conditions_between(page_id: u32, new_page_id: u32) -> ErrorConditions
+    ensures { result ≡ only_other_page (not (page_id == 0) && not (page_id == new_page_id)) }
+{
+    let mut conditions = ErrorConditions::default();
+    conditions.other_page = page_id != 0 && page_id != new_page_id;
+    conditions
 }
