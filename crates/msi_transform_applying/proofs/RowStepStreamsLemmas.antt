@@ -1,12 +1,11 @@
 -- The records of a transform say nothing of a stream that is no table's and no row's.
-use Rattle.std.proofs.Common.{◌≡◌, ◌≢◌, ℕ, ℤ, Bool, true, false, not, List, [], ◌∷◌, ◌++◌, map, Option, Some, None, Result, Ok, Err, subst}
-use Rattle.std.specs.Prelude.{if◌then◌else◌, unwrap_or, nat_lt, length}
-use Rattle.std.specs.List.{AllByRecursion, flat_map, fold}
+use Rattle.std.proofs.Common.{◌≡◌, ◌≢◌, ℕ, ℤ, Bool, true, false, not, List, [], ◌∷◌, ◌++◌, map, Option, Some, None, Ok, subst}
+use Rattle.std.specs.Prelude.{if◌then◌else◌, unwrap_or, length}
+use Rattle.std.specs.List.{AllByRecursion, flat_map}
 use Rattle.std.specs.Option.{option_map_or}
-use Rattle.msi_base.specs.declared.errors.ErrorKind.{ErrorKind}
 use Rattle.msi_base.specs.declared.errors.ErrorKind.TheVariants.{AlreadyExists, InvalidData, InvalidInput, NotFound}
 use Rattle.msi_base.specs.Refusals.{or_refused, unless_refused, ◌>>=◌}
-use Rattle.msi_database_changes.specs.Texts.{PoolInUse, cell_put, cell_released, in_turn}
+use Rattle.msi_database_changes.specs.Texts.{PoolInUse, cell_put, in_turn}
 use Rattle.msi_database_changes.specs.declared.storing.Stored.{Stored}
 use Rattle.msi_database_changes.proofs.describing.ShownTablesLemmas.{ok_first}
 use Rattle.msi_database_changes.proofs.steps.RefusedLemmas.{not_refused, same_Ok}
@@ -25,9 +24,9 @@ use Rattle.msi_transform_records.specs.declared.action.Action.{Action}
 use Rattle.msi_transform_records.specs.declared.action.Action.TheVariants.{Add, Remove, Change}
 use Rattle.msi_transform_records.specs.declared.records.Record.{Record}
 use Rattle.msi_transform_records.specs.declared.shape.Shape.{Shape}
-use Rattle.msi_transform_rows.specs.RowChanges.{RowsInHand, TableChange, action_applied, cells_changed, pool_for, record_applied, row_added, row_at, row_changed, row_removed, streams_without, values_told, with_changes, with_row, without_row}
+use Rattle.msi_transform_rows.specs.RowChanges.{RowsInHand, TableChange, action_applied, cells_changed, pool_for, record_applied, row_added, row_at, streams_without, values_told, with_changes, with_row, without_row}
 use Rattle.msi_transform_rows.specs.RowStreams.{brought, has_streams, row_stream, row_stream_gone, row_stream_stored, stored_as, stream_text, told_by_changes, told_by_row}
-use Rattle.msi_transform_schema.specs.SchemaChanges.{SchemaChange, SchemaInHand, TableInHand, column_added, column_put, column_record_applied, column_row_added, column_told, columns_in_hand, columns_of_package, counted_on, describing_applied, describing_row, has_number, is_gone, is_unlisted, listing_applied, name_to_list, new_column_refusals, number_told, numbered_column_added, old_column_refusals, rows_of_package, streams_of_rows, table_added, table_in_hand, table_put, table_record_applied, table_removed, text_told, was_dropped, with_column, with_table, with_table_added, with_table_found, with_table_gone}
+use Rattle.msi_transform_schema.specs.SchemaChanges.{SchemaChange, SchemaInHand, TableInHand, column_added, column_put, column_record_applied, column_row_added, column_told, columns_in_hand, columns_of_package, counted_on, describing_applied, describing_row, has_number, is_gone, is_unlisted, listing_applied, name_to_list, new_column_refusals, number_told, numbered_column_added, old_column_refusals, rows_of_package, streams_of_rows, table_in_hand, table_put, table_record_applied, text_told, was_dropped, with_column, with_table, with_table_added, with_table_found, with_table_gone}
 use Rattle.msi_transform_rows.specs.declared.row.RowInHand.{RowInHand}
 use Rattle.msi_transform_rows.specs.declared.row.RowStream.{RowStream}
 use Rattle.msi_transform_rows.specs.declared.row.RowStream.TheVariants.{AsBefore, Gone, Brought}

@@ -1,5 +1,5 @@
 -- An accepted transform leaves a package, sound and with exact counts.
-use Rattle.std.proofs.Common.{◌≡◌, ℕ, true, List, Result, Ok, sym, subst}
+use Rattle.std.proofs.Common.{◌≡◌, true, Ok, sym, subst}
 use Rattle.std.proofs.lemmas.Bool.{true≢false}
 use Rattle.msi_base.specs.Refusals.{unless_refused}
 use Rattle.msi_database.specs.Database.{CountsAreExact, is_sound}
