@@ -1,10 +1,10 @@
 //! Calls on a package, and on its borrowed summary and streams, as values.
 
+use msi::transforms::{ErrorConditions, Transform};
 use msi::{
     CodePage, Column, Delete, Insert, Items, LanguageId, NumberProperty, Select, SummaryProperty,
     Text, TextProperty, TimeProperty, Timestamp, Update,
 };
-use msi::transforms::{ErrorConditions, Transform};
 use std::io::SeekFrom;
 use uuid::Uuid;
 
