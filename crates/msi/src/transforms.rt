@@ -10,9 +10,10 @@ use msi_database::Database;
 use msi_transform::stored_pool::page_id_in;
 pub use msi_transform::{ErrorConditions, Fault, Transform};
 pub use msi_transform_applying::{RecordPlace, Refusal};
+pub use msi_transform_making::MakingRefusal;
 
 /// Returns the id of the code page as the package stores it, which may be 0 for UTF-8.
-fn stored_page(database: &Database, is_pool_changed: bool) -> u32
+pub(crate) fn stored_page(database: &Database, is_pool_changed: bool) -> u32
     ensures { result ≡ page_of database.now is_pool_changed }
 {
     if is_pool_changed {
