@@ -1,6 +1,6 @@
-/* Applies transforms by libmsi, for tools/check-transforms. A line of standard input is a job: the path of a package, a
-   tab, and that of a transform. The package is changed in place. An answer is a line with the codes of opening, applying
-   and committing, 0 for success; there is none of what isn't reached. */
+/* Applies transforms by libmsi, for tools/check-transforms. A line of standard input is a job: the path of a package,
+   a tab, and that of a transform. The package is changed in place. An answer is a line with the codes of opening,
+   applying and committing, 0 for success; there is none of what isn't reached. */
 #include <libmsi.h>
 #include <stdio.h>
 #include <string.h>
