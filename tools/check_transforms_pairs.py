@@ -208,6 +208,7 @@ REASONS = {
     "null-streams": "it drops a record with null in a column of streams",
     "two-streams": "it drops a record with two cells of the row's stream",
     "early-streams": "it drops a record with a stream before the last column of the key",
+    "null-keys": "it drops a record with a stream, and null in the key",
     "columns": "it loses rows of tables with 32 columns",
     "long-names": "it loses columns or rows of tables with names past 31 characters",
     "nulls": "it drops an added row with null in a column that doesn't take it",
@@ -215,6 +216,8 @@ REASONS = {
     "page": "the package's page stays, and texts that it lacks are lost",
     "wide": "it spoils packages whose references have to be widened, or are wide without need",
 }
+# Those that Wine has no part in.
+OF_LIBMSI = {"null-keys"}
 
 
 def rows_of(table):
@@ -284,6 +287,8 @@ def reasons_of_record(told, table, held):
         value, column = told.row[place], table.columns[place]
         if isinstance(value, bytes) and held.get(stream_name(told.table, table.key(told.row)), value) != value:
             found.add("old-bytes")
+        if isinstance(value, bytes) and None in table.key(told.row):
+            found.add("null-keys")
         if isinstance(value, bytes) and any(it.is_key for it in table.columns[place:]):
             found.add("early-streams")
         if value is None and column.is_stream:
