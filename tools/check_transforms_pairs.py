@@ -187,7 +187,7 @@ class Generator:
         tables = {name: self.changed(name, it) for name, it in old.tables.items() if not self.chance(0.15)}
         for number in range(self.random.choice([0, 0, 1, 2])):
             tables[f"New{number}"] = self.table(f"New{number}")
-        if self.special == "wide" and self.chance(0.2):
+        if self.special == "wide" and self.chance(0.3):
             rows = [[f"text {it}", it] for it in range(66000)][: self.random.choice([65600, 500])]
             tables["Many"] = Table([Column("Text", 0x2D48), Column("Number", 0x1104)], rows)
         page = self.random.choice([1252, 65001]) if self.special == "page" else self.page
