@@ -503,3 +503,25 @@ def by_bytes(names):
 def order(key):
     """Returns what keys are sorted by: null, numbers, texts by their bytes."""
     return [(0, 0) if it is None else (1, it) if isinstance(it, int) else (2, it.encode()) for it in key]
+
+
+def records_in(data, columns):
+    """Returns the records of a transform, each its mask and its values, by the names of tables with these columns."""
+    streams, found = read_compound(data)[1], {}
+    _, reference, texts = read_pool(streams)
+    for name, it in columns.items():
+        found[name] = read_records(streams.get(packed(name, True), b""), it, reference, texts)
+    return found
+
+
+def read_records(data, columns, reference, texts):
+    at, records = 0, []
+    while at < len(data):
+        mask, at, values = struct.unpack_from("<H", data, at)[0], at + 2, []
+        for place, column in enumerate(columns):
+            if place < mask >> 8 if mask & 1 else column.is_key or mask >> place & 1:
+                size = size_of(column, reference)
+                values.append(read_cell(column, data[at : at + size], texts))
+                at += size
+        records.append((mask, *values))
+    return records
