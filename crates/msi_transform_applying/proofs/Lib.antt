@@ -1,5 +1,6 @@
 pub mod ApplyingRows
 pub mod LeavingLemmas
+pub mod LengtheningLemmas
 pub mod AgreeingLemmas
 pub mod StayingLemmas
 pub mod ReadBackLemmas

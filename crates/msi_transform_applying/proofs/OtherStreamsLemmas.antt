@@ -22,7 +22,9 @@ use Rattle.msi_transform.specs.Transforms.{TransformDef, records_for, shapes_of}
 use Rattle.msi_transform.specs.declared.conditions.ErrorConditions.{ErrorConditions}
 use Rattle.msi_transform_records.specs.declared.records.Record.{Record}
 use Rattle.msi_transform_records.specs.declared.shape.Shape.{Shape}
-use Rattle.msi_transform_applying.specs.Applying.{Left, TableAnew, TablesChanged, TablesInHand, all_applied, applied, change_of, change_with, changed_with, changes_schema, complete_refusals, finished, gains_streams, last_refusals, lengthened_alone, number_of, page_refusals, pool_left, read_for, records_applied, rows_applied, rows_changed, rows_in_hand, schema_applied, schema_begun, schema_changed, schema_refusals, schema_untouched, streams_begun, streams_left, streams_stored, streams_under, table_applied, table_or_schema, table_refusals, table_stored, tables_begun, tables_changed, tables_in_turn, with_anew, with_lengthened}
+use Rattle.msi_transform_applying.specs.Applying.{Left, TableAnew, TablesChanged, TablesInHand, applied, change_of, change_with, changed_with, finished, gains_streams, last_refusals, lengthened_alone, pool_left, rows_applied, rows_changed, rows_in_hand, streams_begun, streams_left, streams_stored, streams_under, table_applied, table_or_schema, table_refusals, table_stored, tables_begun, tables_changed, tables_in_turn, with_anew, with_lengthened}
+use Rattle.msi_transform_rows.specs.TableRecords.{all_applied, changes_schema, number_of, read_for}
+use Rattle.msi_transform_schema.specs.SchemaApplying.{complete_refusals, page_refusals, records_applied, schema_applied, schema_begun, schema_changed, schema_refusals, schema_untouched}
 use Rattle.msi_transform_rows.specs.RecordRefusals.{◌>>=◌, Refusal, at_record, in_turn_from, nowhere}
 use Rattle.msi_transform_rows.specs.RowChanges.{RowsInHand, record_applied}
 use Rattle.msi_transform_rows.specs.RowStreams.{row_stream_gone}

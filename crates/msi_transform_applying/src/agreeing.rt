@@ -352,7 +352,8 @@ fn push_of_package<'a>(
         OnOk result (expected.new.items ≡ expected.old.items ++ added) }
     ensures kind { OnlyMemory result }
 {
-    for table in change.tables() {
+    let tables = change.tables();
+    for table in tables {
         push_of_staying(change, expected, said, changed, table)?;
     }
     Ok(())

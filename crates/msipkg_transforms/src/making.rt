@@ -6,8 +6,8 @@ use crate::summary::summary_of;
 use crate::transform_bytes::{TransformBytes, write_transform};
 use msi_transform::{ErrorConditions, Transform};
 use msipkg_format::{Failure, JsonObject, Opened, Output, Shown, Style, System, at_file};
-use msipkg_packages::msi::Package;
 use msipkg_packages::msi::transforms::MakingRefusal;
+use msipkg_packages::msi::{ErrorKind, Package};
 use msipkg_packages::{PackageFile, check_way, file_page, is_list, open_package};
 use std::alloc::Global;
 
@@ -96,14 +96,27 @@ fn side_of(rt: &System, file: &PackageFile<'_>, notes: &mut Output) -> Result<Si
     Ok(Side { package, page })
 }
 
+/// Returns the transform from one package to another. Texts are counted anew in memory where counts are too low for
+/// that, as many tools write them.
 fn made_of(
     alloc: Global,
     old: &mut Package<Opened>,
     new: &mut Package<Opened>,
 ) -> Result<Transform, Failure> {
-    match old.transform_to(new) {
+    let mut made = old.transform_to(new);
+    if is_unsound(&made) && old.recount().is_ok() && new.recount().is_ok() {
+        made = old.transform_to(new);
+    }
+    match made {
         Ok(made) => Ok(made),
         Err(refusal) => Err(failure_of(alloc, new, refusal)),
+    }
+}
+
+fn is_unsound(made: &Result<Transform, MakingRefusal>) -> bool {
+    match made {
+        Ok(_) => false,
+        Err(refusal) => matches!(refusal.error().kind(), ErrorKind::InvalidData),
     }
 }
 
