@@ -6,7 +6,7 @@ use Rattle.msi_base.specs.Refusals.{Refusals, unless_refused, ◌>>=◌}
 use Rattle.msi_transform.specs.Transforms.{TransformDef}
 use Rattle.msi_transform.specs.declared.conditions.ErrorConditions.{ErrorConditions}
 use Rattle.msi_transform_making.specs.Making.{Pair, Side, needs_other_page, pair_of}
-use Rattle.msi_database.specs.TransformMaking.{transform_between}
+use Rattle.msi_database.specs.TransformMaking.{side, transform_between}
 use Rattle.msi.specs.State.{State}
 use Rattle.msi.specs.Transforming.{stored_page}
 use Rattle.msi.specs.declared.kinds.PackageType.{PackageType}
@@ -23,15 +23,15 @@ kind_refusal kind = (not (is_installer kind), InvalidInput) ∷ []
 
 -- a package, as a transform is made of it
 abbrev pub side_of : State → Side
-side_of s = record { page_id = stored_page s; kept = s.kept }
+side_of s = side (stored_page s) s.kept
 
 abbrev pub pair_of_states : State → State → Pair
 pair_of_states old new = pair_of (side_of old) (side_of new)
 
 -- the transform of two packages
 abbrev pub transform_made : State → State → Result TransformDef ErrorKind
-transform_made old new = unless_refused (kind_refusal old.kind) tt >>= λ u.
-    unless_refused (kind_refusal new.kind) tt >>= λ u. transform_between (side_of old) (side_of new)
+transform_made old new = unless_refused (kind_refusal old.kind) (tt {0}) >>= λ u.
+    unless_refused (kind_refusal new.kind) (tt {0}) >>= λ u. transform_between (side_of old) (side_of new)
 
 -- the faults that have to pass where it is applied to the old package
 abbrev pub only_other_page : Bool → ErrorConditions

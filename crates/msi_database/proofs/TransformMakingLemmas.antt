@@ -1,17 +1,13 @@
 -- A transform made of two databases.
-use Rattle.std.proofs.Common.{◌≡◌, ℕ, List, Result, Ok, sym, ap, subst, ◌∙◌}
+use Rattle.std.proofs.Common.{◌≡◌, Result, Ok, sym, ap, subst, ◌∙◌}
 use Rattle.std.specs.Prelude.{IfErr, IfOk}
 use Rattle.msi_base.specs.declared.errors.ErrorKind.{ErrorKind}
 use Rattle.msi_base.specs.Refusals.{IsRefusal, unless_refused, ◌>>=◌}
 use Rattle.msi_database_changes.specs.Changes.{sound_refusal}
-use Rattle.msi_database_storage.specs.Kept.{Kept}
 use Rattle.msi_transform.specs.Transforms.{TransformDef}
 use Rattle.msi_transform_making.specs.Making.{Side, made, pair_of, table_reasons, told_names}
 use Rattle.msi_transform_making.specs.MakingRefusals.{IsAtFault, MakingRefusal}
 use Rattle.msi_database.specs.TransformMaking.{transform_between, with_sound}
-
-abbrev pub side : ℕ → Kept → Side
-side page_id k = record { page_id = page_id; kept = k }
 
 module _ (old new a b : Side) (a_is : a ≡ old) (b_is : b ≡ new)
     (passes : ◌≡◌ {A = Result (Unit {0}) ErrorKind} (Ok tt) (unless_refused (sound_refusal old.kept.database) tt))

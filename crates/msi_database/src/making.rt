@@ -5,7 +5,7 @@ ghost use Rattle.msi_base.specs.Refusals.{IsRefusal, unless_refused};
 ghost use Rattle.msi_database_changes.specs.Changes.{sound_refusal};
 ghost use Rattle.msi_transform_making.specs.Making.{pair_of, table_reasons, told_names};
 ghost use Rattle.msi_transform_making.specs.MakingRefusals.{IsAtFault};
-ghost use Rattle.msi_database.specs.TransformMaking.{transform_between};
+ghost use Rattle.msi_database.specs.TransformMaking.{side, transform_between};
 
 use crate::database::Database;
 use crate::reasons;
@@ -25,7 +25,7 @@ impl Database {
 
     /// Returns the parts of the database of which a transform is made.
     fn base(&self, page_id: u32) -> Base<'_>
-        ensures { result ≡ record { page_id = page_id; kept = self.now } }
+        ensures { result ≡ side page_id self.now }
     {
         Base::new(
             self.alloc,
@@ -54,15 +54,12 @@ impl Database {
         new: &Database,
         new_page_id: u32,
     ) -> Result<Transform, MakingRefusal>
-        ensures ok { let old = record { page_id = page_id; kept = self.now } in
-            let other = record { page_id = new_page_id; kept = new.now } in
-            IfOk result (λ transform. transform_between old other ≡ Ok transform) }
-        ensures kind { let old = record { page_id = page_id; kept = self.now } in
-            let other = record { page_id = new_page_id; kept = new.now } in
-            IfErr result (λ refusal. IsRefusal (transform_between old other) refusal.kind) }
-        ensures table { let old = record { page_id = page_id; kept = self.now } in
-            let other = record { page_id = new_page_id; kept = new.now } in
-            IfErr result (IsAtFault (table_reasons (pair_of old other)) (told_names new.now)) }
+        ensures ok { IfOk result (λ transform.
+            transform_between (side page_id self.now) (side new_page_id new.now) ≡ Ok transform) }
+        ensures kind { IfErr result (λ refusal.
+            IsRefusal (transform_between (side page_id self.now) (side new_page_id new.now)) refusal.kind) }
+        ensures table { let rules = table_reasons (pair_of (side page_id self.now) (side new_page_id new.now)) in
+            IfErr result (IsAtFault rules (told_names new.now)) }
     {
         self.check_sound_side(reasons::OLD_UNSOUND)?;
         new.check_sound_side(reasons::NEW_UNSOUND)?;

@@ -1,13 +1,16 @@
 //! `transform make OLD NEW OUT`: the transform of two packages.
 
+ghost use Rattle.std.specs.Prelude.{◌≡◌, IfOk, Ok};
+ghost use Rattle.msi.specs.TransformMaking.{transform_made};
+
 use crate::holdings::Holdings;
 use crate::left_out::LeftOut;
 use crate::summary::summary_of;
 use crate::transform_bytes::{TransformBytes, write_transform};
 use msi_transform::{ErrorConditions, Transform};
 use msipkg_format::{Failure, JsonObject, Opened, Output, Shown, Style, System, at_file};
+use msipkg_packages::msi::Package;
 use msipkg_packages::msi::transforms::MakingRefusal;
-use msipkg_packages::msi::{ErrorKind, Package};
 use msipkg_packages::{PackageFile, check_way, file_page, is_list, open_package};
 use std::alloc::Global;
 
@@ -96,27 +99,19 @@ fn side_of(rt: &System, file: &PackageFile<'_>, notes: &mut Output) -> Result<Si
     Ok(Side { package, page })
 }
 
-/// Returns the transform from one package to another. Texts are counted anew in memory where counts are too low for
-/// that, as many tools write them.
+/// Returns the transform from one package to another.
 fn made_of(
     alloc: Global,
     old: &mut Package<Opened>,
     new: &mut Package<Opened>,
-) -> Result<Transform, Failure> {
-    let mut made = old.transform_to(new);
-    if is_unsound(&made) && old.recount().is_ok() && new.recount().is_ok() {
-        made = old.transform_to(new);
-    }
-    match made {
+) -> Result<Transform, Failure>
+    ensures ok { IfOk result (λ made. transform_made old.old.state new.old.state ≡ Ok made) }
+    ensures same { old.new ≡ old.old }
+    ensures same_new { new.new ≡ new.old }
+{
+    match old.transform_to(new) {
         Ok(made) => Ok(made),
         Err(refusal) => Err(failure_of(alloc, new, refusal)),
-    }
-}
-
-fn is_unsound(made: &Result<Transform, MakingRefusal>) -> bool {
-    match made {
-        Ok(_) => false,
-        Err(refusal) => matches!(refusal.error().kind(), ErrorKind::InvalidData),
     }
 }
 
@@ -139,7 +134,7 @@ fn flags_of(old: &mut Side, new: &mut Side, made: &Transform, asked: &Making<'_>
     let mut passing = asked.passing;
     passing.other_page |= old.package.conditions_needed(&mut new.package).other_page;
     passing.other_page |= names_other_page(old.page, made.page_id());
-    asked.validated * UPPER + passing.bits()
+    asked.validated.wrapping_mul(UPPER) | passing.bits()
 }
 
 /// Returns whether a page that a file names is another one than that of a transform, and neither is neutral.

@@ -7,14 +7,11 @@ use Rattle.msi_database_storage.specs.Kept.{Kept}
 use Rattle.msi_transform.specs.Transforms.{TransformDef}
 use Rattle.msi_transform_making.specs.Making.{Pair, Side, pair_of, table_reasons, told_names}
 use Rattle.msi_transform_making.specs.MakingRefusals.{IsAtFault, MakingRefusal}
-use Rattle.msi_database.specs.TransformMaking.{transform_between}
+use Rattle.msi_database.specs.TransformMaking.{side, transform_between}
 use Rattle.msi.specs.State.{State}
 use Rattle.msi.specs.Transforming.{page_of}
 use Rattle.msi.specs.TransformMaking.{kind_refusal, pair_of_states, side_of, transform_made}
 use Rattle.msi.specs.Whole.{Whole}
-
-abbrev pub side : ℕ → Kept → Side
-side page_id k = record { page_id = page_id; kept = k }
 
 -- a package's side
 side_is : (s : State) (k : Kept) → k ≡ s.kept → (page_id : ℕ) → page_id ≡ page_of k s.is_pool_changed → side_of s ≡ side page_id k
@@ -37,9 +34,9 @@ module _ (old new : Whole) (view : Whole) (is : view ≡ old) (new_view : Whole)
       → ◌≡◌ {A = Result (Unit {0}) ErrorKind} (Ok tt) (unless_refused (kind_refusal new_view.state.kind) tt)
       → transform_made old.state new.state ≡ transform_between (side page_id k) (side new_page_id l)
   made_is passes new_passes =
-      ap (λ (w : Whole). unless_refused (kind_refusal w.state.kind) tt >>= λ u. unless_refused (kind_refusal new.state.kind) tt >>= λ u. transform_between (side_of old.state) (side_of new.state)) (sym is)
-      ∙ ap (λ (r : Result (Unit {0}) ErrorKind). r >>= λ u. unless_refused (kind_refusal new.state.kind) tt >>= λ u. transform_between (side_of old.state) (side_of new.state)) (sym passes)
-      ∙ ap (λ (w : Whole). unless_refused (kind_refusal w.state.kind) tt >>= λ u. transform_between (side_of old.state) (side_of new.state)) (sym new_is)
+      ap (λ (w : Whole). unless_refused (kind_refusal w.state.kind) (tt {0}) >>= λ u. unless_refused (kind_refusal new.state.kind) (tt {0}) >>= λ u. transform_between (side_of old.state) (side_of new.state)) (sym is)
+      ∙ ap (λ (r : Result (Unit {0}) ErrorKind). r >>= λ u. unless_refused (kind_refusal new.state.kind) (tt {0}) >>= λ u. transform_between (side_of old.state) (side_of new.state)) (sym passes)
+      ∙ ap (λ (w : Whole). unless_refused (kind_refusal w.state.kind) (tt {0}) >>= λ u. transform_between (side_of old.state) (side_of new.state)) (sym new_is)
       ∙ ap (λ (r : Result (Unit {0}) ErrorKind). r >>= λ u. transform_between (side_of old.state) (side_of new.state)) (sym new_passes)
       ∙ ap (λ (s : Side). transform_between s (side_of new.state)) old_side ∙ ap (λ (s : Side). transform_between (side page_id k) s) new_side
 

@@ -1,5 +1,5 @@
-use Rattle.msi_transform_making.specs.Making.{Side}
-use Rattle.msi_database.proofs.TransformMakingLemmas.{at_fault_between, made_between, refused_between, side}
+use Rattle.msi_database.specs.TransformMaking.{side}
+use Rattle.msi_database.proofs.TransformMakingLemmas.{at_fault_between, made_between, refused_between}
 use Rattle.msi_database.proofs.database.Database.transform_to.Goals as goal
 
 pub returns-clause-ok : goal.returns-clause-ok
