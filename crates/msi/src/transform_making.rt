@@ -37,7 +37,8 @@ impl<F: Source> Package<F> {
     /// 2. `InvalidData` if this package isn't sound, and then if the new one isn't;
     /// 3. `InvalidInput` if this package has a table without a key of its own for each row, or under a name that none
     ///    may have, and then if the new one has one;
-    /// 4. `InvalidInput` if the new page is neutral and this one's isn't, and then if the new one lacks a text;
+    /// 4. `InvalidInput` if the new page is neutral and this one's isn't, then if the new one lacks a text, and then if
+    ///    the streams of two rows have one name;
     /// 5. `InvalidInput` at the first table of the new package that doesn't keep its columns, or gets one of the key,
     ///    or gets columns and has more than 32 then, or two of one name, or one without a name: the refusal has its
     ///    place;

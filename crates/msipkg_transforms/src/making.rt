@@ -5,6 +5,7 @@ ghost use Rattle.msi.specs.TransformMaking.{transform_made};
 
 use crate::holdings::Holdings;
 use crate::left_out::LeftOut;
+use crate::miscounting::is_miscounted;
 use crate::summary::summary_of;
 use crate::transform_bytes::{TransformBytes, write_transform};
 use msi_transform::{ErrorConditions, Transform};
@@ -93,9 +94,14 @@ pub fn make_transform(
     Ok(())
 }
 
+/// Opens a package. If its counts are too low for a transform, as many tools write them, they are mended in memory.
 fn side_of(rt: &System, file: &PackageFile<'_>, notes: &mut Output) -> Result<Side, Failure> {
     let page = file_page(rt, file.path)?;
-    let package = open_package(rt, file, notes)?;
+    let mut package = open_package(rt, file, notes)?;
+    if is_miscounted(&mut package) {
+        // Where this is refused, the transform is too.
+        let _mended = package.recount();
+    }
     Ok(Side { package, page })
 }
 
