@@ -1,5 +1,6 @@
 //! The code of docs/GUIDE.md, in its order. Each task is done on a package in memory, and prints a line or two.
 
+use msi::transforms::{ErrorConditions, Transform};
 use msi::{
     Column, Delete, Error, ErrorKind, Expr, Insert, LanguageId, Memory, Package, PackageType, Row,
     Select, Update, Value, ValueView,
@@ -10,6 +11,7 @@ use std::io::{self, Read, Write};
 /// Does the tasks in turn.
 pub fn follow(rt: &HostRuntime) -> Result<(), Error> {
     let file = fill_package(rt)?;
+    make_and_apply_transform(rt, file.as_slice())?;
     open_and_handle_errors(rt, file)?;
     open_and_handle_errors(rt, b"Dear reader".to_vec(rt.alloc())?)
 }
@@ -226,6 +228,39 @@ fn set_summary(rt: &HostRuntime, package: &mut Package<Memory>) -> Result<(), Er
     summary.set_languages(&[LanguageId::from_id(1033)])?;
     let author = package.summary_info().author().unwrap_or("nobody");
     println!(rt; "author: {author}")?;
+    Ok(())
+}
+
+/// Returns the file of the transform from one package to another.
+fn transform_file(
+    alloc: Global,
+    old: &mut Package<Memory>,
+    new: &mut Package<Memory>,
+) -> Result<Vec<u8>, Error> {
+    match old.transform_to(new) {
+        Ok(transform) => transform.into_bytes(alloc),
+        Err(refusal) => Err(refusal.into_error()),
+    }
+}
+
+/// Changes a package by the file of a transform, where no fault passes.
+fn apply_file(alloc: Global, package: &mut Package<Memory>, file: Vec<u8>) -> Result<(), Error> {
+    let transform = Transform::read(alloc, file)?;
+    match package.apply_transform(&transform, ErrorConditions::default()) {
+        Ok(()) => Ok(()),
+        Err(refusal) => Err(refusal.into_error()),
+    }
+}
+
+/// Makes the transform that drops a table, and applies it.
+fn make_and_apply_transform(rt: &HostRuntime, file: &[u8]) -> Result<(), Error> {
+    let alloc = rt.alloc();
+    let mut old = Package::open(alloc, Memory::from_vec(file.to_vec(alloc)?))?;
+    let mut new = Package::open(alloc, Memory::from_vec(file.to_vec(alloc)?))?;
+    new.drop_table("FeatureComponents")?;
+    let transform = transform_file(alloc, &mut old, &mut new)?;
+    apply_file(alloc, &mut old, transform)?;
+    println!(rt; "transformed: {} tables", old.tables().len())?;
     Ok(())
 }
 
