@@ -3,6 +3,7 @@
 ghost use Rattle.std.specs.Prelude.{◌≡◌, IfErr, OnErr, OnOk};
 ghost use Rattle.msi_transform_rows.specs.RecordRefusals.{IsRefused};
 ghost use Rattle.std.specs.FinMap.{entries};
+ghost use Rattle.msi_container_format.specs.Chains.{AreBelow};
 ghost use Rattle.msi_container_write.specs.LayoutLaw.{HaveNames};
 ghost use Rattle.msi.specs.Transforming.{IsLeft, page_of, transforming};
 ghost use Rattle.msi.specs.Whole.{Becomes};
@@ -27,12 +28,17 @@ pub(crate) fn stored_page(database: &Database, is_pool_changed: bool) -> u32
     }
 }
 
+/// A unit of a name has 16 bits.
+fn look_at_units(units: &[u16])
+    ensures { AreBelow 65536 units.now }
+{}
+
 /// Goes over streams: each has a name that a container can hold.
 fn look_at_names(streams: &StreamMap)
     ensures { HaveNames (entries streams.now) }
 {
     for (name, _) in streams.iter() {
-        let _units = name.units();
+        look_at_units(name.units());
     }
 }
 
