@@ -1,5 +1,5 @@
 -- Texts are the same where keys of one text each are.
-use Rattle.std.proofs.Common.{◌≡◌, ℕ, Bool, List, [], ◌∷◌, map, refl, sym, ap, ◌∙◌}
+use Rattle.std.proofs.Common.{◌≡◌, ℕ, Bool, true, false, not, List, [], ◌∷◌, map, refl, sym, ap, ◌∙◌}
 use Rattle.std.specs.Prelude.{◌||◌, bytes_eq}
 use Rattle.std.specs.List.{list_any}
 use Rattle.std.specs.Ordering.{is_eq, ordering_then}
@@ -29,3 +29,10 @@ any_is a (b ∷ texts) = rw (same_is a b, any_is a texts) refl
 pub pairs_are : (texts : List (List ℕ)) → has_pair same_key (map key_of_text texts) ≡ has_pair bytes_eq texts
 pairs_are [] = refl
 pairs_are (a ∷ texts) = rw (any_is a texts, pairs_are texts) refl
+
+-- and what is said of them turned round
+pub not_same : (a b : Bool) → not a ≡ not b → a ≡ b
+not_same true true e = refl
+not_same false false e = refl
+not_same true false e = sym e
+not_same false true e = sym e
