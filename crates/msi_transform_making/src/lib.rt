@@ -5,6 +5,7 @@ pub mod base;
 mod differences;
 mod differing;
 mod fitness;
+pub mod laws;
 mod making;
 mod reading;
 mod reasons;

@@ -1,0 +1,18 @@
+//! Laws of made transforms: each is the contract of a function without a body.
+
+ghost use Rattle.msi_transform_making.specs.MakingLaws.{DifferencesGiveNewRows, RecordsGiveNewTable, ToldRecordsAreRead};
+
+/// What is told of the rows of a table, carried out on the old rows, gives the new ones.
+pub fn differences_give_new_rows()
+    ensures { DifferencesGiveNewRows }
+{}
+
+/// The records of a table, carried out on the rows that the old package has of it, give the new package's rows.
+pub fn records_give_new_table()
+    ensures { RecordsGiveNewTable }
+{}
+
+/// Told records that are stored in a transform are read of it, each with its values.
+pub fn told_records_are_read()
+    ensures { ToldRecordsAreRead }
+{}
