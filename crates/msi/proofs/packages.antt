@@ -7,3 +7,4 @@ pub mod FreshLemmas
 pub mod CreatingLemmas
 pub mod LeavingLemmas
 pub mod TransformingLemmas
+pub mod TransformMakingLemmas

@@ -12,6 +12,7 @@ pub mod Steps
 pub mod Runs
 pub mod Whole
 pub mod Transforming
+pub mod TransformMaking
 pub mod Transform
 pub mod Laws
 pub mod Writable

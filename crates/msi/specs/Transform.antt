@@ -4,9 +4,11 @@ pub use Rattle.msi_transform.specs.StoredPools
 pub use Rattle.msi_transform.specs.TransformFiles
 pub use Rattle.msi_transform.specs.Transforms
 pub use Rattle.msi_transform.specs.WrittenTransforms
+pub use Rattle.msi_transform_rows.specs.RecordRefusals
+pub use Rattle.msi_transform_rows.specs.RowChanges
+pub use Rattle.msi_transform_rows.specs.RowStreams
+pub use Rattle.msi_transform_rows.specs.TableRecords
+pub use Rattle.msi_transform_schema.specs.SchemaApplying
+pub use Rattle.msi_transform_schema.specs.SchemaChanges
 pub use Rattle.msi_transform_applying.specs.Applying
-pub use Rattle.msi_transform_applying.specs.RecordRefusals
-pub use Rattle.msi_transform_applying.specs.RowChanges
-pub use Rattle.msi_transform_applying.specs.RowStreams
-pub use Rattle.msi_transform_applying.specs.SchemaChanges
 pub use Rattle.msi_database.specs.Transforming

@@ -6,7 +6,7 @@ use Rattle.msi_database_storage.specs.Kept.{Kept}
 use Rattle.msi_transform.specs.StoredPools.{stored_page_id}
 use Rattle.msi_transform.specs.Transforms.{TransformDef}
 use Rattle.msi_transform.specs.declared.conditions.ErrorConditions.{ErrorConditions}
-use Rattle.msi_transform_applying.specs.RecordRefusals.{◌>>=◌, Refusal, nowhere}
+use Rattle.msi_transform_rows.specs.RecordRefusals.{◌>>=◌, Refusal, nowhere}
 use Rattle.msi_database.specs.Transforming as databases
 use Rattle.msi.specs.State.{State, parts_of}
 use Rattle.msi.specs.Steps.{storage_refusal}

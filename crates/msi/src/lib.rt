@@ -25,6 +25,7 @@ pub mod recounting;
 mod renewing;
 mod seeking;
 pub mod streams;
+mod transform_making;
 pub mod transforms;
 pub mod uuids;
 mod writable;

@@ -1,7 +1,7 @@
 //! Applying transforms, which describe how one package becomes another.
 
 ghost use Rattle.std.specs.Prelude.{◌≡◌, IfErr, OnErr, OnOk};
-ghost use Rattle.msi_transform_applying.specs.RecordRefusals.{IsRefused};
+ghost use Rattle.msi_transform_rows.specs.RecordRefusals.{IsRefused};
 ghost use Rattle.msi.specs.Transforming.{Becomes, page_of, transforming};
 
 use crate::package::{Package, settle};
@@ -9,10 +9,11 @@ use msi_container_device::Source;
 use msi_database::Database;
 use msi_transform::stored_pool::page_id_in;
 pub use msi_transform::{ErrorConditions, Fault, Transform};
-pub use msi_transform_applying::{RecordPlace, Refusal};
+pub use msi_transform_making::MakingRefusal;
+pub use msi_transform_rows::{RecordPlace, Refusal};
 
 /// Returns the id of the code page as the package stores it, which may be 0 for UTF-8.
-fn stored_page(database: &Database, is_pool_changed: bool) -> u32
+pub(crate) fn stored_page(database: &Database, is_pool_changed: bool) -> u32
     ensures { result ≡ page_of database.now is_pool_changed }
 {
     if is_pool_changed {

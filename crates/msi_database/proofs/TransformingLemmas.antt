@@ -16,8 +16,8 @@ use Rattle.msi_transform.specs.Transforms.{TransformDef}
 use Rattle.msi_transform.specs.declared.conditions.ErrorConditions.{ErrorConditions}
 use Rattle.msi_transform_applying.specs.Applying.{◌>>=◌, Left, Refusal, TablesChanged, applied, change_with, finished, nowhere, tables_changed}
 use Rattle.msi_transform_applying.specs.LeftInHand.{base_of}
-use Rattle.msi_transform_applying.specs.RecordRefusals.{IsRefused}
-use Rattle.msi_transform_applying.specs.SchemaChanges.{SchemaChange}
+use Rattle.msi_transform_rows.specs.RecordRefusals.{IsRefused}
+use Rattle.msi_transform_schema.specs.SchemaChanges.{SchemaChange}
 use Rattle.msi_database.specs.Recounting.{after_recount}
 use Rattle.msi_database.specs.Transforming.{apply_transform, database_read, opened, with_true_counts}
 

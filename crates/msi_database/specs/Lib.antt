@@ -11,6 +11,7 @@ pub mod Creating
 pub mod AddingColumn
 pub mod Recounting
 pub mod Transforming
+pub mod TransformMaking
 -- The words of the crates below, which public clauses cite.
 pub use Rattle.msi_base.specs.declared.errors.ErrorKind
 pub use Rattle.msi_base.specs.Results

@@ -7,7 +7,7 @@ ghost use Rattle.msi_database_changes.specs.Database.{is_sound as is_sound_one};
 ghost use Rattle.msi_database_storage.specs.Widening.{streams_widened};
 ghost use Rattle.msi_transform_applying.specs.Applying.{applied};
 ghost use Rattle.msi_transform_applying.specs.LeftInHand.{left_in_hand};
-ghost use Rattle.msi_transform_applying.specs.RecordRefusals.{IsRefused};
+ghost use Rattle.msi_transform_rows.specs.RecordRefusals.{IsRefused};
 ghost use Rattle.msi_database.specs.Transforming.{apply_transform, opened as opened_of};
 
 use crate::database::Database;
@@ -16,7 +16,9 @@ use msi_container_format::contents::StreamMap;
 use msi_database_storage::copied_streams;
 use msi_transform::{ErrorConditions, Transform};
 use msi_transform_applying::leaving::Left;
-use msi_transform_applying::{Refusal, SchemaChange};
+use msi_transform_applying::{leave, transform_tables};
+use msi_transform_rows::Refusal;
+use msi_transform_schema::SchemaChange;
 use std::alloc::Global;
 
 impl Database {
@@ -54,9 +56,9 @@ impl Database {
             transform,
             passing,
         );
-        let changed = change.transform_tables(page_id)?;
+        let changed = transform_tables(&change, page_id)?;
         let under = self.streams_over(changed.needs_long())?;
-        change.leave(changed, under)
+        leave(&change, changed, under)
     }
 
     /// Returns the database that a transform makes of this one, which stays. `page_id` is the id of this one's code

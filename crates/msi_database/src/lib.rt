@@ -9,6 +9,7 @@ pub mod database;
 mod dropping;
 mod fresh;
 pub mod laws;
+mod making;
 mod others;
 mod reading;
 mod reasons;

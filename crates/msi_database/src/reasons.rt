@@ -4,6 +4,10 @@ use msi_base::errors::Reason;
 
 pub(crate) const UNSOUND: Reason = Reason("the database isn't sound");
 
+pub(crate) const OLD_UNSOUND: Reason = Reason("the old database isn't sound");
+
+pub(crate) const NEW_UNSOUND: Reason = Reason("the new database isn't sound");
+
 pub(crate) const NO_TABLE: Reason = Reason("there is no table of this name");
 
 pub(crate) const UNREADABLE: Reason = Reason("a table has too many rows");

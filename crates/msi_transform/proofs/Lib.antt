@@ -5,5 +5,6 @@ pub mod TableStreamsLemmas
 pub mod KeptTextsLemmas
 pub mod TransformFileLemmas
 pub mod WrittenLemmas
+pub mod SummaryLemmas
 pub mod TableKeyLemmas
 pub mod ReadBackLemmas

@@ -11,7 +11,7 @@ use Rattle.msi_pool.specs.PoolWriting.{is_refused}
 use Rattle.msi_container_format.specs.Names.{name_cmp, named}
 use Rattle.msi_container_format.specs.declared.contents.Contents.{Contents}
 use Rattle.msi_container_write.specs.Layout.{refuses}
-use Rattle.msi_database_schema.specs.Keys.{is_table_name, table_key}
+use Rattle.msi_database_schema.specs.Keys.{is_table_name, summary_key, table_key}
 use Rattle.msi_database_storage.specs.Streams.{Streams, with_stream}
 use Rattle.msi_transform.specs.StoredPools.{data_key, pool_key}
 use Rattle.msi_transform.specs.TransformFiles.{IsTransform, is_table_key, transform_clsid}
@@ -46,6 +46,10 @@ pub record AreWritten (t : TransformDef) (c : Contents) : Type 0 where
   pub clsid : c.clsid ≡ transform_clsid
   pub streams : written_streams t ≡ Some (entries c.streams)
   pub storages : c.has_storages ≡ false
+
+-- with this stream as its summary, in place of one that is there
+abbrev pub with_summary : List ℕ → TransformDef → TransformDef
+with_summary bytes t = record t { streams = with_stream summary_key bytes t.streams }
 
 -- why it has no file: its streams can't be written, or the file would be too large
 abbrev pub HasNoFile : TransformDef → Type 0

@@ -1,7 +1,7 @@
 //! Transforms as they are read from their files.
 
-ghost use Rattle.std.specs.Prelude.{◌≡◌, ◌⊎◌, ◌∷◌, [], IfErr, IfOk, IsErrOf, IsTrue, Ok, OnOk, false, length};
-ghost use Rattle.std.specs.Prelude.{option_copied, true};
+ghost use Rattle.std.specs.Prelude.{◌≡◌, ◌⊎◌, ◌∷◌, [], IfErr, IfOk, IsErrOf, IsTrue, Ok, OnErr, OnOk};
+ghost use Rattle.std.specs.Prelude.{false, length, option_copied, true};
 ghost use Rattle.std.specs.FinMap.{entries};
 ghost use Rattle.msi_base.specs.Results.{OnlyMemory};
 ghost use Rattle.msi_base.specs.declared.errors.ErrorKind.TheVariants.{InvalidInput, OutOfMemory};
@@ -13,7 +13,7 @@ ghost use Rattle.msi_transform.specs.TransformFiles.{IsReadRefusal, IsTransform,
 ghost use Rattle.msi_transform.specs.TransformFiles.{keeps_texts as are_texts_kept, knows_clsid, pool_read_steps};
 ghost use Rattle.msi_transform.specs.TransformFiles.{read_steps, transform_clsid, transform_in};
 ghost use Rattle.msi_transform.specs.Transforms.{records_for};
-ghost use Rattle.msi_transform.specs.WrittenTransforms.{AreWritten, HasNoFile, IsMade, is_unwritable};
+ghost use Rattle.msi_transform.specs.WrittenTransforms.{AreWritten, HasNoFile, IsMade, is_unwritable, with_summary};
 
 use crate::kept_texts::keeps_texts;
 use crate::reasons;
@@ -25,6 +25,7 @@ use msi_base::errors::{Error, ErrorKind};
 use msi_container_format::contents::{Bytes, Contents, StreamMap};
 use msi_container_read::read_shared;
 use msi_container_write::write;
+use msi_database_schema::names::summary_key;
 use msi_pool::parts::check_texts;
 use msi_pool::stringpool::StringPool;
 use std::alloc::Global;
@@ -113,6 +114,20 @@ impl Transform {
             tables,
             streams,
         }
+    }
+
+    /// Puts the stream of the summary among the others, in place of one that is there.
+    ///
+    /// # Errors
+    /// Fails with `OutOfMemory`; then nothing has changed.
+    pub fn set_summary(&mut self, bytes: Vec<u8>) -> Result<(), Error>
+        ensures ok { OnOk result (self.new ≡ with_summary bytes.items self.old) }
+        ensures made { OnOk result (IsMade self.old → IsMade self.new) }
+        ensures same { OnErr result (self.new ≡ self.old) }
+        ensures kind { OnlyMemory result }
+    {
+        self.streams.insert(summary_key(), Bytes::from_vec(bytes))?;
+        Ok(())
     }
 
     /// Returns the contents of a file that holds the transform.

@@ -26,11 +26,11 @@ use Rattle.msi_table_values.specs.declared.value.Value.{Value}
 use Rattle.msi_transform.specs.Transforms.{TransformDef}
 use Rattle.msi_transform_applying.specs.Applying.{Left, TableAnew, TablesChanged, finished, has_its_stream, is_said, pool_left, row_agrees, same_stream, stays, streams_agree, streams_left, table_agrees, table_staying, tables_left, texts_read_back}
 use Rattle.msi_transform_applying.specs.ExpectedStreams.{Expected, HasNames, all_expected, expected_at, expected_of, is_met, row_expects, staying_expects, table_expects}
-use Rattle.msi_transform_applying.specs.RecordRefusals.{Refusal, nowhere}
-use Rattle.msi_transform_applying.specs.RowStreams.{has_streams, row_stream}
-use Rattle.msi_transform_applying.specs.declared.row.RowInHand.{RowInHand}
-use Rattle.msi_transform_applying.specs.declared.row.RowStream.{RowStream}
-use Rattle.msi_transform_applying.specs.declared.row.RowStream.TheVariants.{AsBefore, Gone, Brought}
+use Rattle.msi_transform_rows.specs.RecordRefusals.{Refusal, nowhere}
+use Rattle.msi_transform_rows.specs.RowStreams.{has_streams, row_stream}
+use Rattle.msi_transform_rows.specs.declared.row.RowInHand.{RowInHand}
+use Rattle.msi_transform_rows.specs.declared.row.RowStream.{RowStream}
+use Rattle.msi_transform_rows.specs.declared.row.RowStream.TheVariants.{AsBefore, Gone, Brought}
 
 and_true : (b : Bool) → b ≡ (b && true)
 and_true true = refl

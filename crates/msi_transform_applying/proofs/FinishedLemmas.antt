@@ -13,7 +13,7 @@ use Rattle.msi_pool.specs.Pool.{Pool}
 use Rattle.msi_transform.specs.Transforms.{TransformDef}
 use Rattle.msi_transform_applying.specs.Applying.{Left, TablesChanged, finished, page_after, pool_left, streams_left, streams_stored, streams_under, texts_read_back}
 use Rattle.msi_transform_applying.specs.ExpectedStreams.{Expected, all_expected, is_met}
-use Rattle.msi_transform_applying.specs.RecordRefusals.{IsRefused, Refusal}
+use Rattle.msi_transform_rows.specs.RecordRefusals.{IsRefused, Refusal}
 use Rattle.msi_transform_applying.proofs.AgreeingLemmas.{all_kept, checked, left_with, streams_refused, texts_refused}
 
 abbrev with_parts : CodePage → Bool → TransformDef → PoolInUse → Pool

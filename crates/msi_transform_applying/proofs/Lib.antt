@@ -1,13 +1,4 @@
 pub mod ApplyingRows
-pub mod ColumnKeysLemmas
-pub mod ColumnStepsLemmas
-pub mod KeyedRowsLemmas
-pub mod PackagePartsLemmas
-pub mod RowStreamsLemmas
-pub mod TablesByNameLemmas
-pub mod ToldValuesLemmas
-pub mod RowChangesLemmas
-pub mod PlainRowsLemmas
 pub mod LeavingLemmas
 pub mod AgreeingLemmas
 pub mod StayingLemmas

@@ -1,8 +1,8 @@
 -- Rows put under their keys, the last of them first.
 use Rattle.std.proofs.Common.{◌≡◌, List, [], ◌∷◌, ◌++◌, refl, ap}
 use Rattle.msi_table_values.specs.declared.value.Value.{Value}
-use Rattle.msi_transform_applying.specs.RowChanges.{Rows, by_key, with_row_at}
-use Rattle.msi_transform_applying.specs.declared.row.RowInHand.{RowInHand}
+use Rattle.msi_transform_rows.specs.RowChanges.{Rows, by_key, with_row_at}
+use Rattle.msi_transform_rows.specs.declared.row.RowInHand.{RowInHand}
 
 -- these over those that are held
 abbrev pub put_over : Rows → Rows → Rows

@@ -1,5 +1,5 @@
 -- The tables of a package that stay as they are, and their rows.
-use Rattle.std.proofs.Common.{◌≡◌, ℕ, zero, suc, ◌+◌, ◌<◌, ◌≤◌, subst, Bool, true, false, cond, List, [], ◌∷◌, ◌++◌, length, map, drop, get_or, Option, Some, None, is_some, option_map, refl, sym, ap, ◌∙◌, arith}
+use Rattle.std.proofs.Common.{◌≡◌, ℕ, zero, suc, ◌+◌, ◌<◌, ◌≤◌, Bool, true, false, cond, List, [], ◌∷◌, ◌++◌, length, map, drop, get_or, Option, Some, None, is_some, option_map, refl, sym, ap, ◌∙◌, arith}
 use Rattle.std.specs.Prelude.{if◌then◌else◌, unwrap_or, bytes_eq}
 use Rattle.std.specs.Cmp.Lexicographic.{bytes_decides}
 use Rattle.std.specs.List.{flat_map, slice_get}
@@ -9,21 +9,18 @@ use Rattle.std.proofs.lemmas.Option.{same_Some, slice_get-get_or}
 use Rattle.msi_database_changes.specs.Database.{Database, has_table, rows_of}
 use Rattle.msi_database_storage.specs.Kept.{AreAsLong, database_kept, table_kept, table_kept_at}
 use Rattle.msi_database_storage.specs.Streams.{Streams, stored_rows}
-use Rattle.msi_pool.specs.Pool.{Pool}
 use Rattle.msi_table_cells.specs.declared.cell.ValueRef.{ValueRef}
 use Rattle.msi_table.specs.Rows as rows
 use Rattle.msi_table_values.specs.Columns.{ColumnDef}
 use Rattle.msi_table_values.specs.declared.value.Value.{Value}
 use Rattle.msi_transform_applying.specs.Applying.{table_staying}
-use Rattle.msi_transform_applying.specs.RowChanges.{keyed}
-use Rattle.msi_transform_applying.specs.declared.row.RowInHand.{RowInHand}
-use Rattle.msi_transform.specs.Transforms.{TransformDef}
-use Rattle.msi_transform.specs.declared.conditions.ErrorConditions.{ErrorConditions}
-use Rattle.msi_transform_applying.proofs.PackagePartsLemmas.{known, none_read, some_read}
+use Rattle.msi_transform_rows.specs.RowChanges.{keyed}
+use Rattle.msi_transform_rows.specs.declared.row.RowInHand.{RowInHand}
+use Rattle.msi_transform_schema.proofs.PackagePartsLemmas.{known, none_read, some_read}
 use Rattle.msi_table.specs.Tables.{TableDef}
-use Rattle.msi_transform_applying.specs.SchemaChanges.{SchemaChange, is_gone, plain_row, untold_table}
-use Rattle.msi_transform_applying.specs.TablesInHand.{TableInHand}
-use Rattle.msi_transform_applying.specs.declared.schema.Standing.TheVariants as stands
+use Rattle.msi_transform_schema.specs.SchemaChanges.{SchemaChange, is_gone, plain_row, untold_table}
+use Rattle.msi_transform_schema.specs.TablesInHand.{TableInHand}
+use Rattle.msi_transform_schema.specs.declared.schema.Standing.TheVariants as stands
 
 -- a table of the package is gone where the transform says so
 pub dropped : (d : Database) (name : List ℕ) (o : Option TableInHand) → has_table name d ≡ true → option_map_or (λ (t : TableInHand). is_gone t.standing) o false ≡ is_gone (unwrap_or o (untold_table d name)).standing
@@ -68,32 +65,31 @@ table_next {A} f tables i t inside at =
     drop_more (map f tables) i (f t) (omega (arith, length-map tables f))
     ∙ ap (λ (x : A). x ∷ drop (i + 1) (map f tables)) (get_or-map f tables i t (f t) inside ∙ ap f (sym at))
 
-module _ (pool : Pool) (tables : List TableDef) (streams : Streams) (by : TransformDef) (passing : ErrorConditions) where
-  abbrev pub seen : SchemaChange
-  seen = record { database = database_kept pool tables streams; streams = streams; by = by; passing = passing }
-
-  module _ (change : SchemaChange) (view : seen ≡ change) where
+module _ (change : SchemaChange) where
+  module _ (tables : List TableDef) (kept : change.database ≡ database_kept change.database.pool tables change.streams) where
     pub none_further : (i : ℕ) → length tables ≤ i → drop i change.database.tables ≡ []
-    none_further i past = subst (λ (s : SchemaChange). drop i s.database.tables ≡ []) view
-        (drop_all i (map (table_kept streams pool.long) tables) (omega (arith, length-map tables (table_kept streams pool.long))))
+    none_further i past = ap (λ (d : Database). drop i d.tables) kept
+        ∙ drop_all i (map (table_kept change.streams change.database.pool.long) tables) (omega (arith, length-map tables (table_kept change.streams change.database.pool.long)))
 
     module _ (i : ℕ) (t : TableDef) (inside : i < length tables) (at : t ≡ get_or tables i t) where
       pub next_table : drop i change.database.tables ≡ table_kept change.streams change.database.pool.long t ∷ drop (i + 1) change.database.tables
-      next_table = subst (λ (s : SchemaChange). drop i s.database.tables ≡ table_kept s.streams s.database.pool.long t ∷ drop (i + 1) s.database.tables) view
-          (table_next (table_kept streams pool.long) tables i t inside at)
+      next_table = ap (λ (d : Database). drop i d.tables) kept
+          ∙ table_next (table_kept change.streams change.database.pool.long) tables i t inside at
+          ∙ ap (λ (d : Database). table_kept change.streams change.database.pool.long t ∷ drop (i + 1) d.tables) (sym kept)
 
       pub is_there : has_table t.name change.database ≡ true
-      is_there = sym (known pool tables streams t.name ∙ ap (λ (s : SchemaChange). has_table t.name s.database) view) ∙ found_at tables i t inside at
+      is_there = sym (known change.database.pool tables change.streams t.name ∙ ap (has_table t.name) (sym kept)) ∙ found_at tables i t inside at
 
-      pub is_as_long : AreAsLong pool.long tables → t.long ≡ change.database.pool.long
-      is_as_long all = long_at pool.long tables i t all inside at ∙ ap (λ (s : SchemaChange). s.database.pool.long) view
+      pub is_as_long : AreAsLong change.database.pool.long tables → t.long ≡ change.database.pool.long
+      is_as_long all = long_at change.database.pool.long tables i t all inside at
 
+  module _ (streams : Streams) (same : streams ≡ change.streams) where
     -- the rows of a table
     pub rows_kept : (t : TableDef) (read : Option (List (List ValueRef))) → t.long ≡ change.database.pool.long → stored_rows streams t.long t.columns t.name ≡ read
         → rows_of (table_kept change.streams change.database.pool.long t).1 ≡ unwrap_or read []
     rows_kept t read long is =
         ap (λ (b : Bool). unwrap_or (stored_rows change.streams b t.columns t.name) []) (sym long)
-        ∙ ap (λ (s : SchemaChange). unwrap_or (stored_rows s.streams t.long t.columns t.name) []) (sym view)
+        ∙ ap (λ (s : Streams). unwrap_or (stored_rows s t.long t.columns t.name) []) (sym same)
         ∙ ap (λ (o : Option (List (List ValueRef))). unwrap_or o []) is
 
     module _ (t : TableDef) (long : t.long ≡ change.database.pool.long) where

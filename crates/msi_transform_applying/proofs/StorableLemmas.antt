@@ -24,13 +24,15 @@ use Rattle.msi_table_cells.specs.TableCells.{TableCells}
 use Rattle.msi_table_values.specs.declared.column.ColumnType.{ColumnType}
 use Rattle.msi_table_values.specs.Columns.{types_of}
 use Rattle.msi_transform.specs.Transforms.{shapes_of}
-use Rattle.msi_transform_applying.specs.Applying.{TableAnew, TablesChanged, TablesInHand, all_applied, change_of, changed_with, changes_schema, is_broken, lengthened_alone, page_refusals, rows_applied, rows_begun, rows_changed, rows_in_hand, schema_applied, table_applied, table_lengthened, table_or_schema, table_refusals, tables_begun, tables_changed, tables_in_turn, with_anew, with_lengthened}
+use Rattle.msi_transform_applying.specs.Applying.{TableAnew, TablesChanged, TablesInHand, change_of, changed_with, is_broken, lengthened_alone, rows_applied, rows_begun, rows_changed, rows_in_hand, table_applied, table_lengthened, table_or_schema, table_refusals, tables_begun, tables_changed, tables_in_turn, with_anew, with_lengthened}
+use Rattle.msi_transform_rows.specs.TableRecords.{all_applied, changes_schema}
+use Rattle.msi_transform_schema.specs.SchemaApplying.{page_refusals, schema_applied}
 use Rattle.msi_transform_applying.specs.LeftInHand.{CanBeStored, HasTableKey}
-use Rattle.msi_transform_applying.specs.RecordRefusals.{◌>>=◌, Refusal, at_record, nowhere}
-use Rattle.msi_transform_applying.specs.RowChanges.{RowsInHand, keyed, record_applied}
-use Rattle.msi_transform_applying.specs.SchemaChanges.{SchemaChange, SchemaInHand, TableInHand, TablesTold, columns_in_hand, is_gone, rows_of_package, table_in_hand}
-use Rattle.msi_transform_applying.specs.declared.schema.Standing.{Standing}
-use Rattle.msi_transform_applying.specs.declared.schema.Standing.TheVariants as stands
+use Rattle.msi_transform_rows.specs.RecordRefusals.{◌>>=◌, Refusal, at_record, nowhere}
+use Rattle.msi_transform_rows.specs.RowChanges.{RowsInHand, keyed, record_applied}
+use Rattle.msi_transform_schema.specs.SchemaChanges.{SchemaChange, SchemaInHand, TableInHand, TablesTold, columns_in_hand, is_gone, rows_of_package, table_in_hand}
+use Rattle.msi_transform_schema.specs.declared.schema.Standing.{Standing}
+use Rattle.msi_transform_schema.specs.declared.schema.Standing.TheVariants as stands
 
 -- STEPS THAT ARE PASSED
 

@@ -7,10 +7,11 @@ use Rattle.msi_base.specs.Refusals.{IsRefusal, Refusals, first_refusal, unless, 
 use Rattle.msi_database_schema.specs.Keys.{is_table_name}
 use Rattle.msi_table_values.specs.Columns.{ColumnDef}
 use Rattle.msi_transform.specs.Transforms.{shapes_of}
-use Rattle.msi_transform_applying.specs.Applying.{TablesInHand, all_applied, is_broken, rows_begun, streams_begun, table_applied, with_anew}
-use Rattle.msi_transform_applying.specs.RecordRefusals.{IsRefused, Refusal, at_record, ◌>>=◌}
-use Rattle.msi_transform_applying.specs.RowChanges.{RowsInHand, by_key, keyed, record_applied}
-use Rattle.msi_transform_applying.specs.SchemaChanges.{SchemaChange, TableInHand, TablesTold, columns_in_hand, is_gone, rows_of_package, table_in_hand}
+use Rattle.msi_transform_applying.specs.Applying.{TablesInHand, is_broken, rows_begun, streams_begun, table_applied, with_anew}
+use Rattle.msi_transform_rows.specs.TableRecords.{all_applied}
+use Rattle.msi_transform_rows.specs.RecordRefusals.{IsRefused, Refusal, at_record, ◌>>=◌}
+use Rattle.msi_transform_rows.specs.RowChanges.{RowsInHand, by_key, keyed, record_applied}
+use Rattle.msi_transform_schema.specs.SchemaChanges.{SchemaChange, TableInHand, TablesTold, columns_in_hand, is_gone, rows_of_package, table_in_hand}
 
 -- that nothing is refused doesn't depend on the answer
 not_refused : {A B : Type 0} (o : Option ErrorKind) (a : A) (b : B) → unless o a ≡ Ok a → unless o b ≡ Ok b

@@ -1,13 +1,11 @@
 -- Applying a transform to a package's database: the pool and the streams that it leaves, or the first refusal.
 use Rattle.std.specs.Prelude.{ℕ, ◌+◌, Bool, true, false, not, List, [], ◌∷◌, ◌++◌, map, length, Option, Some, None}
-use Rattle.std.specs.Prelude.{option_and_then, option_map, unwrap_or, if◌then◌else◌, filter, bytes_eq, ◌&&◌, ◌||◌}
-use Rattle.std.specs.Prelude.{is_none, is_some, ◌==◌, nat_lt, slice_get, Result, Ok, Err}
+use Rattle.std.specs.Prelude.{option_and_then, if◌then◌else◌, filter, bytes_eq, ◌&&◌, ◌||◌}
+use Rattle.std.specs.Prelude.{is_none, ◌==◌, nat_lt, Result, Ok}
 use Rattle.std.specs.List.{flat_map, list_all, list_any}
 use Rattle.std.specs.Option.{option_map_or}
-use Rattle.msi_base.specs.Lists.{has_pair}
 use Rattle.msi_base.specs.declared.codepage.CodePage.{CodePage}
 use Rattle.msi_base.specs.declared.codepage.CodePage.TheVariants.{Utf8}
-use Rattle.msi_base.specs.declared.errors.ErrorKind.{ErrorKind}
 use Rattle.msi_base.specs.declared.errors.ErrorKind.TheVariants.{InvalidData, InvalidInput, NotFound}
 use Rattle.msi_base.specs.Pages.{bytes_in, text_in}
 use Rattle.msi_base.specs.Refusals.{Refusals, unless_refused}
@@ -16,130 +14,33 @@ use Rattle.msi_pool.specs.FirstFit.{is_long_with}
 use Rattle.msi_table_cells.specs.declared.cell.ValueRef.{ValueRef}
 use Rattle.msi_table_cells.specs.declared.cell.ValueRef.TheVariants as cell
 use Rattle.msi_table_cells.specs.CellValues.{row_values}
-use Rattle.msi_table_cells.specs.KeyOrder.{key_of, same_key}
+use Rattle.msi_table_cells.specs.KeyOrder.{key_of}
 use Rattle.msi_table_cells.specs.TableCells.{TableCells}
 use Rattle.msi_table_values.specs.declared.value.Value.{Value}
 use Rattle.msi_table_values.specs.Columns.{ColumnDef}
 use Rattle.msi_database_schema.specs.Keys.{is_table_name, table_key}
 use Rattle.msi_database_schema.specs.System.{columns_columns, columns_name, is_schema_table}
 use Rattle.msi_database_schema.specs.System.{tables_columns, tables_name}
-use Rattle.msi_database_changes.specs.Database.{Database, rows_of, table_at}
-use Rattle.msi_database_changes.specs.KeySets.{keys_of_rows}
+use Rattle.msi_database_changes.specs.Database.{Database, rows_of}
 use Rattle.msi_database_changes.specs.Texts.{PoolInUse}
 use Rattle.msi_database_changes.specs.declared.storing.Stored.{Stored}
 use Rattle.msi_database_storage.specs.Kept.{Kept}
 use Rattle.msi_database_storage.specs.Storing.{stored_in}
 use Rattle.msi_database_storage.specs.Streams.{Streams, stream_at, stream_of_rows}
 use Rattle.msi_database_storage.specs.Widening.{streams_widened}
-use Rattle.msi_transform_records.specs.declared.records.Record.{Record}
-use Rattle.msi_transform_records.specs.declared.shape.Shape.{Shape}
-use Rattle.msi_transform_records.specs.Records.{leading, records_in}
-pub use Rattle.msi_transform_applying.specs.RecordRefusals.{◌>>=◌, Refusal, RecordPlace, at_record, in_turn_from}
-pub use Rattle.msi_transform_applying.specs.RecordRefusals.{nowhere}
+pub use Rattle.msi_transform_rows.specs.RecordRefusals.{◌>>=◌, Refusal, RecordPlace, at_record, in_turn_from, nowhere}
 use Rattle.msi_transform.specs.Transforms.{TransformDef, records_for, shapes_of}
-use Rattle.msi_transform_applying.specs.RowStreams.{brought, has_streams, is_of_streams, row_stream, row_stream_gone}
-use Rattle.msi_transform_applying.specs.RowChanges.{Rows, RowsInHand, TableChange, by_key, keyed, record_applied}
-use Rattle.msi_transform_applying.specs.SchemaChanges.{SchemaChange, SchemaInHand, TableInHand, TablesTold}
-use Rattle.msi_transform_applying.specs.SchemaChanges.{are_complete}
-use Rattle.msi_transform_applying.specs.SchemaChanges.{column_record_applied, columns_in_hand, columns_of_package}
-use Rattle.msi_transform_applying.specs.SchemaChanges.{is_added}
-use Rattle.msi_transform_applying.specs.SchemaChanges.{is_gone, plain_row, rows_of_package, table_in_hand}
-use Rattle.msi_transform_applying.specs.SchemaChanges.{table_record_applied}
+use Rattle.msi_transform_rows.specs.RowStreams.{brought, has_streams, is_of_streams, row_stream, row_stream_gone}
+use Rattle.msi_transform_rows.specs.RowChanges.{Rows, RowsInHand, TableChange, by_key, keyed, record_applied}
+use Rattle.msi_transform_schema.specs.SchemaChanges.{SchemaChange, SchemaInHand, TableInHand, TablesTold}
+use Rattle.msi_transform_schema.specs.SchemaChanges.{columns_in_hand, columns_of_package, is_added}
+use Rattle.msi_transform_schema.specs.SchemaChanges.{is_gone, plain_row, rows_of_package, table_in_hand}
 use Rattle.msi_transform.specs.declared.conditions.ErrorConditions.{ErrorConditions}
-use Rattle.msi_transform_applying.specs.declared.row.RowInHand.{RowInHand}
-use Rattle.msi_transform_applying.specs.declared.row.RowStream.{RowStream}
-use Rattle.msi_transform_applying.specs.declared.row.RowStream.TheVariants.{AsBefore, Gone, Brought}
-
--- a table's records, all read before the first is applied
-abbrev pub read_for : ℕ → TransformDef → List Shape → List ℕ → Result (List Record) Refusal
-read_for table t shapes bytes = option_map_or Ok (records_in shapes t.pool bytes)
-    (at_record table (length (leading shapes t.pool bytes).0) (Err InvalidData))
-
-abbrev pub all_applied : {S : Type 0} → ℕ → TransformDef → List Shape → List ℕ
-    → (S → Record → Result S ErrorKind) → S → Result S Refusal
-all_applied table t shapes bytes step s =
-    read_for table t shapes bytes >>= λ records. in_turn_from table step 0 s records
-
--- THE PAGE
-
--- the page stays where the transform's is neutral, and may become the transform's where it is neutral itself
-abbrev pub is_other_page : ℕ → ℕ → Bool
-is_other_page page_id other = not (page_id == 0) && not (other == 0) && not (page_id == other)
-
-abbrev pub page_refusals : ℕ → TransformDef → ErrorConditions → Refusals
-page_refusals page_id t passing = (is_other_page page_id t.page_id && not passing.other_page, InvalidInput) ∷ []
-
-abbrev pub page_after : CodePage → TransformDef → CodePage
-page_after page t = if t.page_id == 0 then page else t.pool.page
-
--- THE TABLES' LIST, AND THEIR COLUMNS
-
--- no two rows share a key
-abbrev pub have_own_keys : List Place → List ColumnDef → List (List ValueRef) → Bool
-have_own_keys places columns rows = not (has_pair same_key (keys_of_rows places columns rows))
-
-abbrev pub system_rows : Database → List ℕ → List (List ValueRef)
-system_rows d name = unwrap_or (option_map rows_of (table_at name d)) []
-
-abbrev pub system_rows_by_key : Database → List ℕ → List ColumnDef → Rows
-system_rows_by_key d name columns =
-    by_key (map (keyed columns d.pool.places) (map plain_row (system_rows d name)))
-
-abbrev pub schema_begun : Database → SchemaInHand
-schema_begun d = record {
-  tables = [];
-  listed = system_rows_by_key d tables_name tables_columns;
-  described = system_rows_by_key d columns_name columns_columns;
-  pool = record { places = d.pool.places; is_used = false };
-  streams = [];
-}
-
-abbrev pub changes_schema : TransformDef → Bool
-changes_schema t = is_some (records_for tables_name t) || is_some (records_for columns_name t)
-
--- the place of a table among those of the transform; where it has none, that behind the last
-abbrev pub place_among : List ℕ → List (List ℕ × List ℕ) → ℕ
-place_among name [] = 0
-place_among name (e ∷ es) = if bytes_eq e.0 name then 0 else place_among name es + 1
-
-abbrev pub number_of : TransformDef → List ℕ → ℕ
-number_of t name = place_among name t.tables
-
--- where there are two rows of `_Tables` or of `_Columns` with one key, nothing is changed in them
-abbrev pub schema_refusals : Database → Refusals
-schema_refusals d =
-    (not (have_own_keys d.pool.places tables_columns (system_rows d tables_name)), InvalidData)
-    ∷ (not (have_own_keys d.pool.places columns_columns (system_rows d columns_name)), InvalidData) ∷ []
-
-abbrev pub records_applied : TransformDef → List ℕ → List ColumnDef
-    → (List Shape → SchemaInHand → Record → Result SchemaInHand ErrorKind) → SchemaInHand → Result SchemaInHand Refusal
-records_applied t name columns step s = option_map_or
-    (λ bytes. all_applied (number_of t name) t (shapes_of columns) bytes (step (shapes_of columns)) s)
-    (records_for name t) (Ok s)
-
-abbrev pub complete_refusals : SchemaInHand → Refusals
-complete_refusals s = (not (are_complete s), InvalidData) ∷ []
-
-abbrev pub schema_changed : SchemaChange → Result SchemaInHand Refusal
-schema_changed change =
-    nowhere (unless_refused (schema_refusals change.database) (schema_begun change.database)) >>=
-    records_applied change.by tables_name tables_columns (table_record_applied change) >>=
-    records_applied change.by columns_name columns_columns (column_record_applied change) >>=
-    λ s. nowhere (unless_refused (complete_refusals s) s)
-
--- where there are no such records, no table is told of
-abbrev pub schema_untouched : Database → SchemaInHand
-schema_untouched d = record {
-  tables = [];
-  listed = [];
-  described = [];
-  pool = record { places = d.pool.places; is_used = false };
-  streams = [];
-}
-
-abbrev pub schema_applied : SchemaChange → Result SchemaInHand Refusal
-schema_applied change =
-    if changes_schema change.by then schema_changed change else Ok (schema_untouched change.database)
+use Rattle.msi_transform_rows.specs.declared.row.RowInHand.{RowInHand}
+use Rattle.msi_transform_rows.specs.declared.row.RowStream.{RowStream}
+use Rattle.msi_transform_rows.specs.declared.row.RowStream.TheVariants.{AsBefore, Gone, Brought}
+use Rattle.msi_transform_rows.specs.TableRecords.{all_applied, changes_schema}
+use Rattle.msi_transform_schema.specs.SchemaApplying.{have_own_keys, page_refusals, schema_applied}
 
 -- THE ROWS
 
@@ -275,6 +176,10 @@ rows_applied change schema =
     λ s. Ok (with_lengthened change schema.tables s)
 
 -- WHAT IS LEFT
+
+-- the page stays where the transform's is neutral
+abbrev pub page_after : CodePage → TransformDef → CodePage
+page_after page t = if t.page_id == 0 then page else t.pool.page
 
 -- the pool: its page, and references as wide as its places need, and no narrower than they were
 abbrev pub pool_left : Pool → TransformDef → PoolInUse → Pool

@@ -11,10 +11,10 @@ use Rattle.msi_table_cells.specs.TableCells.{TableCells}
 use Rattle.msi_table_values.specs.declared.value.Value.{Value}
 use Rattle.msi_transform.specs.Transforms.{TransformDef}
 use Rattle.msi_transform_applying.specs.Applying.{TableAnew, TablesChanged, is_said, same_stream, stays, table_staying}
-use Rattle.msi_transform_applying.specs.RowStreams.{has_streams, row_stream}
-use Rattle.msi_transform_applying.specs.declared.row.RowInHand.{RowInHand}
-use Rattle.msi_transform_applying.specs.declared.row.RowStream.{RowStream}
-use Rattle.msi_transform_applying.specs.declared.row.RowStream.TheVariants.{AsBefore, Gone, Brought}
+use Rattle.msi_transform_rows.specs.RowStreams.{has_streams, row_stream}
+use Rattle.msi_transform_rows.specs.declared.row.RowInHand.{RowInHand}
+use Rattle.msi_transform_rows.specs.declared.row.RowStream.{RowStream}
+use Rattle.msi_transform_rows.specs.declared.row.RowStream.TheVariants.{AsBefore, Gone, Brought}
 
 -- a stream by its name, and the bytes that it is to have, if it is to be there
 abbrev pub Expected : Type 0

@@ -5,7 +5,7 @@ use Rattle.msi_container_format.specs.Names.{is_name_length}
 use Rattle.msi_database_schema.specs.Keys.{table_key}
 use Rattle.msi_database_storage.specs.Kept.{Kept}
 use Rattle.msi_transform_applying.specs.Applying.{Left, TableAnew}
-use Rattle.msi_transform_applying.specs.SchemaChanges.{SchemaChange}
+use Rattle.msi_transform_schema.specs.SchemaChanges.{SchemaChange}
 use Rattle.msi_transform_applying.specs.declared.leaving.Left.{Left as Held}
 
 abbrev pub left_in_hand : Held → Left

@@ -12,23 +12,19 @@ ghost use Rattle.msi_base.specs.declared.errors.ErrorKind.TheVariants.{InvalidIn
 ghost use Rattle.msi_database_changes.specs.Database.{has_table};
 ghost use Rattle.msi_database_storage.specs.Kept.{table_kept};
 ghost use Rattle.msi_database_storage.specs.Streams.{stream_at};
+ghost use Rattle.msi_transform_rows.specs.RowChanges.{keyed};
+ghost use Rattle.msi_transform_schema.specs.SchemaChanges.{is_gone as is_away, plain_row};
+ghost use Rattle.msi_transform_schema.specs.TablesInHand.{TableInHand as TableOf};
 ghost use Rattle.msi_transform_applying.specs.AnewInHand.{changed_in_hand};
 ghost use Rattle.msi_transform_applying.specs.Applying.{TableAnew as TableAnewOf, is_said as something_said};
 ghost use Rattle.msi_transform_applying.specs.Applying.{same_stream as is_one_stream, stays as is_untouched};
 ghost use Rattle.msi_transform_applying.specs.Applying.{table_staying};
 ghost use Rattle.msi_transform_applying.specs.ExpectedStreams.{HasNames, all_expected, expected_at};
-ghost use Rattle.msi_transform_applying.specs.ExpectedStreams.{expected_of, is_met as is_kept_to, row_expects};
-ghost use Rattle.msi_transform_applying.specs.ExpectedStreams.{staying_expects, table_expects};
+ghost use Rattle.msi_transform_applying.specs.ExpectedStreams.{expected_of as expects_of, is_met as is_kept_to};
+ghost use Rattle.msi_transform_applying.specs.ExpectedStreams.{row_expects, staying_expects, table_expects};
 ghost use Rattle.msi_transform_applying.specs.LeftInHand.{base_of};
-ghost use Rattle.msi_transform_applying.specs.RowChanges.{keyed};
-ghost use Rattle.msi_transform_applying.specs.SchemaChanges.{is_gone as is_away, plain_row};
-ghost use Rattle.msi_transform_applying.specs.TablesInHand.{TableInHand as TableOf};
 
 use crate::reasons;
-use crate::row::RowStream;
-use crate::row_streams::{has_streams, row_stream};
-use crate::schema_change::SchemaChange;
-use crate::tables_by_name::TablesByName;
 use crate::tables_in_hand::{TableAnew, TablesChanged};
 use msi_base::errors::{Error, ErrorKind};
 use msi_container_format::contents::{Bytes, StreamMap};
@@ -38,6 +34,10 @@ use msi_database_changes::keys::Key;
 use msi_database_storage::table_rows;
 use msi_table::Table;
 use msi_table::parts::StoredRows;
+use msi_transform_rows::row::RowStream;
+use msi_transform_rows::row_streams::{has_streams, row_stream};
+use msi_transform_schema::SchemaChange;
+use msi_transform_schema::tables_by_name::TablesByName;
 use std::alloc::Global;
 use std::collections::BTreeSet;
 use std::marker::Model;
@@ -166,212 +166,215 @@ fn is_dropped(told: &TablesByName, name: &str) -> bool
     }
 }
 
-impl<'a> SchemaChange<'a> {
-    /// Returns the bytes of a stream of the package.
-    fn held_stream(&self, name: &Name) -> Option<&'a Bytes>
-        ensures { option_copied result ≡ stream_at name.now self.now.streams }
-    {
-        self.streams.get(name)
-    }
+/// Returns the bytes of a stream of the package.
+fn held_stream<'a>(change: &SchemaChange<'a>, name: &Name) -> Option<&'a Bytes>
+    ensures { option_copied result ≡ stream_at name.now change.now.streams }
+{
+    change.streams().get(name)
+}
 
-    /// Returns the bytes of a stream of the transform.
-    fn brought_stream(&self, name: &Name) -> Option<&'a Bytes>
-        ensures { option_copied result ≡ stream_at name.now self.now.by.streams }
-    {
-        self.transform.streams().get(name)
-    }
+/// Returns the bytes of a stream of the transform.
+fn brought_stream<'a>(change: &SchemaChange<'a>, name: &Name) -> Option<&'a Bytes>
+    ensures { option_copied result ≡ stream_at name.now change.now.by.streams }
+{
+    change.transform().streams().get(name)
+}
 
-    /// Returns what a row expects of the stream of its name.
-    fn expected_of(
-        &self,
-        said: &SaidStreams,
-        name: Name,
-        stream: RowStream,
-    ) -> Option<ExpectedStream<'a>>
-        ensures { option_to_list result ≡ expected_of (base_of self.now) self.now.by said.now stream name }
-    {
-        match stream {
-            RowStream::AsBefore => {
-                if said.contains(&name) {
-                    let bytes = self.held_stream(&name);
-                    Some(ExpectedStream::new(name, bytes))
-                } else {
-                    None
-                }
-            }
-            RowStream::Gone => Some(ExpectedStream::new(name, None)),
-            RowStream::Brought => {
-                let bytes = self.brought_stream(&name);
+/// Returns what a row expects of the stream of its name.
+fn expected_of<'a>(
+    change: &SchemaChange<'a>,
+    said: &SaidStreams,
+    name: Name,
+    stream: RowStream,
+) -> Option<ExpectedStream<'a>>
+    ensures { option_to_list result ≡ expects_of (base_of change.now) change.now.by said.now stream name }
+{
+    match stream {
+        RowStream::AsBefore => {
+            if said.contains(&name) {
+                let bytes = held_stream(change, &name);
                 Some(ExpectedStream::new(name, bytes))
+            } else {
+                None
             }
         }
-    }
-
-    /// Adds what a row of a table expects.
-    fn push_of_row(
-        &self,
-        expected: &mut Vec<ExpectedStream<'a>>,
-        said: &SaidStreams,
-        table: &str,
-        key: &Key,
-        stream: RowStream,
-    ) -> Result<(), Error>
-        ensures ok { let added = expected_at (base_of self.now) self.now.by said.now table.now key.now stream in
-            OnOk result (expected.new.items ≡ expected.old.items ++ added) }
-        ensures kind { OnlyMemory result }
-    {
-        let Some(name) = row_stream(self.alloc, table, key)? else {
-            return Ok(());
-        };
-        if let Some(stream) = self.expected_of(said, name, stream) {
-            expected.push(stream)?;
+        RowStream::Gone => Some(ExpectedStream::new(name, None)),
+        RowStream::Brought => {
+            let bytes = brought_stream(change, &name);
+            Some(ExpectedStream::new(name, bytes))
         }
-        Ok(())
     }
+}
 
-    /// Adds what the rows of a table expect that is stored anew.
-    fn push_of_table(
-        &self,
-        expected: &mut Vec<ExpectedStream<'a>>,
-        said: &SaidStreams,
-        table: &TableAnew,
-    ) -> Result<(), Error>
-        ensures ok { let added = table_expects (base_of self.now) self.now.by said.now table.now in
-            OnOk result (expected.new.items ≡ expected.old.items ++ added) }
-        ensures kind { OnlyMemory result }
-    {
-        if !has_streams(table.columns.as_slice()) {
-            return Ok(());
-        }
-        for (key, row) in &table.rows {
-            self.push_of_row(expected, said, table.name, key, row.stream)?;
-        }
-        Ok(())
+/// Adds what a row of a table expects.
+fn push_of_row<'a>(
+    change: &SchemaChange<'a>,
+    expected: &mut Vec<ExpectedStream<'a>>,
+    said: &SaidStreams,
+    table: &str,
+    key: &Key,
+    stream: RowStream,
+) -> Result<(), Error>
+    ensures ok { let added = expected_at (base_of change.now) change.now.by said.now table.now key.now stream in
+        OnOk result (expected.new.items ≡ expected.old.items ++ added) }
+    ensures kind { OnlyMemory result }
+{
+    let Some(name) = row_stream(change.alloc(), table, key)? else {
+        return Ok(());
+    };
+    if let Some(stream) = expected_of(change, said, name, stream) {
+        expected.push(stream)?;
     }
+    Ok(())
+}
 
-    /// Adds what the rows of tables expect that are stored anew.
-    fn push_of_tables(
-        &self,
-        expected: &mut Vec<ExpectedStream<'a>>,
-        said: &SaidStreams,
-        tables: &[TableAnew],
-    ) -> Result<(), Error>
-        ensures ok { let added = flat_map (table_expects (base_of self.now) self.now.by said.now) tables.now in
-            OnOk result (expected.new.items ≡ expected.old.items ++ added) }
-        ensures kind { OnlyMemory result }
-    {
-        for table in tables {
-            self.push_of_table(expected, said, table)?;
-        }
-        Ok(())
+/// Adds what the rows of a table expect that is stored anew.
+fn push_of_table<'a>(
+    change: &SchemaChange<'a>,
+    expected: &mut Vec<ExpectedStream<'a>>,
+    said: &SaidStreams,
+    table: &TableAnew,
+) -> Result<(), Error>
+    ensures ok { let added = table_expects (base_of change.now) change.now.by said.now table.now in
+        OnOk result (expected.new.items ≡ expected.old.items ++ added) }
+    ensures kind { OnlyMemory result }
+{
+    if !has_streams(table.columns.as_slice()) {
+        return Ok(());
     }
+    for (key, row) in &table.rows {
+        push_of_row(change, expected, said, table.name, key, row.stream)?;
+    }
+    Ok(())
+}
 
-    /// Adds what rows expect that lie in the stream of a table of this name.
-    fn push_of_stored(
-        &self,
-        expected: &mut Vec<ExpectedStream<'a>>,
-        said: &SaidStreams,
-        name: &str,
-        rows: &StoredRows,
-    ) -> Result<(), Error>
-        ensures ok { let places = self.now.database.pool.places in
-            let with_keys = map (λ row. keyed rows.now.columns places (plain_row row)) rows.now.rows in
-            let added = flat_map (row_expects (base_of self.now) self.now.by said.now name.now) with_keys in
-            OnOk result (expected.new.items ≡ expected.old.items ++ added) }
-        ensures kind { OnlyMemory result }
-    {
-        for at in 0..rows.len() {
-            let row = rows.row(self.alloc, at)?;
-            let key = self.key_of_row(rows.columns(), row.as_slice())?;
-            self.push_of_row(expected, said, name, &key, RowStream::AsBefore)?;
-        }
-        Ok(())
+/// Adds what the rows of tables expect that are stored anew.
+fn push_of_tables<'a>(
+    change: &SchemaChange<'a>,
+    expected: &mut Vec<ExpectedStream<'a>>,
+    said: &SaidStreams,
+    tables: &[TableAnew],
+) -> Result<(), Error>
+    ensures ok { let added = flat_map (table_expects (base_of change.now) change.now.by said.now) tables.now in
+        OnOk result (expected.new.items ≡ expected.old.items ++ added) }
+    ensures kind { OnlyMemory result }
+{
+    for table in tables {
+        push_of_table(change, expected, said, table)?;
     }
+    Ok(())
+}
 
-    /// Adds what the rows of a table of the package expect that stays as it is.
-    fn push_of_rows(
-        &self,
-        expected: &mut Vec<ExpectedStream<'a>>,
-        said: &SaidStreams,
-        table: &Table,
-    ) -> Result<(), Error>
-        requires { table.now.long ≡ self.now.database.pool.long }
-        ensures ok { let d = self.now.database in
-            let staying = table_staying d (table_kept self.now.streams d.pool.long table.now) in
-            let added = flat_map (row_expects (base_of self.now) self.now.by said.now table.now.name) staying.rows in
-            OnOk result (expected.new.items ≡ expected.old.items ++ added) }
-        ensures kind { OnlyMemory result }
-    {
-        let Some(rows) = table_rows(self.streams, table) else {
-            return Ok(());
-        };
-        self.push_of_stored(expected, said, table.name(), &rows)?;
-        Ok(())
+/// Adds what rows expect that lie in the stream of a table of this name.
+fn push_of_stored<'a>(
+    change: &SchemaChange<'a>,
+    expected: &mut Vec<ExpectedStream<'a>>,
+    said: &SaidStreams,
+    name: &str,
+    rows: &StoredRows,
+) -> Result<(), Error>
+    ensures ok { let places = change.now.database.pool.places in
+        let with_keys = map (λ row. keyed rows.now.columns places (plain_row row)) rows.now.rows in
+        let added = flat_map (row_expects (base_of change.now) change.now.by said.now name.now) with_keys in
+        OnOk result (expected.new.items ≡ expected.old.items ++ added) }
+    ensures kind { OnlyMemory result }
+{
+    for at in 0..rows.len() {
+        let row = rows.row(change.alloc(), at)?;
+        let key = change.key_of_row(rows.columns(), row.as_slice())?;
+        push_of_row(change, expected, said, name, &key, RowStream::AsBefore)?;
     }
+    Ok(())
+}
 
-    /// Returns whether a table of the package stays as it is.
-    fn stays(&self, changed: &TablesChanged<'a>, name: &str) -> bool
-        requires { has_table name.now self.now.database ≡ true }
-        ensures { let c = changed_in_hand changed.now in
-            result ≡ is_untouched self.now.database c.told c.tables name.now }
-    {
-        !is_anew(changed.tables.tables.as_slice(), name) && !is_dropped(&changed.told, name)
-    }
+/// Adds what the rows of a table of the package expect that stays as it is.
+fn push_of_rows<'a>(
+    change: &SchemaChange<'a>,
+    expected: &mut Vec<ExpectedStream<'a>>,
+    said: &SaidStreams,
+    table: &Table,
+) -> Result<(), Error>
+    requires { table.now.long ≡ change.now.database.pool.long }
+    ensures ok { let d = change.now.database in
+        let staying = table_staying d (table_kept change.now.streams d.pool.long table.now) in
+        let added = flat_map (row_expects (base_of change.now) change.now.by said.now table.now.name) staying.rows in
+        OnOk result (expected.new.items ≡ expected.old.items ++ added) }
+    ensures kind { OnlyMemory result }
+{
+    let Some(rows) = table_rows(change.streams(), table) else {
+        return Ok(());
+    };
+    push_of_stored(change, expected, said, table.name(), &rows)?;
+    Ok(())
+}
 
-    /// Adds what the rows of a table of the package expect, if it stays as it is.
-    fn push_of_staying(
-        &self,
-        expected: &mut Vec<ExpectedStream<'a>>,
-        said: &SaidStreams,
-        changed: &TablesChanged<'a>,
-        table: &Table,
-    ) -> Result<(), Error>
-        requires there { has_table table.now.name self.now.database ≡ true }
-        requires long { table.now.long ≡ self.now.database.pool.long }
-        requires said { said.now ≡ changed.now.tables.streams.items }
-        ensures ok { let kept = table_kept self.now.streams self.now.database.pool.long table.now in
-            let added = staying_expects (base_of self.now) self.now.by (changed_in_hand changed.now) kept in
-            OnOk result (expected.new.items ≡ expected.old.items ++ added) }
-        ensures kind { OnlyMemory result }
-    {
-        if !has_streams(table.columns()) || !self.stays(changed, table.name()) {
-            return Ok(());
-        }
-        self.push_of_rows(expected, said, table)
-    }
+/// Returns whether a table of the package stays as it is.
+fn stays<'a>(change: &SchemaChange<'a>, changed: &TablesChanged<'a>, name: &str) -> bool
+    requires { has_table name.now change.now.database ≡ true }
+    ensures { let c = changed_in_hand changed.now in
+        result ≡ is_untouched change.now.database c.told c.tables name.now }
+{
+    !is_anew(changed.tables.tables.as_slice(), name) && !is_dropped(&changed.told, name)
+}
 
-    /// Adds what the rows of the package's tables expect that stay as they are.
-    fn push_of_package(
-        &self,
-        expected: &mut Vec<ExpectedStream<'a>>,
-        said: &SaidStreams,
-        changed: &TablesChanged<'a>,
-    ) -> Result<(), Error>
-        requires said { said.now ≡ changed.now.tables.streams.items }
-        ensures ok { let c = changed_in_hand changed.now in
-            let added = flat_map (staying_expects (base_of self.now) self.now.by c) self.now.database.tables in
-            OnOk result (expected.new.items ≡ expected.old.items ++ added) }
-        ensures kind { OnlyMemory result }
-    {
-        for table in self.tables {
-            self.push_of_staying(expected, said, changed, table)?;
-        }
-        Ok(())
+/// Adds what the rows of a table of the package expect, if it stays as it is.
+fn push_of_staying<'a>(
+    change: &SchemaChange<'a>,
+    expected: &mut Vec<ExpectedStream<'a>>,
+    said: &SaidStreams,
+    changed: &TablesChanged<'a>,
+    table: &Table,
+) -> Result<(), Error>
+    requires there { has_table table.now.name change.now.database ≡ true }
+    requires long { table.now.long ≡ change.now.database.pool.long }
+    requires said { said.now ≡ changed.now.tables.streams.items }
+    ensures ok { let kept = table_kept change.now.streams change.now.database.pool.long table.now in
+        let added = staying_expects (base_of change.now) change.now.by (changed_in_hand changed.now) kept in
+        OnOk result (expected.new.items ≡ expected.old.items ++ added) }
+    ensures kind { OnlyMemory result }
+{
+    if !has_streams(table.columns()) || !stays(change, changed, table.name()) {
+        return Ok(());
     }
+    push_of_rows(change, expected, said, table)
+}
 
-    /// Returns the streams that rows are to have once the changed tables are stored.
-    pub(crate) fn expected_streams(
-        &self,
-        changed: &TablesChanged<'a>,
-    ) -> Result<Vec<ExpectedStream<'a>>, Error>
-        ensures ok { IfOk result (λ expected.
-            expected.items ≡ all_expected (base_of self.now) self.now.by (changed_in_hand changed.now)) }
-        ensures kind { OnlyMemory result }
-    {
-        let said = SaidStreams::new(self.alloc, changed.tables.streams.as_slice())?;
-        let mut expected = Vec::new(self.alloc);
-        self.push_of_tables(&mut expected, &said, changed.tables.tables.as_slice())?;
-        self.push_of_package(&mut expected, &said, changed)?;
-        Ok(expected)
+/// Adds what the rows of the package's tables expect that stay as they are.
+fn push_of_package<'a>(
+    change: &SchemaChange<'a>,
+    expected: &mut Vec<ExpectedStream<'a>>,
+    said: &SaidStreams,
+    changed: &TablesChanged<'a>,
+) -> Result<(), Error>
+    requires said { said.now ≡ changed.now.tables.streams.items }
+    ensures ok { let c = changed_in_hand changed.now in
+        let added = flat_map (staying_expects (base_of change.now) change.now.by c) change.now.database.tables in
+        OnOk result (expected.new.items ≡ expected.old.items ++ added) }
+    ensures kind { OnlyMemory result }
+{
+    for table in change.tables() {
+        push_of_staying(change, expected, said, changed, table)?;
     }
+    Ok(())
+}
+
+/// Returns the streams that rows are to have once the changed tables are stored.
+pub(crate) fn expected_streams<'a>(
+    change: &SchemaChange<'a>,
+    changed: &TablesChanged<'a>,
+) -> Result<Vec<ExpectedStream<'a>>, Error>
+    ensures ok { IfOk result (λ expected.
+        expected.items ≡ all_expected (base_of change.now) change.now.by (changed_in_hand changed.now)) }
+    ensures kind { OnlyMemory result }
+{
+    let said = SaidStreams::new(change.alloc(), changed.tables.streams.as_slice())?;
+    let mut expected = Vec::new(change.alloc());
+    push_of_tables(
+        change,
+        &mut expected,
+        &said,
+        changed.tables.tables.as_slice(),
+    )?;
+    push_of_package(change, &mut expected, &said, changed)?;
+    Ok(expected)
 }

@@ -11,21 +11,17 @@ ghost use Rattle.msi_database_changes.specs.Texts.{in_use, widens};
 ghost use Rattle.msi_database_schema.specs.Keys.{table_key as key_of_table};
 ghost use Rattle.msi_database_storage.specs.Storing.{stored_in};
 ghost use Rattle.msi_database_storage.specs.Streams.{with_stream, with_stream_or_none, without_stream};
+ghost use Rattle.msi_transform_rows.specs.RecordRefusals.{IsRefused};
+ghost use Rattle.msi_transform_rows.specs.RowChanges.{cells_of};
 ghost use Rattle.msi_transform_applying.specs.AnewInHand.{anew_in_hand, changed_in_hand};
 ghost use Rattle.msi_transform_applying.specs.Applying.{finished, page_after as page_left};
 ghost use Rattle.msi_transform_applying.specs.Applying.{pool_left as pool_that_is_left};
 ghost use Rattle.msi_transform_applying.specs.Applying.{streams_stored, streams_under, table_stored};
 ghost use Rattle.msi_transform_applying.specs.Applying.{texts_read_back as all_read_back};
 ghost use Rattle.msi_transform_applying.specs.LeftInHand.{CanBeStored, base_of, left_in_hand};
-ghost use Rattle.msi_transform_applying.specs.RecordRefusals.{IsRefused};
-ghost use Rattle.msi_transform_applying.specs.RowChanges.{cells_of};
 
-use crate::agreeing::check_expected;
+use crate::agreeing::{check_expected, expected_streams};
 use crate::reasons;
-use crate::refusal::Refusal;
-use crate::row::RowInHand;
-use crate::row_bytes::row_bytes;
-use crate::schema_change::SchemaChange;
 use crate::tables_in_hand::{TableAnew, TablesChanged, TablesInHand};
 use msi_base::codepage::CodePage;
 use msi_base::errors::{Error, ErrorKind};
@@ -41,6 +37,10 @@ use msi_database_storage::look_at;
 use msi_pool::stringpool::StringPool;
 use msi_table_cells::cell::ValueRef;
 use msi_transform::Transform;
+use msi_transform_rows::Refusal;
+use msi_transform_rows::row::RowInHand;
+use msi_transform_rows::row_bytes::row_bytes;
+use msi_transform_schema::SchemaChange;
 use std::alloc::Global;
 
 /// The pool and the streams that a transform leaves.
@@ -234,30 +234,32 @@ impl TablesChanged<'_> {
     }
 }
 
-impl<'a> SchemaChange<'a> {
-    /// Returns the pool and the streams that are left once the changed tables are stored over these streams: the
-    /// package's, with wider references where `needs_long` says so. A table that has rows needs a name whose stream a
-    /// container can have.
-    ///
-    /// # Errors
-    /// Fails with `InvalidInput` if two rows whose streams have one name would have other bytes, or if a text can't be
-    /// written in the code page so that it reads back. Otherwise it fails with `OutOfMemory`.
-    pub fn leave(&self, changed: TablesChanged<'a>, under: StreamMap) -> Result<Left, Refusal>
-        requires page { changed.tables.pool.pool.page ≡ self.now.database.pool.page }
-        requires long { changed.tables.pool.pool.long ≡ self.now.database.pool.long }
-        requires named { AllByRecursion CanBeStored (changed_in_hand changed).tables.tables }
-        requires under { let long = is_long_with self.now.database.pool.long changed.tables.pool.pool.places in
-            entries under ≡ streams_under (base_of self.now) long }
-        ensures ok { let c = changed_in_hand changed.entry in
-            IfOk result (λ left. finished (base_of self.now) self.now.by c ≡ Ok (left_in_hand left)) }
-        ensures kind { let c = changed_in_hand changed.entry in
-            IfErr result (IsRefused (finished (base_of self.now) self.now.by c)) }
-    {
-        let expected = self.expected_streams(&changed)?;
-        let TablesChanged { told: _, tables } = changed;
-        let left = stored_over(self.alloc, tables, self.transform, under)?;
-        check_expected(expected.as_slice(), &left.streams)?;
-        check_texts(&left.pool)?;
-        Ok(left)
-    }
+/// Returns the pool and the streams that are left once the changed tables are stored over these streams: the
+/// package's, with wider references where `needs_long` says so. A table that has rows needs a name whose stream a
+/// container can have.
+///
+/// # Errors
+/// Fails with `InvalidInput` if two rows whose streams have one name would have other bytes, or if a text can't be
+/// written in the code page so that it reads back. Otherwise it fails with `OutOfMemory`.
+pub fn leave<'a>(
+    change: &SchemaChange<'a>,
+    changed: TablesChanged<'a>,
+    under: StreamMap,
+) -> Result<Left, Refusal>
+    requires page { changed.tables.pool.pool.page ≡ change.now.database.pool.page }
+    requires long { changed.tables.pool.pool.long ≡ change.now.database.pool.long }
+    requires named { AllByRecursion CanBeStored (changed_in_hand changed).tables.tables }
+    requires under { let long = is_long_with change.now.database.pool.long changed.tables.pool.pool.places in
+        entries under ≡ streams_under (base_of change.now) long }
+    ensures ok { let c = changed_in_hand changed.entry in
+        IfOk result (λ left. finished (base_of change.now) change.now.by c ≡ Ok (left_in_hand left)) }
+    ensures kind { let c = changed_in_hand changed.entry in
+        IfErr result (IsRefused (finished (base_of change.now) change.now.by c)) }
+{
+    let expected = expected_streams(change, &changed)?;
+    let TablesChanged { told: _, tables } = changed;
+    let left = stored_over(change.alloc(), tables, change.transform(), under)?;
+    check_expected(expected.as_slice(), &left.streams)?;
+    check_texts(&left.pool)?;
+    Ok(left)
 }

@@ -12,30 +12,21 @@ ghost use Rattle.msi_database_schema.specs.Keys.{is_table_name as is_of_table};
 ghost use Rattle.msi_database_schema.specs.System.{columns_columns as columns_of_columns, columns_name};
 ghost use Rattle.msi_database_schema.specs.System.{tables_columns as columns_of_tables, tables_name};
 ghost use Rattle.msi_transform.specs.Transforms.{shapes_of as shapes_in};
+ghost use Rattle.msi_transform_rows.specs.TableRecords.{all_applied, changes_schema as tells_of_schema};
+ghost use Rattle.msi_transform_rows.specs.RecordRefusals.{IsRefused};
+ghost use Rattle.msi_transform_rows.specs.RowChanges.{TableChange as RowsChange, by_key, keyed, record_applied};
+ghost use Rattle.msi_transform_rows.specs.RowsInHand.{hand as rows_now};
+ghost use Rattle.msi_transform_rows.specs.RowStreams.{is_of_streams as holds_stream};
+ghost use Rattle.msi_transform_schema.specs.SchemaApplying.{have_own_keys as all_have_own_keys};
+ghost use Rattle.msi_transform_schema.specs.InHand.{in_hand};
+ghost use Rattle.msi_transform_schema.specs.SchemaChanges.{is_gone, rows_of_package};
 ghost use Rattle.msi_transform_applying.specs.AnewInHand.{anew_in_hand, changed_in_hand};
-ghost use Rattle.msi_transform_applying.specs.Applying.{all_applied, changes_schema as tells_of_schema};
-ghost use Rattle.msi_transform_applying.specs.Applying.{have_own_keys as all_have_own_keys, system_anew};
+ghost use Rattle.msi_transform_applying.specs.Applying.{system_anew};
 ghost use Rattle.msi_transform_applying.specs.Applying.{is_broken as has_bad_key, rows_begun, rows_changed};
 ghost use Rattle.msi_transform_applying.specs.Applying.{streams_begun, table_applied, table_or_schema, tables_in_turn};
-ghost use Rattle.msi_transform_applying.specs.InHand.{in_hand};
-ghost use Rattle.msi_transform_applying.specs.RecordRefusals.{IsRefused};
-ghost use Rattle.msi_transform_applying.specs.RowChanges.{TableChange as RowsChange, by_key, keyed, record_applied};
-ghost use Rattle.msi_transform_applying.specs.RowsInHand.{hand as rows_now};
-ghost use Rattle.msi_transform_applying.specs.RowStreams.{is_of_streams as holds_stream};
-ghost use Rattle.msi_transform_applying.specs.SchemaChanges.{is_gone, rows_of_package};
 
-use crate::keyed::KeyedRows;
+use crate::lengthening::{begin_rows, begin_streams, columns_in_hand, lengthen_tables, with_keys};
 use crate::reasons;
-use crate::refusal::{RecordPlace, Refusal};
-use crate::row::RowInHand;
-use crate::row_changes::apply_records;
-use crate::row_streams::is_of_streams;
-use crate::rows_in_hand::RowsInHand;
-use crate::schema::{SchemaInHand, TableInHand};
-use crate::schema_change::SchemaChange;
-use crate::table_change::TableChange;
-use crate::table_records::{changes_schema, read_table};
-use crate::tables_by_name::TablesByName;
 use crate::tables_in_hand::{TableAnew, TablesChanged, TablesInHand};
 use msi_base::errors::{Error, ErrorKind};
 use msi_base::text::Items;
@@ -48,6 +39,17 @@ use msi_database_schema::system::{
 };
 use msi_table_cells::cell::ValueRef;
 use msi_table_values::column::Column;
+use msi_transform_rows::keyed::KeyedRows;
+use msi_transform_rows::row::RowInHand;
+use msi_transform_rows::row_changes::apply_records;
+use msi_transform_rows::row_streams::is_of_streams;
+use msi_transform_rows::rows_in_hand::RowsInHand;
+use msi_transform_rows::table_change::TableChange;
+use msi_transform_rows::table_records::{changes_schema, read_table};
+use msi_transform_rows::{RecordPlace, Refusal};
+use msi_transform_schema::SchemaChange;
+use msi_transform_schema::schema::{SchemaInHand, TableInHand};
+use msi_transform_schema::tables_by_name::TablesByName;
 use std::alloc::Global;
 
 fn has_key(columns: &[Column]) -> bool
@@ -117,254 +119,280 @@ fn with_anew<'a>(
     })
 }
 
-impl<'a> SchemaChange<'a> {
-    fn keys_of(&self, columns: &[Column], rows: &[Items<ValueRef>]) -> Result<Vec<Key<'a>>, Error>
-        ensures ok { IfOk result (λ keys.
-            keys.items ≡ keys_of_rows self.now.database.pool.places columns.now rows.now) }
-        ensures kind { OnlyMemory result }
-    {
-        let mut keys = Vec::with_capacity(self.alloc, rows.len())?;
-        for row in rows {
-            keys.push(self.key_of_row(columns, row.as_slice())?)?;
-        }
-        Ok(keys)
+fn keys_of<'a>(
+    change: &SchemaChange<'a>,
+    columns: &[Column],
+    rows: &[Items<ValueRef>],
+) -> Result<Vec<Key<'a>>, Error>
+    ensures ok { IfOk result (λ keys.
+        keys.items ≡ keys_of_rows change.now.database.pool.places columns.now rows.now) }
+    ensures kind { OnlyMemory result }
+{
+    let mut keys = Vec::with_capacity(change.alloc(), rows.len())?;
+    for row in rows {
+        keys.push(change.key_of_row(columns, row.as_slice())?)?;
     }
+    Ok(keys)
+}
 
-    fn have_own_keys(&self, columns: &[Column], rows: &[Items<ValueRef>]) -> Result<bool, Error>
-        ensures ok { IfOk result (λ own.
-            own ≡ all_have_own_keys self.now.database.pool.places columns.now rows.now) }
-        ensures kind { OnlyMemory result }
-    {
-        let keys = self.keys_of(columns, rows)?;
-        Ok(distinct_keys(self.alloc, keys)?.is_some())
+fn have_own_keys(
+    change: &SchemaChange,
+    columns: &[Column],
+    rows: &[Items<ValueRef>],
+) -> Result<bool, Error>
+    ensures ok { IfOk result (λ own.
+        own ≡ all_have_own_keys change.now.database.pool.places columns.now rows.now) }
+    ensures kind { OnlyMemory result }
+{
+    let keys = keys_of(change, columns, rows)?;
+    Ok(distinct_keys(change.alloc(), keys)?.is_some())
+}
+
+/// Returns whether the key of a table has no columns, or some of streams, or two rows share one.
+fn is_broken(
+    change: &SchemaChange,
+    columns: &[Column],
+    rows: &[Items<ValueRef>],
+) -> Result<bool, Error>
+    ensures ok { IfOk result (λ broken. broken ≡ has_bad_key change.now.database columns.now rows.now) }
+    ensures kind { OnlyMemory result }
+{
+    if !has_key(columns) || has_key_of_streams(columns) {
+        return Ok(true);
     }
+    Ok(!have_own_keys(change, columns, rows)?)
+}
 
-    /// Returns whether the key of a table has no columns, or some of streams, or two rows share one.
-    fn is_broken(&self, columns: &[Column], rows: &[Items<ValueRef>]) -> Result<bool, Error>
-        ensures ok { IfOk result (λ broken. broken ≡ has_bad_key self.now.database columns.now rows.now) }
-        ensures kind { OnlyMemory result }
-    {
-        if !has_key(columns) || has_key_of_streams(columns) {
-            return Ok(true);
-        }
-        Ok(!self.have_own_keys(columns, rows)?)
+/// Refuses a table that isn't there, or whose rows can't be told apart by their keys.
+fn refuse_table(
+    change: &SchemaChange,
+    name: &str,
+    table: &TableInHand,
+    columns: &[Column],
+) -> Result<(), Error>
+    ensures ok { let rows = rows_of_package change.now.database name.now table.now.standing in
+        let broken = has_bad_key change.now.database columns.now rows in
+        OnOk result (unless_refused ((is_gone table.now.standing, kind.NotFound)
+        ∷ (not (is_of_table name.now), kind.InvalidData)
+        ∷ (broken, kind.InvalidData) ∷ []) (tt {0}) ≡ Ok tt) }
+    ensures kind { let rows = rows_of_package change.now.database name.now table.now.standing in
+        let broken = has_bad_key change.now.database columns.now rows in
+        IfErr result (IsRefusal (unless_refused ((is_gone table.now.standing, kind.NotFound)
+        ∷ (not (is_of_table name.now), kind.InvalidData)
+        ∷ (broken, kind.InvalidData) ∷ []) (tt {0}))) }
+{
+    if table.standing().is_gone() {
+        return Err(Error::new(ErrorKind::NotFound, reasons::NO_TABLE));
     }
-
-    /// Refuses a table that isn't there, or whose rows can't be told apart by their keys.
-    fn refuse_table(&self, name: &str, table: &TableInHand, columns: &[Column]) -> Result<(), Error>
-        ensures ok { let rows = rows_of_package self.now.database name.now table.now.standing in
-            let broken = has_bad_key self.now.database columns.now rows in
-            OnOk result (unless_refused ((is_gone table.now.standing, kind.NotFound)
-            ∷ (not (is_of_table name.now), kind.InvalidData)
-            ∷ (broken, kind.InvalidData) ∷ []) (tt {0}) ≡ Ok tt) }
-        ensures kind { let rows = rows_of_package self.now.database name.now table.now.standing in
-            let broken = has_bad_key self.now.database columns.now rows in
-            IfErr result (IsRefusal (unless_refused ((is_gone table.now.standing, kind.NotFound)
-            ∷ (not (is_of_table name.now), kind.InvalidData)
-            ∷ (broken, kind.InvalidData) ∷ []) (tt {0}))) }
-    {
-        if table.standing().is_gone() {
-            return Err(Error::new(ErrorKind::NotFound, reasons::NO_TABLE));
-        }
-        if !is_table_name(name) {
-            return Err(Error::new(ErrorKind::InvalidData, reasons::ODD_TABLE_NAME));
-        }
-        let rows = self.rows_of(name, table.standing())?;
-        if self.is_broken(columns, rows.as_slice())? {
-            return Err(Error::new(ErrorKind::InvalidData, reasons::TABLE_BROKEN));
-        }
-        Ok(())
+    if !is_table_name(name) {
+        return Err(Error::new(ErrorKind::InvalidData, reasons::ODD_TABLE_NAME));
     }
-
-    /// Returns the rows of a table, before its records are applied, beside the pool and the streams.
-    fn begin_table(
-        &self,
-        name: &str,
-        table: &TableInHand,
-        columns: &[Column],
-        pool: PoolInUse,
-        streams: Vec<Stored>,
-    ) -> Result<RowsInHand<'a>, Error>
-        ensures ok { let d = self.now.database in IfOk result (λ begun. rows_now begun ≡ record {
-          rows = by_key (map (keyed columns.now d.pool.places) (rows_begun d name.now table.now));
-          pool = in_use pool;
-          streams = streams.items ++ streams_begun d name.now table.now;
-        }) }
-        ensures kind { OnlyMemory result }
-        ensures page { IfOk result (λ begun. begun.pool.pool.page ≡ pool.pool.page) }
-        ensures long { IfOk result (λ begun. begun.pool.pool.long ≡ pool.pool.long) }
-    {
-        let rows = self.with_keys(columns, self.begin_rows(name, table)?)?;
-        let rows = by_keys(self.alloc, rows)?;
-        let mut streams = streams;
-        self.begin_streams(&mut streams, name, table)?;
-        Ok(RowsInHand {
-            rows,
-            pool,
-            streams,
-        })
+    let rows = change.rows_of(name, table.standing())?;
+    if is_broken(change, columns, rows.as_slice())? {
+        return Err(Error::new(ErrorKind::InvalidData, reasons::TABLE_BROKEN));
     }
+    Ok(())
+}
 
-    /// Applies the records of a table to its rows.
-    fn apply_to_rows(
-        &self,
-        number: usize,
-        name: &str,
-        columns: &[Column],
-        bytes: &[u8],
-        rows: &mut RowsInHand<'a>,
-    ) -> Result<(), Refusal>
-        ensures ok { let by : RowsChange =
-            record { name = name.now; columns = columns.now; by = self.now.by; passing = self.now.passing } in
-            let applied = all_applied number self.now.by (shapes_in columns.now) bytes.now (record_applied by) in
-            OnOk result (applied (rows_now rows.old) ≡ Ok (rows_now rows.new)) }
-        ensures kind { let by : RowsChange =
-            record { name = name.now; columns = columns.now; by = self.now.by; passing = self.now.passing } in
-            let applied = all_applied number self.now.by (shapes_in columns.now) bytes.now (record_applied by) in
-            IfErr result (IsRefused (applied (rows_now rows.old))) }
-        ensures page { rows.new.pool.pool.page ≡ rows.old.pool.pool.page }
-        ensures long { rows.new.pool.pool.long ≡ rows.old.pool.pool.long }
-    {
-        let change = TableChange::new(self.alloc, name, columns, self.transform, self.passing)?;
-        let records = read_table(self.alloc, number, self.transform, change.shapes(), bytes)?;
-        apply_records(&change, number, rows, records.as_slice())
-    }
+/// Returns the rows of a table, before its records are applied, beside the pool and the streams.
+fn begin_table<'a>(
+    change: &SchemaChange<'a>,
+    name: &str,
+    table: &TableInHand,
+    columns: &[Column],
+    pool: PoolInUse,
+    streams: Vec<Stored>,
+) -> Result<RowsInHand<'a>, Error>
+    ensures ok { let d = change.now.database in IfOk result (λ begun. rows_now begun ≡ record {
+      rows = by_key (map (keyed columns.now d.pool.places) (rows_begun d name.now table.now));
+      pool = in_use pool;
+      streams = streams.items ++ streams_begun d name.now table.now;
+    }) }
+    ensures kind { OnlyMemory result }
+    ensures page { IfOk result (λ begun. begun.pool.pool.page ≡ pool.pool.page) }
+    ensures long { IfOk result (λ begun. begun.pool.pool.long ≡ pool.pool.long) }
+{
+    let rows = with_keys(change, columns, begin_rows(change, name, table)?)?;
+    let rows = by_keys(change.alloc(), rows)?;
+    let mut streams = streams;
+    begin_streams(change, &mut streams, name, table)?;
+    Ok(RowsInHand {
+        rows,
+        pool,
+        streams,
+    })
+}
 
-    /// Applies the records of a table, which has this place among those of the transform.
-    fn change_table(
-        &self,
-        told: &TablesByName<'a>,
-        number: usize,
-        hand: TablesInHand<'a>,
-        name: &'a str,
-        bytes: &[u8],
-    ) -> Result<TablesInHand<'a>, Refusal>
-        ensures ok { let applied = table_applied self.now (entries told.now) number in IfOk result (λ changed.
-            applied (anew_in_hand hand.entry) (name.now, bytes.now) ≡ Ok (anew_in_hand changed)) }
-        ensures kind { let applied = table_applied self.now (entries told.now) number in
-            IfErr result (IsRefused (applied (anew_in_hand hand.entry) (name.now, bytes.now))) }
-        ensures page { IfOk result (λ changed. changed.pool.pool.page ≡ hand.entry.pool.pool.page) }
-        ensures long { IfOk result (λ changed. changed.pool.pool.long ≡ hand.entry.pool.pool.long) }
-    {
-        let table = self.table_in_hand(told, name)?;
-        let columns = self.columns_in_hand(name, &table)?;
-        let slice = columns.as_slice();
-        if let Err(error) = self.refuse_table(name, &table, slice) {
-            let place = RecordPlace {
-                table: number,
-                record_number: 0,
-            };
-            return Err(Refusal::at(error, place));
-        }
-        let TablesInHand {
-            tables,
-            pool,
-            streams,
-        } = hand;
-        let mut rows = self.begin_table(name, &table, slice, pool, streams)?;
-        self.apply_to_rows(number, name, slice, bytes, &mut rows)?;
-        Ok(with_anew(self.alloc, tables, name, columns, rows)?)
-    }
+/// Applies the records of a table to its rows.
+fn apply_to_rows<'a>(
+    change: &SchemaChange<'a>,
+    number: usize,
+    name: &str,
+    columns: &[Column],
+    bytes: &[u8],
+    rows: &mut RowsInHand<'a>,
+) -> Result<(), Refusal>
+    ensures ok { let by : RowsChange =
+        record { name = name.now; columns = columns.now; by = change.now.by; passing = change.now.passing } in
+        let applied = all_applied number change.now.by (shapes_in columns.now) bytes.now (record_applied by) in
+        OnOk result (applied (rows_now rows.old) ≡ Ok (rows_now rows.new)) }
+    ensures kind { let by : RowsChange =
+        record { name = name.now; columns = columns.now; by = change.now.by; passing = change.now.passing } in
+        let applied = all_applied number change.now.by (shapes_in columns.now) bytes.now (record_applied by) in
+        IfErr result (IsRefused (applied (rows_now rows.old))) }
+    ensures page { rows.new.pool.pool.page ≡ rows.old.pool.pool.page }
+    ensures long { rows.new.pool.pool.long ≡ rows.old.pool.pool.long }
+{
+    let (alloc, transform) = (change.alloc(), change.transform());
+    let change = TableChange::new(alloc, name, columns, transform, change.passing())?;
+    let records = read_table(alloc, number, transform, change.shapes(), bytes)?;
+    apply_records(&change, number, rows, records.as_slice())
+}
 
-    /// Applies the records of a table, or passes over `_Tables` and `_Columns`.
-    fn change_or_pass(
-        &self,
-        told: &TablesByName<'a>,
-        number: usize,
-        hand: TablesInHand<'a>,
-        name: &'a str,
-        bytes: &[u8],
-    ) -> Result<TablesInHand<'a>, Refusal>
-        ensures ok { let applied = table_or_schema self.now (entries told.now) number in IfOk result (λ changed.
-            applied (anew_in_hand hand.entry) (name.now, bytes.now) ≡ Ok (anew_in_hand changed)) }
-        ensures kind { let applied = table_or_schema self.now (entries told.now) number in
-            IfErr result (IsRefused (applied (anew_in_hand hand.entry) (name.now, bytes.now))) }
-        ensures page { IfOk result (λ changed. changed.pool.pool.page ≡ hand.entry.pool.pool.page) }
-        ensures long { IfOk result (λ changed. changed.pool.pool.long ≡ hand.entry.pool.pool.long) }
-    {
-        if is_schema_table(name) {
-            return Ok(hand);
-        }
-        self.change_table(told, number, hand, name, bytes)
-    }
-
-    /// Applies the records of the tables of the transform in turn.
-    fn change_tables(
-        &self,
-        told: &TablesByName<'a>,
-        hand: TablesInHand<'a>,
-    ) -> Result<TablesInHand<'a>, Refusal>
-        ensures ok { let applied = tables_in_turn self.now (entries told.now) 0 in IfOk result (λ changed.
-            applied (anew_in_hand hand.entry) self.now.by.tables ≡ Ok (anew_in_hand changed)) }
-        ensures kind { let applied = tables_in_turn self.now (entries told.now) 0 in
-            IfErr result (IsRefused (applied (anew_in_hand hand.entry) self.now.by.tables)) }
-        ensures page { IfOk result (λ changed. changed.pool.pool.page ≡ hand.entry.pool.pool.page) }
-        ensures long { IfOk result (λ changed. changed.pool.pool.long ≡ hand.entry.pool.pool.long) }
-    {
-        let mut changed = hand;
-        let mut number = 0;
-        for (name, bytes) in self.transform.tables() {
-            changed = self.change_or_pass(told, number, changed, name.as_str(), bytes.as_slice())?;
-            number += 1;
-        }
-        Ok(changed)
-    }
-
-    /// Returns `_Tables` and `_Columns`, which are stored anew where the transform has records of either.
-    fn systems_anew(
-        &self,
-        listed: KeyedRows<'a>,
-        described: KeyedRows<'a>,
-    ) -> Result<Vec<TableAnew<'a>>, Error>
-        ensures ok { let anew = system_anew tables_name columns_of_tables (entries listed.entry)
-            ∷ system_anew columns_name columns_of_columns (entries described.entry) ∷ [] in
-            IfOk result (λ tables. tables.items ≡ (if tells_of_schema self.now.by then anew else [])) }
-        ensures kind { OnlyMemory result }
-    {
-        let mut tables = Vec::new(self.alloc);
-        if changes_schema(self.transform) {
-            tables.push(TableAnew {
-                name: TABLES,
-                columns: tables_columns(self.alloc)?,
-                rows: listed.into_rows(self.alloc)?,
-            })?;
-            tables.push(TableAnew {
-                name: COLUMNS,
-                columns: columns_columns(self.alloc)?,
-                rows: described.into_rows(self.alloc)?,
-            })?;
-        }
-        Ok(tables)
-    }
-
-    /// Applies the records of all tables but `_Tables` and `_Columns`, and lengthens the rows of tables that only get
-    /// columns.
-    ///
-    /// # Errors
-    /// Fails at the first table that isn't there (`NotFound`) or is broken (`InvalidData`), and at the first record
-    /// that is malformed (`InvalidData`) or at which `apply_records` fails, with that record's place: a table's is that
-    /// of its first. It may fail with `OutOfMemory` in place of any.
-    pub(crate) fn change_rows(&self, schema: SchemaInHand<'a>) -> Result<TablesChanged<'a>, Refusal>
-        ensures ok { IfOk result (λ changed.
-            rows_changed self.now (in_hand schema.entry) ≡ Ok (changed_in_hand changed)) }
-        ensures kind { IfErr result (IsRefused (rows_changed self.now (in_hand schema.entry))) }
-        ensures page { IfOk result (λ changed. changed.tables.pool.pool.page ≡ schema.entry.pool.pool.page) }
-        ensures long { IfOk result (λ changed. changed.tables.pool.pool.long ≡ schema.entry.pool.pool.long) }
-    {
-        let SchemaInHand {
-            tables: told,
-            listed,
-            described,
-            pool,
-            streams,
-        } = schema;
-        let begun = TablesInHand {
-            tables: self.systems_anew(listed, described)?,
-            pool,
-            streams,
+/// Applies the records of a table, which has this place among those of the transform.
+fn change_table<'a>(
+    change: &SchemaChange<'a>,
+    told: &TablesByName<'a>,
+    number: usize,
+    hand: TablesInHand<'a>,
+    name: &'a str,
+    bytes: &[u8],
+) -> Result<TablesInHand<'a>, Refusal>
+    ensures ok { let applied = table_applied change.now (entries told.now) number in IfOk result (λ changed.
+        applied (anew_in_hand hand.entry) (name.now, bytes.now) ≡ Ok (anew_in_hand changed)) }
+    ensures kind { let applied = table_applied change.now (entries told.now) number in
+        IfErr result (IsRefused (applied (anew_in_hand hand.entry) (name.now, bytes.now))) }
+    ensures page { IfOk result (λ changed. changed.pool.pool.page ≡ hand.entry.pool.pool.page) }
+    ensures long { IfOk result (λ changed. changed.pool.pool.long ≡ hand.entry.pool.pool.long) }
+{
+    let table = change.table_in_hand(told, name)?;
+    let columns = columns_in_hand(change, name, &table)?;
+    let slice = columns.as_slice();
+    if let Err(error) = refuse_table(change, name, &table, slice) {
+        let place = RecordPlace {
+            table: number,
+            record_number: 0,
         };
-        let mut tables = self.change_tables(&told, begun)?;
-        self.lengthen_tables(&mut tables, &told)?;
-        Ok(TablesChanged { told, tables })
+        return Err(Refusal::at(error, place));
     }
+    let TablesInHand {
+        tables,
+        pool,
+        streams,
+    } = hand;
+    let mut rows = begin_table(change, name, &table, slice, pool, streams)?;
+    apply_to_rows(change, number, name, slice, bytes, &mut rows)?;
+    Ok(with_anew(change.alloc(), tables, name, columns, rows)?)
+}
+
+/// Applies the records of a table, or passes over `_Tables` and `_Columns`.
+fn change_or_pass<'a>(
+    change: &SchemaChange<'a>,
+    told: &TablesByName<'a>,
+    number: usize,
+    hand: TablesInHand<'a>,
+    name: &'a str,
+    bytes: &[u8],
+) -> Result<TablesInHand<'a>, Refusal>
+    ensures ok { let applied = table_or_schema change.now (entries told.now) number in IfOk result (λ changed.
+        applied (anew_in_hand hand.entry) (name.now, bytes.now) ≡ Ok (anew_in_hand changed)) }
+    ensures kind { let applied = table_or_schema change.now (entries told.now) number in
+        IfErr result (IsRefused (applied (anew_in_hand hand.entry) (name.now, bytes.now))) }
+    ensures page { IfOk result (λ changed. changed.pool.pool.page ≡ hand.entry.pool.pool.page) }
+    ensures long { IfOk result (λ changed. changed.pool.pool.long ≡ hand.entry.pool.pool.long) }
+{
+    if is_schema_table(name) {
+        return Ok(hand);
+    }
+    change_table(change, told, number, hand, name, bytes)
+}
+
+/// Applies the records of the tables of the transform in turn.
+fn change_tables<'a>(
+    change: &SchemaChange<'a>,
+    told: &TablesByName<'a>,
+    hand: TablesInHand<'a>,
+) -> Result<TablesInHand<'a>, Refusal>
+    ensures ok { let applied = tables_in_turn change.now (entries told.now) 0 in IfOk result (λ changed.
+        applied (anew_in_hand hand.entry) change.now.by.tables ≡ Ok (anew_in_hand changed)) }
+    ensures kind { let applied = tables_in_turn change.now (entries told.now) 0 in
+        IfErr result (IsRefused (applied (anew_in_hand hand.entry) change.now.by.tables)) }
+    ensures page { IfOk result (λ changed. changed.pool.pool.page ≡ hand.entry.pool.pool.page) }
+    ensures long { IfOk result (λ changed. changed.pool.pool.long ≡ hand.entry.pool.pool.long) }
+{
+    let mut changed = hand;
+    let mut number = 0;
+    for (name, bytes) in change.transform().tables() {
+        changed = change_or_pass(
+            change,
+            told,
+            number,
+            changed,
+            name.as_str(),
+            bytes.as_slice(),
+        )?;
+        number += 1;
+    }
+    Ok(changed)
+}
+
+/// Returns `_Tables` and `_Columns`, which are stored anew where the transform has records of either.
+fn systems_anew<'a>(
+    change: &SchemaChange<'a>,
+    listed: KeyedRows<'a>,
+    described: KeyedRows<'a>,
+) -> Result<Vec<TableAnew<'a>>, Error>
+    ensures ok { let anew = system_anew tables_name columns_of_tables (entries listed.entry)
+        ∷ system_anew columns_name columns_of_columns (entries described.entry) ∷ [] in
+        IfOk result (λ tables. tables.items ≡ (if tells_of_schema change.now.by then anew else [])) }
+    ensures kind { OnlyMemory result }
+{
+    let mut tables = Vec::new(change.alloc());
+    if changes_schema(change.transform()) {
+        tables.push(TableAnew {
+            name: TABLES,
+            columns: tables_columns(change.alloc())?,
+            rows: listed.into_rows(change.alloc())?,
+        })?;
+        tables.push(TableAnew {
+            name: COLUMNS,
+            columns: columns_columns(change.alloc())?,
+            rows: described.into_rows(change.alloc())?,
+        })?;
+    }
+    Ok(tables)
+}
+
+/// Applies the records of all tables but `_Tables` and `_Columns`, and lengthens the rows of tables that only get
+/// columns.
+///
+/// # Errors
+/// Fails at the first table that isn't there (`NotFound`) or is broken (`InvalidData`), and at the first record
+/// that is malformed (`InvalidData`) or at which `apply_records` fails, with that record's place: a table's is that
+/// of its first. It may fail with `OutOfMemory` in place of any.
+pub(crate) fn change_rows<'a>(
+    change: &SchemaChange<'a>,
+    schema: SchemaInHand<'a>,
+) -> Result<TablesChanged<'a>, Refusal>
+    ensures ok { IfOk result (λ changed.
+        rows_changed change.now (in_hand schema.entry) ≡ Ok (changed_in_hand changed)) }
+    ensures kind { IfErr result (IsRefused (rows_changed change.now (in_hand schema.entry))) }
+    ensures page { IfOk result (λ changed. changed.tables.pool.pool.page ≡ schema.entry.pool.pool.page) }
+    ensures long { IfOk result (λ changed. changed.tables.pool.pool.long ≡ schema.entry.pool.pool.long) }
+{
+    let SchemaInHand {
+        tables: told,
+        listed,
+        described,
+        pool,
+        streams,
+    } = schema;
+    let begun = TablesInHand {
+        tables: systems_anew(change, listed, described)?,
+        pool,
+        streams,
+    };
+    let mut tables = change_tables(change, &told, begun)?;
+    lengthen_tables(change, &mut tables, &told)?;
+    Ok(TablesChanged { told, tables })
 }

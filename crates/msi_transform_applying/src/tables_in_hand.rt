@@ -1,12 +1,12 @@
 //! Tables that are stored anew, while a transform is applied.
 
-use crate::row::RowInHand;
-use crate::tables_by_name::TablesByName;
 use msi_base::text::Items;
 use msi_database_changes::Stored;
 use msi_database_changes::keys::Key;
 use msi_database_changes::texts::PoolInUse;
 use msi_table_values::column::Column;
+use msi_transform_rows::row::RowInHand;
+use msi_transform_schema::tables_by_name::TablesByName;
 use std::marker::Model;
 
 /// A table that is stored anew: its name, its columns, and its rows.

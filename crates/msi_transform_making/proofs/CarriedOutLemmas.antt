@@ -18,7 +18,7 @@ use Rattle.msi_table_values.specs.Columns.{ColumnDef}
 use Rattle.msi_table_values.specs.OrderLaws.{value_cmp-total, values_tie}
 use Rattle.msi_transform_records.specs.declared.action.Action.{Action}
 use Rattle.msi_transform_records.specs.declared.action.Action.TheVariants.{Add, Remove, Change}
-use Rattle.msi_transform_applying.specs.KeyOfRows.{key_cmp}
+use Rattle.msi_transform_rows.specs.KeyOfRows.{key_cmp}
 use Rattle.msi_transform_making.specs.Making.{ToldRecord, ToldRow, ToldRows, addition, additions, can_be_marked, change_of_row, changes, changing, differences, differing, is_replaced, removal, removals}
 use Rattle.msi_transform_making.specs.MakingLaws.{AreNewRows, AreOldRows, DifferencesGiveNewRows, IsRow, IsWholeRow, added_row, carried_out, changed_row, done_by, is_key_of_streams, record_done}
 use Rattle.msi_transform_making.proofs.ChangedRowsLemmas.{differing_turned, row_becomes, rows_alike}

@@ -19,7 +19,7 @@ use Rattle.msi_transform_records.specs.declared.shape.Shape.{Shape}
 use Rattle.msi_transform_records.specs.Actions.{told_from}
 use Rattle.msi_transform.specs.Transforms.{shapes_of}
 use Rattle.msi_transform_applying.specs.Applying.{same_stream}
-use Rattle.msi_transform_applying.specs.RowStreams.{is_of_streams}
+use Rattle.msi_transform_rows.specs.RowStreams.{is_of_streams}
 use Rattle.msi_transform_making.specs.Making.{ToldRow, can_be_marked, changing, differing, differing_values, is_marked, is_marked_in, is_stream, mask_for, same_value, tells_stream, told_value, told_values}
 use Rattle.msi_transform_making.specs.MakingLaws.{IsRow, IsWholeRow, changed_row, is_key_of_streams, is_of_key, is_told_of_streams, told_changes, with_value}
 use Rattle.msi_transform_making.proofs.MaskLemmas.{Above, bit_marked, numbers_rise}

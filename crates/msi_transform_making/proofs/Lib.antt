@@ -10,5 +10,6 @@ pub mod SharedStreamRows
 pub mod SideLemmas
 pub mod StoredRecordsLemmas
 pub mod StoringLemmas
+pub mod StreamNamesLemmas
 pub mod TableRecordsLemmas
 pub mod ToldRowsLemmas

@@ -19,7 +19,7 @@ use Rattle.msi_database_schema.specs.System.{columns_name, is_schema_table, tabl
 use Rattle.msi_database_changes.specs.Database.{Database, has_table}
 use Rattle.msi_database_storage.specs.Kept.{Kept}
 use Rattle.msi_transform_records.specs.declared.action.Action.TheVariants.{Add, Remove}
-use Rattle.msi_transform_applying.specs.KeyOfRows.{key_cmp}
+use Rattle.msi_transform_rows.specs.KeyOfRows.{key_cmp}
 use Rattle.msi_transform_making.specs.Making.{ToldRecord, ToldRow, ToldRows, by_keys, listing_record, names_beside, records_of_tables, told_names, told_rows}
 use Rattle.msi_transform_making.specs.MakingLaws.{ListsItsTables, RecordsGiveNewList, carried_out, listed_row, record_done}
 use Rattle.msi_transform_making.proofs.CarriedOutLemmas.{exact_keys, found_by, joined, keys_total, same, sorted}

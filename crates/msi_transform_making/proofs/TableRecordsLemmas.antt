@@ -22,9 +22,9 @@ use Rattle.msi_database_changes.specs.Database.{has_table}
 use Rattle.msi_database_storage.specs.Kept.{Kept}
 use Rattle.msi_transform_records.specs.declared.shape.Shape.{Shape}
 use Rattle.msi_transform.specs.Transforms.{shapes_of}
-use Rattle.msi_transform_applying.specs.Applying.{system_rows}
-use Rattle.msi_transform_applying.specs.KeyOfRows.{key_cmp}
-use Rattle.msi_transform_applying.specs.RowStreams.{has_streams, is_of_streams}
+use Rattle.msi_transform_schema.specs.SchemaApplying.{system_rows}
+use Rattle.msi_transform_rows.specs.KeyOfRows.{key_cmp}
+use Rattle.msi_transform_rows.specs.RowStreams.{has_streams, is_of_streams}
 use Rattle.msi_transform_making.specs.Making.{ToldRecord, ToldRow, ToldRows, addition, by_keys, changing, columns_before, columns_in_table, differences, first_told, has_bit_for, is_stream, or_first_told, records_beside, removal, stream_of_row, tells_stream, told_row, told_row_with, told_rows, told_stream, told_value, told_values, values_in_table}
 use Rattle.msi_transform_making.specs.MakingLaws.{AreNewRows, AreOldRows, GainsPlainColumns, HasWholeRows, IsRow, IsTellable, IsWholeRow, RecordsGiveNewTable, added_row, carried_out, is_key_of_streams, record_done, rows_before}
 use Rattle.msi_transform_making.proofs.ChangedRowsLemmas.{row_stays}

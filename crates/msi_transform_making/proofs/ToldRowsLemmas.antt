@@ -14,7 +14,7 @@ use Rattle.std.specs.declared.cmp.Ordering.TheVariants.{Less}
 use Rattle.std.proofs.lemmas.List.{drop_more}
 use Rattle.msi_table_values.specs.declared.value.Value.{Value}
 use Rattle.msi_table_values.specs.OrderLaws.{value_cmp-total, values_tie}
-use Rattle.msi_transform_applying.specs.KeyOfRows.{key_cmp}
+use Rattle.msi_transform_rows.specs.KeyOfRows.{key_cmp}
 use Rattle.msi_transform_making.specs.Making.{ToldRow, ToldRows, by_keys}
 
 keys_total : IsTotalOrder key_cmp

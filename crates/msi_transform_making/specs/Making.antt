@@ -33,10 +33,11 @@ use Rattle.msi_transform_records.specs.declared.records.Record.{Record}
 use Rattle.msi_transform_records.specs.declared.shape.Shape.{Shape}
 use Rattle.msi_transform_records.specs.Records.{record_bytes, record_with}
 use Rattle.msi_transform.specs.Transforms.{TransformDef, shapes_of}
-use Rattle.msi_transform_applying.specs.RowStreams.{has_streams, is_of_streams, row_stream}
-use Rattle.msi_transform_applying.specs.KeyOfRows.{key_cmp}
-use Rattle.msi_transform_applying.specs.SchemaChanges.{is_name_to_list}
-use Rattle.msi_transform_applying.specs.Applying.{is_broken, reads_back, same_stream, system_rows}
+use Rattle.msi_transform_rows.specs.RowStreams.{has_streams, is_of_streams, row_stream, stream_text}
+use Rattle.msi_transform_rows.specs.KeyOfRows.{key_cmp}
+use Rattle.msi_transform_schema.specs.SchemaChanges.{is_name_to_list}
+use Rattle.msi_transform_applying.specs.Applying.{is_broken, reads_back, same_stream}
+use Rattle.msi_transform_schema.specs.SchemaApplying.{system_rows}
 
 -- ROWS AS THEY ARE TOLD
 
@@ -340,6 +341,29 @@ lacks_text_of pool = list_any (is_lacking pool.page) pool.places
 abbrev pub lacks_text : Kept → Bool
 lacks_text k = lacks_text_of k.database.pool
 
+-- The texts that name the streams of rows, those with a stream: of a table's rows, and of those that another package
+-- lacks. Two rows share a stream where these are the same: `a.b` and c in a table of two keys, say, and `a` and b.c
+abbrev pub stream_texts : List ℕ → List Value × ToldRow → List (List ℕ)
+stream_texts table e = if is_some e.1.stream then stream_text table e.0 ∷ [] else []
+
+abbrev pub streams_in : Kept → List ℕ → List (List ℕ)
+streams_in k table = if has_streams (columns_in_table k table)
+    then flat_map (stream_texts table) (told_rows k table 0) else []
+
+abbrev pub is_row_gone : ToldRows → List Value × ToldRow → Bool
+is_row_gone others e = not (is_some (find key_cmp e.0 others))
+
+abbrev pub gone_streams : Kept → Kept → List ℕ → List (List ℕ)
+gone_streams old new table = if has_streams (columns_in_table old table)
+    then flat_map (stream_texts table) (filter (is_row_gone (told_rows new table 0)) (told_rows old table 0)) else []
+
+abbrev pub shared_among : List (List ℕ) → Bool
+shared_among texts = has_pair bytes_eq texts
+
+abbrev pub shares_stream : Pair → Bool
+shares_stream p = shared_among (flat_map (streams_in p.new) (told_names p.new)
+    ++ flat_map (gone_streams p.old p.new) (told_names p.old))
+
 -- both packages describe the columns that both have alike, and what is added is no key
 abbrev pub same_row : List Value → List Value → Bool
 same_row row other = is_eq (key_cmp row other)
@@ -367,7 +391,8 @@ table_reasons p name = (has_table name p.old.database && not (keeps_columns p.ol
 
 abbrev pub reasons : Pair → Refusals
 reasons p = (is_unfit p.old, InvalidInput) ∷ (is_unfit p.new, InvalidInput) ∷ (loses_page p, InvalidInput)
-    ∷ (lacks_text p.new, InvalidInput) ∷ flat_map (table_reasons p) (told_names p.new)
+    ∷ (lacks_text p.new, InvalidInput) ∷ (shares_stream p, InvalidInput)
+    ∷ flat_map (table_reasons p) (told_names p.new)
 
 -- a fault of a check, where it isn't want of memory: the first of these that holds
 abbrev pub StopsBy : Refusals → ErrorKind → Type 0

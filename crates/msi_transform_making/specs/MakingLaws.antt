@@ -23,9 +23,9 @@ use Rattle.msi_transform_records.specs.declared.shape.Shape.{Shape}
 use Rattle.msi_transform_records.specs.Actions.{told}
 use Rattle.msi_transform_records.specs.Records.{FitsRecord, record_with, records_in}
 use Rattle.msi_transform.specs.Transforms.{TransformDef, records_for, shapes_of, value_in}
-use Rattle.msi_transform_applying.specs.Applying.{system_rows}
-use Rattle.msi_transform_applying.specs.KeyOfRows.{key_cmp}
-use Rattle.msi_transform_applying.specs.RowStreams.{is_of_streams}
+use Rattle.msi_transform_schema.specs.SchemaApplying.{system_rows}
+use Rattle.msi_transform_rows.specs.KeyOfRows.{key_cmp}
+use Rattle.msi_transform_rows.specs.RowStreams.{is_of_streams}
 use Rattle.msi_transform_making.specs.Making.{ToldRecord, ToldRow, ToldRows, ToldTable, columns_before, columns_in_table}
 use Rattle.msi_transform_making.specs.Making.{differences, records_of_table, stored_tables, told_rows, told_values}
 use Rattle.msi_transform_making.specs.Making.{tells_stream, transform_with}

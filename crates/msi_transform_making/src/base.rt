@@ -8,7 +8,7 @@ ghost use Rattle.msi_database_schema.specs.System.{is_schema_table as is_of_sche
 ghost use Rattle.msi_database_storage.specs.Kept.{AreAsLong, kept_of};
 ghost use Rattle.msi_database_storage.specs.StreamNames.{HaveShortNames};
 ghost use Rattle.msi_table_values.specs.Columns.{most_columns};
-ghost use Rattle.msi_transform_applying.specs.Applying.{system_rows};
+ghost use Rattle.msi_transform_schema.specs.SchemaApplying.{system_rows};
 ghost use Rattle.msi_transform_making.specs.Making.{columns_in_table, names_beside as beside, told_names as names_told};
 ghost use Rattle.msi_transform_making.specs.Names.{names_in};
 

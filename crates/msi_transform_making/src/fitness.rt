@@ -11,10 +11,11 @@ ghost use Rattle.msi_base.specs.declared.errors.ErrorKind.TheVariants.{InvalidIn
 ghost use Rattle.msi_database_changes.specs.Database.{has_table};
 ghost use Rattle.msi_database_changes.specs.KeySets.{keys_of_rows};
 ghost use Rattle.msi_database_schema.specs.System.{columns_name};
-ghost use Rattle.msi_transform_applying.specs.Applying.{have_own_keys as are_keys_apart, is_broken as is_table_broken};
+ghost use Rattle.msi_transform_applying.specs.Applying.{is_broken as is_table_broken};
+ghost use Rattle.msi_transform_schema.specs.SchemaApplying.{have_own_keys as are_keys_apart};
 ghost use Rattle.msi_transform_applying.specs.Applying.{reads_back as reads_back_in};
-ghost use Rattle.msi_transform_applying.specs.RowStreams.{is_of_streams as holds_stream};
-ghost use Rattle.msi_transform_applying.specs.SchemaChanges.{is_name_to_list as may_be_listed};
+ghost use Rattle.msi_transform_rows.specs.RowStreams.{is_of_streams as holds_stream};
+ghost use Rattle.msi_transform_schema.specs.SchemaChanges.{is_name_to_list as may_be_listed};
 ghost use Rattle.msi_transform_making.specs.Making.{StopsBy, begin_alike as rows_begin_alike};
 ghost use Rattle.msi_transform_making.specs.Making.{gains_columns as are_columns_gained};
 ghost use Rattle.msi_transform_making.specs.Making.{has_odd_columns as are_columns_odd};
@@ -31,6 +32,7 @@ use crate::base::Base;
 use crate::reasons;
 use crate::refusal::MakingRefusal;
 use crate::schema_records::described_columns;
+use crate::stream_names::shares_stream;
 use crate::told::ToldRows;
 use msi_base::codepage::CodePage;
 use msi_base::errors::{Error, ErrorKind, Reason};
@@ -43,7 +45,7 @@ use msi_pool::parts::string_ref;
 use msi_pool::stringpool::StringPool;
 use msi_table_cells::cell::ValueRef;
 use msi_table_values::column::Column;
-use msi_transform_applying::row_streams::is_of_streams;
+use msi_transform_rows::row_streams::is_of_streams;
 use std::alloc::Global;
 
 fn is_name_to_list(name: &str) -> bool
@@ -376,6 +378,7 @@ pub(crate) fn check_pair<'a>(
     refuse_if(is_unfit(new)?, reasons::NEW_UNFIT)?;
     refuse_if(loses_page(old, new), reasons::PAGE_LOST)?;
     refuse_if(lacks_text(new), reasons::TEXT_NOT_IN_PAGE)?;
+    refuse_if(shares_stream(old, new)?, reasons::STREAM_SHARED)?;
     let names = new.told_names()?;
     check_tables(old, new, described, names.as_slice())
 }

@@ -14,6 +14,7 @@ mod refusal;
 mod schema_records;
 mod seen;
 mod storing;
+mod stream_names;
 mod tables;
 mod telling;
 mod told;

@@ -8,7 +8,7 @@ ghost use Rattle.msi_database_storage.specs.Streams.{stream_at};
 ghost use Rattle.msi_table_cells.specs.CellValues.{row_values};
 ghost use Rattle.msi_table_values.specs.Views.{seen_value};
 ghost use Rattle.msi_table_values.specs.declared.value.Value.TheVariants.{Null};
-ghost use Rattle.msi_transform_applying.specs.KeyOfRows.{key_cmp};
+ghost use Rattle.msi_transform_rows.specs.KeyOfRows.{key_cmp};
 ghost use Rattle.msi_transform_making.specs.Making.{by_keys, stream_of_row as row_stream_in, told_row as row_told};
 ghost use Rattle.msi_transform_making.specs.Making.{told_rows as rows_told, told_row_with, told_stream as stream_told};
 ghost use Rattle.msi_transform_making.specs.Making.{told_value as value_told, told_values as values_told};
@@ -25,7 +25,7 @@ use msi_database_changes::views::views_of_cells;
 use msi_table_cells::cell::ValueRef;
 use msi_table_values::column::Column;
 use msi_table_values::parts::ValueView;
-use msi_transform_applying::row_streams::{has_streams, is_of_streams, row_stream};
+use msi_transform_rows::row_streams::{has_streams, is_of_streams, row_stream};
 use std::alloc::Global;
 
 fn stream_named<'a>(streams: &'a StreamMap, name: &Option<Name>) -> Option<&'a Bytes>

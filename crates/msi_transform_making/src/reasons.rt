@@ -18,6 +18,10 @@ pub(crate) const TEXT_NOT_IN_PAGE: Reason = Reason(
     "the new package has a text that can't be written in its code page",
 );
 
+pub(crate) const STREAM_SHARED: Reason = Reason(
+    "two rows have streams of one name, so a transform can't say which row a stream is of",
+);
+
 pub(crate) const COLUMNS_DIFFER: Reason = Reason(
     "a table's columns don't begin with those that it had, or a key column is added to it",
 );

@@ -21,8 +21,8 @@ use msi_container_format::contents::Bytes;
 use msi_database_changes::keys::Key;
 use msi_table_values::column::Column;
 use msi_table_values::parts::ValueView;
-use msi_transform_applying::row_streams::is_of_streams;
 use msi_transform_records::Action;
+use msi_transform_rows::row_streams::is_of_streams;
 use std::alloc::Global;
 use std::marker::Model;
 

@@ -24,9 +24,9 @@ use msi_container_format::contents::{Bytes, StreamMap};
 use msi_container_format::name::Name;
 use msi_database_changes::texts::PoolInUse;
 use msi_transform::records_by_table::RecordsByTable;
-use msi_transform_applying::row_streams::row_stream;
 use msi_transform_records::parts::push_record;
 use msi_transform_records::{Record, Shape};
+use msi_transform_rows::row_streams::row_stream;
 use std::alloc::Global;
 use std::marker::Model;
 

@@ -18,8 +18,8 @@ use crate::told::ToldRows;
 use msi_base::errors::Error;
 use msi_base::text::Items;
 use msi_database_schema::system::{COLUMNS, TABLES, columns_columns, tables_columns};
-use msi_transform_applying::table_change::shapes_of;
 use msi_transform_records::Shape;
+use msi_transform_rows::table_change::shapes_of;
 use std::alloc::Global;
 use std::marker::Model;
 

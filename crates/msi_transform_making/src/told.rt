@@ -3,7 +3,7 @@
 ghost use Rattle.std.specs.Prelude.{◌≡◌, [], OnOk, length, option_copied};
 ghost use Rattle.std.specs.FinMap.{entries, find, put};
 ghost use Rattle.msi_base.specs.Results.{OnlyMemory};
-ghost use Rattle.msi_transform_applying.specs.KeyOfRows.{key_cmp as cmp_of_keys};
+ghost use Rattle.msi_transform_rows.specs.KeyOfRows.{key_cmp as cmp_of_keys};
 
 use crate::seen::SeenValues;
 use msi_base::errors::Error;
@@ -59,7 +59,7 @@ pub(crate) struct ToldRows<'a> {
 impl<'a> Model for ToldRows<'a> {
     ghost use Rattle.std.specs.Coded.{codes};
     ghost use Rattle.std.specs.FinMap as finite;
-    ghost use Rattle.msi_transform_applying.specs.KeyOfRows.{key_cmp};
+    ghost use Rattle.msi_transform_rows.specs.KeyOfRows.{key_cmp};
     ghost use Rattle.msi_transform_making.specs.Making.{ToldRow as RowOf};
 
     ghost Value = { finite.FinMap key_cmp RowOf };

@@ -12,7 +12,7 @@ use msipkg_packages::Folder;
 use msipkg_queries::Written;
 use msipkg_search::{Referred, Search, Wanted, Way};
 use msipkg_show::{Form, Format, Look, Query, read_query};
-use msipkg_transforms::{ErrorConditions, conditions_of};
+use msipkg_transforms::{ErrorConditions, Making, conditions_of, validation_of};
 use std::alloc::Global;
 
 /// The refusal of streams beside a storage.
@@ -45,6 +45,11 @@ pub(crate) enum Command<'a, 'b> {
     ShowTransform {
         base: Option<&'a str>,
         is_json: bool,
+    },
+    /// It makes the transform of two packages.
+    MakeTransform {
+        new: &'a str,
+        made: Making<'a>,
     },
     /// It carries out the statements of a file.
     Script(&'a str),
@@ -121,6 +126,10 @@ impl<'a, 'b> Command<'a, 'b> {
                 is_json,
             },
             Verb::ApplyTransform => apply_of(asked)?,
+            Verb::MakeTransform => Command::MakeTransform {
+                new: asked.text("NEW"),
+                made: making_of(asked)?,
+            },
             Verb::Batch => Command::Batch,
         })
     }
@@ -134,6 +143,7 @@ impl<'a, 'b> Command<'a, 'b> {
             | Command::Change(_)
             | Command::ChangeInto { .. }
             | Command::ShowTransform { .. }
+            | Command::MakeTransform { .. }
             | Command::Script(_)
             | Command::Batch => 1,
         }
@@ -339,6 +349,16 @@ fn passing_of(asked: &Asked<'_, '_>) -> Result<Option<ErrorConditions>, Failure>
         Some(words) => Ok(Some(conditions_of(words)?)),
         None => Ok(None),
     }
+}
+
+fn making_of<'a>(asked: &Asked<'a, '_>) -> Result<Making<'a>, Failure> {
+    Ok(Making {
+        path: asked.text("OUT"),
+        is_forced: asked.has("force"),
+        validated: validation_of(asked.texts("validate"))?,
+        passing: conditions_of(asked.texts("ignore"))?,
+        is_json: asked.has("json"),
+    })
 }
 
 fn export_of<'a, 'b>(asked: &Asked<'a, 'b>) -> Task<'a, 'b> {

@@ -14,7 +14,7 @@ use msipkg_diff::compare_files;
 use msipkg_format::{Failure, Output, Shown, Style, System};
 use msipkg_packages::Purpose;
 use msipkg_queries::{MarkValue, mark_values};
-use msipkg_transforms::show_transform;
+use msipkg_transforms::{Making, make_transform, show_transform};
 use std::alloc::{AllocError, Global};
 
 /// The exit status where the reader of the output has gone away: that of a program which the signal for it ended.
@@ -212,6 +212,9 @@ fn obey(
         Command::ShowTransform { base, is_json } => {
             print_transform(rt, asked, base, is_json, output, errors)
         }
+        Command::MakeTransform { new, made } => {
+            make_between(rt, asked, new, &made, output, errors)
+        }
         Command::Script(path) => execute_script(rt, asked, path, output, errors),
         Command::Batch => Err(Failure::rule("batch is no command of a batch")),
         Command::Incomplete(usage) => {
@@ -260,6 +263,22 @@ fn print_transform(
         output,
         errors,
     )?;
+    Ok(0)
+}
+
+/// Makes the transform from the package of the command to another one.
+fn make_between(
+    rt: &System,
+    asked: &Asked<'_, '_>,
+    new: &str,
+    made: &Making<'_>,
+    output: &mut Output,
+    errors: &mut Output,
+) -> Result<u8, Failure> {
+    let rt = with_input(rt, &[asked.file(), new])?;
+    let old = asked.package(asked.file(), Purpose::Look);
+    let new = asked.package(new, Purpose::Look);
+    make_transform(&rt, asked.style, &old, &new, made, output, errors)?;
     Ok(0)
 }
 

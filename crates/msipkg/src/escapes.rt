@@ -31,6 +31,7 @@ pub(crate) fn escapes_of(verb: Verb, given: &ArgMatches<'_>, is_terminal: bool) 
         | Verb::Export
         | Verb::Import
         | Verb::ApplyTransform
+        | Verb::MakeTransform
         | Verb::Batch => Escapes::Nothing,
     }
 }

@@ -7,7 +7,7 @@ use msipkg_format::{Shown, said};
 use msipkg_packages::msi::transforms::{ErrorConditions, Fault, RecordPlace, Refusal, Transform};
 use msipkg_packages::msi::{ErrorKind, Package};
 use msipkg_packages::output::{Failure, Opened, System};
-use msipkg_transforms::{TransformFile, read_transform, words_of};
+use msipkg_transforms::{TransformFile, key_at, read_transform, words_of};
 use std::alloc::{AllocError, Global};
 
 /// Transforms that are applied to a package.
@@ -77,24 +77,24 @@ fn failure_of(
     passing: ErrorConditions,
     refusal: Refusal,
 ) -> Failure {
+    let place = match refusal.place() {
+        Some(place) => place_text(alloc, package, transform, place),
+        None => Ok(String::new(alloc)),
+    };
     let lenient = lenient_for(package, transform, passing, &refusal);
-    match refusal.place() {
-        None if lenient.is_none() => Failure::from(refusal.into_error()),
-        place => said(refusal_text(alloc, transform, place, &refusal, lenient)),
+    match place {
+        Ok(place) if place.is_empty() && lenient.is_none() => Failure::from(refusal.into_error()),
+        Ok(place) => said(refusal_text(alloc, place.as_str(), &refusal, lenient)),
+        Err(error) => Failure::from(error),
     }
 }
 
 fn refusal_text(
     alloc: Global,
-    transform: &Transform,
-    place: Option<RecordPlace>,
+    place: &str,
     refusal: &Refusal,
     lenient: Option<ErrorConditions>,
 ) -> Result<String, AllocError> {
-    let place = match place {
-        Some(place) => place_text(alloc, transform, place)?,
-        None => String::new(alloc),
-    };
     let hint = match lenient {
         Some(conditions) => hint_text(alloc, conditions)?,
         None => String::new(alloc),
@@ -102,9 +102,10 @@ fn refusal_text(
     format!(in alloc; "{place}{}{hint}", refusal.error())
 }
 
-/// Records are counted from 1 on.
+/// Returns the table, the record's number, from 1 on, and the key, where the record can be read.
 fn place_text(
     alloc: Global,
+    package: &Package<Opened>,
     transform: &Transform,
     place: RecordPlace,
 ) -> Result<String, AllocError> {
@@ -113,7 +114,13 @@ fn place_text(
         None => "",
     };
     let (table, number) = (Shown::escaped(name), place.record_number.saturating_add(1));
-    format!(in alloc; "table {table}: record {number}: ")
+    match key_at(alloc, package, transform, place) {
+        Some(key) => {
+            let key = Shown::escaped(key.as_str());
+            format!(in alloc; "table {table}: record {number} (key {key}): ")
+        }
+        None => format!(in alloc; "table {table}: record {number}: "),
+    }
 }
 
 /// The words are all that has to be given: those that passed already, too.

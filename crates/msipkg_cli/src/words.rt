@@ -26,6 +26,7 @@ pub enum Verb {
     Diff,
     ShowTransform,
     ApplyTransform,
+    MakeTransform,
     Batch,
 }
 
@@ -577,8 +578,24 @@ const FAULTS: &[&str] = &[
     "f",
 ];
 
+/// What may be validated before a transform is applied at an installation.
+const VALIDATIONS: &[&str] = &[
+    "language",
+    "product",
+    "platform",
+    "major",
+    "minor",
+    "update",
+    "below",
+    "at-most",
+    "equal",
+    "at-least",
+    "above",
+    "upgrade",
+];
+
 /// The commands about transforms.
-static TRANSFORM_COMMANDS: [Row; 2] = [
+static TRANSFORM_COMMANDS: [Row; 3] = [
     Row {
         verb: Verb::ShowTransform,
         name: "show",
@@ -629,6 +646,42 @@ static TRANSFORM_COMMANDS: [Row; 2] = [
             PAGE,
             RECODE,
             NO_VERIFY,
+        ],
+    },
+    Row {
+        verb: Verb::MakeTransform,
+        name: "make",
+        about: "Makes the transform from one package to another",
+        arguments: &[
+            Argument {
+                id: "OLD",
+                form: Form::Word,
+                help: "The package that the transform is for",
+            },
+            Argument {
+                id: "NEW",
+                form: Form::Word,
+                help: "The package that it makes of that",
+            },
+            Argument {
+                id: "OUT",
+                form: Form::Word,
+                help: "The file for the transform",
+            },
+            FORCE,
+            Argument {
+                id: "validate",
+                form: Form::Choices("WORDS", VALIDATIONS),
+                help: "What a package has to share with OLD at an installation; by default nothing",
+            },
+            Argument {
+                id: "ignore",
+                form: Form::Choices("WORDS", FAULTS),
+                help: "The faults that pass at an installation; by default what the packages need",
+            },
+            JSON,
+            PAGE,
+            ESCAPE,
         ],
     },
 ];
@@ -720,7 +773,7 @@ fn program<'a>(alloc: Global) -> Result<Command<'a>, AllocError> {
 
 fn transform_command<'a>(alloc: Global) -> Result<Command<'a>, AllocError> {
     let mut command = Command::new(alloc, TRANSFORM)
-        .about("Prints transforms, and applies them to packages")
+        .about("Makes transforms, prints them, and applies them to packages")
         .subcommand_required(true);
     for row in transform_commands() {
         command = command.subcommand(command_of(alloc, row)?)?;

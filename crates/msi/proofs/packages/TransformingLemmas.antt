@@ -7,7 +7,7 @@ use Rattle.msi_base.proofs.RefusalLemmas.{refusals-Ok}
 use Rattle.msi_database_storage.specs.Kept.{Kept}
 use Rattle.msi_transform.specs.Transforms.{TransformDef}
 use Rattle.msi_transform.specs.declared.conditions.ErrorConditions.{ErrorConditions}
-use Rattle.msi_transform_applying.specs.RecordRefusals.{◌>>=◌, IsRefused, Refusal, nowhere}
+use Rattle.msi_transform_rows.specs.RecordRefusals.{◌>>=◌, IsRefused, Refusal, nowhere}
 use Rattle.msi_database.specs.Transforming.{apply_transform}
 use Rattle.msi.specs.State.{parts_of}
 use Rattle.msi.specs.Steps.{storage_refusal}

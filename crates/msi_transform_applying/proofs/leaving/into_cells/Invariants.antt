@@ -1,6 +1,6 @@
 use Rattle.std.proofs.Common.{◌≡◌, ◌++◌}
 use Rattle.std.specs.Vec.Iter.{into_iter_items}
-use Rattle.msi_transform_applying.specs.RowChanges.{cells_of}
+use Rattle.msi_transform_rows.specs.RowChanges.{cells_of}
 use Rattle.msi_transform_applying.proofs.leaving.into_cells.Given as goal
 
 abbrev pub invariant-loop-row : goal.invariant-loop-row

@@ -1,6 +1,6 @@
 use Rattle.std.proofs.Common.{◌≡◌}
 use Rattle.std.specs.FinMap.{entries}
-use Rattle.msi_transform_applying.specs.RowChanges.{by_key}
+use Rattle.msi_transform_rows.specs.RowChanges.{by_key}
 use Rattle.msi_transform_applying.proofs.RowsPutLemmas.{put_over}
 use Rattle.msi_transform_applying.proofs.table_applying.by_keys.Given as goal
 

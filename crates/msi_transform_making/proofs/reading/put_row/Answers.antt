@@ -4,7 +4,7 @@ use Rattle.std.specs.FinMap.{entries, put}
 use Rattle.msi_table_cells.specs.CellValues.{row_values}
 use Rattle.msi_table_cells.specs.declared.cell.ValueRef.{ValueRef}
 use Rattle.msi_table_values.specs.declared.value.Value.{Value}
-use Rattle.msi_transform_applying.specs.KeyOfRows.{key_cmp}
+use Rattle.msi_transform_rows.specs.KeyOfRows.{key_cmp}
 use Rattle.msi_transform_making.specs.Making.{ToldRow, told_row}
 use Rattle.msi_transform_making.proofs.reading.put_row.Goals as goal
 

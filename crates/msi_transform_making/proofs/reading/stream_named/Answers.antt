@@ -1,5 +1,5 @@
 use Rattle.std.proofs.Common.{◌∙◌}
-use Rattle.msi_transform_applying.proofs.RowStreamsLemmas.{stream_found}
+use Rattle.msi_transform_rows.proofs.RowStreamsLemmas.{stream_found}
 use Rattle.msi_transform_making.proofs.reading.stream_named.Goals as goal
 
 pub returns-in-Some : goal.returns-in-Some

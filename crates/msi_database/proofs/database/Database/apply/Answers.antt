@@ -2,7 +2,7 @@ use Rattle.std.proofs.Common.{◌≡◌, Ok, Result, subst, sym}
 use Rattle.std.specs.Prelude.{IfErr, IfOk}
 use Rattle.msi_database_storage.specs.Kept.{Kept}
 use Rattle.msi_transform_applying.specs.LeftInHand.{left_in_hand}
-use Rattle.msi_transform_applying.specs.RecordRefusals.{IsRefused, Refusal}
+use Rattle.msi_transform_rows.specs.RecordRefusals.{IsRefused, Refusal}
 use Rattle.msi_database.proofs.TransformingLemmas.{applied_opened}
 use Rattle.msi_database.proofs.database.Database.apply.Goals as goal
 

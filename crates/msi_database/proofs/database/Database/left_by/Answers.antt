@@ -4,7 +4,7 @@ use Rattle.std.specs.FinMap.{entries}
 use Rattle.msi_transform_applying.specs.AnewInHand.{changed_in_hand}
 use Rattle.msi_transform_applying.specs.Applying.{Left}
 use Rattle.msi_transform_applying.specs.LeftInHand.{left_in_hand}
-use Rattle.msi_transform_applying.specs.RecordRefusals.{IsRefused, Refusal}
+use Rattle.msi_transform_rows.specs.RecordRefusals.{IsRefused, Refusal}
 use Rattle.msi_database.proofs.TransformingLemmas.{applied_is, change_is}
 use Rattle.msi_database.proofs.database.Database.left_by.Goals as goal
 

@@ -3,7 +3,7 @@ use Rattle.std.specs.FinMap.{entries}
 use Rattle.std.specs.Prelude.{Option}
 use Rattle.msi_transform_applying.specs.Applying.{same_stream}
 use Rattle.msi_transform_applying.specs.ExpectedStreams.{Expected, is_met}
-use Rattle.msi_transform_applying.proofs.RowStreamsLemmas.{stream_found}
+use Rattle.msi_transform_rows.proofs.RowStreamsLemmas.{stream_found}
 use Rattle.msi_transform_applying.proofs.agreeing.ExpectedStream.is_met.Goals as goal
 
 pub returns : goal.returns

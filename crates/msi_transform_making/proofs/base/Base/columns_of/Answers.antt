@@ -1,6 +1,6 @@
 use Rattle.std.proofs.Common.{◌∙◌, ap}
 use Rattle.std.specs.FinMap.{entries}
-use Rattle.msi_transform_applying.proofs.PackagePartsLemmas.{columns_at, columns_found, no_columns}
+use Rattle.msi_transform_schema.proofs.PackagePartsLemmas.{columns_at, columns_found, no_columns}
 use Rattle.msi_transform_making.specs.Making.{Side}
 use Rattle.msi_transform_making.proofs.base.Base.columns_of.Goals as goal
 

@@ -1,7 +1,7 @@
 use Rattle.std.proofs.Common.{◌∙◌, ap}
 use Rattle.std.specs.FinMap.{entries}
 use Rattle.msi_database_changes.specs.Database.{has_table}
-use Rattle.msi_transform_applying.proofs.PackagePartsLemmas.{known}
+use Rattle.msi_transform_schema.proofs.PackagePartsLemmas.{known}
 use Rattle.msi_transform_making.specs.Making.{Side}
 use Rattle.msi_transform_making.proofs.base.Base.has_table.Goals as goal
 

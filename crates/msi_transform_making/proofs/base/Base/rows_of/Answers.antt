@@ -2,7 +2,7 @@ use Rattle.std.proofs.Common.{◌∙◌, ap, Some, None}
 use Rattle.std.proofs.lemmas.Result.{IfOk-weaker}
 use Rattle.std.specs.FinMap.{entries}
 use Rattle.msi_database_storage.specs.Streams.{stored_rows}
-use Rattle.msi_transform_applying.proofs.PackagePartsLemmas.{no_rows, none_read, rows_at, rows_found, some_read}
+use Rattle.msi_transform_schema.proofs.PackagePartsLemmas.{no_rows, none_read, rows_at, rows_found, some_read}
 use Rattle.msi_transform_making.specs.Making.{Side}
 use Rattle.msi_transform_making.proofs.base.Base.rows_of.Goals as goal
 

@@ -1,0 +1,42 @@
+-- A transform made of two packages: of their databases, with the open stream in its place.
+use Rattle.std.proofs.Common.{◌≡◌, ℕ, Result, Ok, sym, ap, ◌∙◌}
+use Rattle.msi_base.specs.declared.errors.ErrorKind.{ErrorKind}
+use Rattle.msi_base.specs.Refusals.{unless_refused, ◌>>=◌}
+use Rattle.msi_database_storage.specs.Kept.{Kept}
+use Rattle.msi_transform.specs.Transforms.{TransformDef}
+use Rattle.msi_transform_making.specs.Making.{Pair, Side, pair_of}
+use Rattle.msi_database.specs.TransformMaking.{transform_between}
+use Rattle.msi.specs.State.{State}
+use Rattle.msi.specs.Transforming.{page_of}
+use Rattle.msi.specs.TransformMaking.{kind_refusal, pair_of_states, side_of, transform_made}
+use Rattle.msi.specs.Whole.{Whole}
+
+abbrev pub side : ℕ → Kept → Side
+side page_id k = record { page_id = page_id; kept = k }
+
+-- a package's side
+side_is : (s : State) (k : Kept) → k ≡ s.kept → (page_id : ℕ) → page_id ≡ page_of k s.is_pool_changed → side_of s ≡ side page_id k
+side_is s k same page_id page =
+    ap (λ (k : Kept). side (page_of k s.is_pool_changed) k) (sym same) ∙ ap (λ (id : ℕ). side id k) (sym page)
+
+module _ (old new : Whole) (view : Whole) (is : view ≡ old) (new_view : Whole) (new_is : new_view ≡ new)
+    (k l : Kept) (same : k ≡ view.state.kept) (new_same : l ≡ new_view.state.kept)
+    (page_id new_page_id : ℕ) (page : page_id ≡ page_of k view.state.is_pool_changed) (new_page : new_page_id ≡ page_of l new_view.state.is_pool_changed) where
+  old_side : side_of old.state ≡ side page_id k
+  old_side = ap (λ (w : Whole). side_of w.state) (sym is) ∙ side_is view.state k same page_id page
+
+  new_side : side_of new.state ≡ side new_page_id l
+  new_side = ap (λ (w : Whole). side_of w.state) (sym new_is) ∙ side_is new_view.state l new_same new_page_id new_page
+
+  pub pair_is : pair_of_states old.state new.state ≡ pair_of (side page_id k) (side new_page_id l)
+  pair_is = ap (λ (s : Side). pair_of s (side_of new.state)) old_side ∙ ap (λ (s : Side). pair_of (side page_id k) s) new_side
+
+  pub made_is : ◌≡◌ {A = Result (Unit {0}) ErrorKind} (Ok tt) (unless_refused (kind_refusal view.state.kind) tt)
+      → ◌≡◌ {A = Result (Unit {0}) ErrorKind} (Ok tt) (unless_refused (kind_refusal new_view.state.kind) tt)
+      → transform_made old.state new.state ≡ transform_between (side page_id k) (side new_page_id l)
+  made_is passes new_passes =
+      ap (λ (w : Whole). unless_refused (kind_refusal w.state.kind) tt >>= λ u. unless_refused (kind_refusal new.state.kind) tt >>= λ u. transform_between (side_of old.state) (side_of new.state)) (sym is)
+      ∙ ap (λ (r : Result (Unit {0}) ErrorKind). r >>= λ u. unless_refused (kind_refusal new.state.kind) tt >>= λ u. transform_between (side_of old.state) (side_of new.state)) (sym passes)
+      ∙ ap (λ (w : Whole). unless_refused (kind_refusal w.state.kind) tt >>= λ u. transform_between (side_of old.state) (side_of new.state)) (sym new_is)
+      ∙ ap (λ (r : Result (Unit {0}) ErrorKind). r >>= λ u. transform_between (side_of old.state) (side_of new.state)) (sym new_passes)
+      ∙ ap (λ (s : Side). transform_between s (side_of new.state)) old_side ∙ ap (λ (s : Side). transform_between (side page_id k) s) new_side

@@ -1,0 +1,67 @@
+//! Making a transform: of a database and of what it has become.
+
+ghost use Rattle.std.specs.Prelude.{◌≡◌, IfErr, IfOk, Ok};
+ghost use Rattle.msi_base.specs.Refusals.{IsRefusal};
+ghost use Rattle.msi_transform_making.specs.Making.{pair_of, table_reasons, told_names};
+ghost use Rattle.msi_transform_making.specs.MakingRefusals.{IsAtFault};
+ghost use Rattle.msi_database.specs.TransformMaking.{transform_between};
+
+use crate::database::Database;
+use crate::reasons;
+use msi_base::errors::{Error, ErrorKind};
+use msi_transform::Transform;
+use msi_transform_making::{Base, MakingRefusal, make};
+
+impl Database {
+    /// Returns the parts of the database of which a transform is made.
+    fn base(&self, page_id: u32) -> Base<'_>
+        ensures { result ≡ record { page_id = page_id; kept = self.now } }
+    {
+        Base::new(
+            self.alloc,
+            page_id,
+            &self.pool,
+            self.tables.as_slice(),
+            &self.streams,
+        )
+    }
+
+    /// Returns the transform that makes a new database of this one: of its page, of its tables with their columns and
+    /// rows, and of the streams of rows. `page_id` is the id of this one's code page as it is stored, or 0 where that
+    /// is neutral, and `new_page_id` that of the new one's. It costs the rows of all tables times a logarithm.
+    ///
+    /// # Errors
+    /// Fails with `InvalidData` if this database isn't sound, and then if the new one isn't. Then it fails with
+    /// `InvalidInput` if there is no transform: one of the databases has a table without a key of its own for each row,
+    /// or under a name that none may have; the new one's page is neutral and this one's isn't, or it lacks a text; a
+    /// table loses or changes a column, gets one of the key, or gets columns and has more than 32 then, or two of one
+    /// name, or one without a name; a row of more than 255 columns would have to be added; or the texts are too many.
+    /// Otherwise it fails with `OutOfMemory`, which may come in place of the others. Where a table is at fault for its
+    /// columns, the refusal says which.
+    pub fn transform_to(
+        &self,
+        page_id: u32,
+        new: &Database,
+        new_page_id: u32,
+    ) -> Result<Transform, MakingRefusal>
+        ensures ok { let old = record { page_id = page_id; kept = self.now } in
+            let other = record { page_id = new_page_id; kept = new.now } in
+            IfOk result (λ transform. transform_between old other ≡ Ok transform) }
+        ensures kind { let old = record { page_id = page_id; kept = self.now } in
+            let other = record { page_id = new_page_id; kept = new.now } in
+            IfErr result (λ refusal. IsRefusal (transform_between old other) refusal.kind) }
+        ensures table { let old = record { page_id = page_id; kept = self.now } in
+            let other = record { page_id = new_page_id; kept = new.now } in
+            IfErr result (IsAtFault (table_reasons (pair_of old other)) (told_names new.now)) }
+    {
+        if !self.is_sound {
+            let error = Error::new(ErrorKind::InvalidData, reasons::OLD_UNSOUND);
+            return Err(MakingRefusal::nowhere(error));
+        }
+        if !new.is_sound {
+            let error = Error::new(ErrorKind::InvalidData, reasons::NEW_UNSOUND);
+            return Err(MakingRefusal::nowhere(error));
+        }
+        make(&self.base(page_id), &new.base(new_page_id))
+    }
+}

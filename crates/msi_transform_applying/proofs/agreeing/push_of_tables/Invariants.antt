@@ -1,0 +1,11 @@
+use Rattle.std.proofs.Common.{◌≡◌, ◌++◌, drop}
+use Rattle.std.specs.List.{flat_map}
+use Rattle.msi_transform_applying.specs.ExpectedStreams.{table_expects}
+use Rattle.msi_transform_applying.specs.LeftInHand.{base_of}
+use Rattle.msi_transform_applying.proofs.agreeing.push_of_tables.Given as goal
+
+-- with what the tables to come expect there is what all do
+abbrev pub invariant-loop-table : goal.invariant-loop-table
+invariant-loop-table l =
+    l.expected.items ++ flat_map (table_expects (base_of l.change) l.change.by l.said) (drop l.table-index l.tables)
+    ≡ l.fn.expected.items ++ flat_map (table_expects (base_of l.change) l.change.by l.said) l.tables

@@ -1,9 +1,0 @@
-use Rattle.std.proofs.Common.{◌∙◌, ap}
-use Rattle.msi_database_storage.specs.Streams.{stream_at}
-use Rattle.msi_transform_applying.specs.SchemaChanges.{SchemaChange}
-use Rattle.msi_transform_applying.proofs.RowStreamsLemmas.{stream_found}
-use Rattle.msi_transform_applying.proofs.schema_change.SchemaChange.brought_stream.Goals as goal
-
-pub returns : goal.returns
-returns c = c.get.ensures ∙ stream_found c.streams.result.now c.args.name.now
-    ∙ ap (stream_at c.args.name.now) (c.streams.ensures ∙ ap (λ (s : SchemaChange). s.by.streams) c.self.view_is)

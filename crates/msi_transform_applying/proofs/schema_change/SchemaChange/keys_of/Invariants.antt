@@ -1,8 +1,0 @@
-use Rattle.std.proofs.Common.{◌≡◌, take}
-use Rattle.msi_database_changes.specs.KeySets.{keys_of_rows}
-use Rattle.msi_transform_applying.proofs.schema_change.SchemaChange.keys_of.Given as goal
-
-abbrev pub invariant-loop-row : goal.invariant-loop-row
-invariant-loop-row l = record {
-  keys : l.keys.items ≡ keys_of_rows l.self.database.pool.places l.columns (take l.row-index l.rows);
-}

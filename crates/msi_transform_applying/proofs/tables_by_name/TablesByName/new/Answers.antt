@@ -1,5 +1,0 @@
-use Rattle.msi_transform_applying.proofs.TablesByNameLemmas.{no_entries}
-use Rattle.msi_transform_applying.proofs.tables_by_name.TablesByName.new.Goals as goal
-
-pub returns : goal.returns
-returns c = no_entries c.new.result.entries c.new.ensures.empty

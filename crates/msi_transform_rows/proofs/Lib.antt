@@ -1,0 +1,4 @@
+pub mod KeyedRowsLemmas
+pub mod RowStreamsLemmas
+pub mod ToldValuesLemmas
+pub mod RowChangesLemmas

@@ -1,0 +1,5 @@
+pub mod ColumnKeysLemmas
+pub mod ColumnStepsLemmas
+pub mod PackagePartsLemmas
+pub mod TablesByNameLemmas
+pub mod PlainRowsLemmas
