@@ -34,7 +34,7 @@ equal Less h = yes_is_no false h refl
 equal Equal h = refl
 equal Greater h = yes_is_no false h refl
 
-same : (q k : List Value) → eq_by_cmp key_cmp q k ≡ true → q ≡ k
+pub same : (q k : List Value) → eq_by_cmp key_cmp q k ≡ true → q ≡ k
 same q k h = exact_keys q k (equal (key_cmp q k) h)
 
 pub is_less : (o : Ordering) → T (is_lt o) → o ≡ Less
@@ -73,7 +73,7 @@ module _ (columns : List ColumnDef) where
   done_with r (Change mask) row = option_map (changed_row columns r) row
   done_with r (Add k) row = Some (added_row columns r)
 
-  found_by : (q : List Value) (rows : ToldRows) (r : ToldRecord) (a : Action)
+  pub found_by : (q : List Value) (rows : ToldRows) (r : ToldRecord) (a : Action)
       → find key_cmp q (done_by columns rows r a) ≡ cond (eq_by_cmp key_cmp q r.key) (done_with r a (find key_cmp q rows)) (find key_cmp q rows)
   found_by q rows r Remove =
       let stays = λ (x : List Value). not (eq_by_cmp key_cmp r.key x) in

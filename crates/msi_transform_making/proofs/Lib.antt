@@ -2,11 +2,11 @@ pub mod BaseLemmas
 pub mod CarriedOutLemmas
 pub mod ChangedRowsLemmas
 pub mod FitnessLemmas
+pub mod ListedTablesLemmas
 pub mod MakingRows
 pub mod MaskLemmas
 pub mod PageLemmas
 pub mod SchemaLemmas
-pub mod SharedStreamRows
 pub mod SideLemmas
 pub mod StoredRecordsLemmas
 pub mod StoringLemmas

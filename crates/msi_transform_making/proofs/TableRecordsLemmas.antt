@@ -36,6 +36,9 @@ sorted_by_keys : (es : ToldRows) → T (is_sorted key_cmp (by_keys es))
 sorted_by_keys [] = tt
 sorted_by_keys (e ∷ es) = is_sorted-put key_cmp keys_total e.0 e.1 (by_keys es) (sorted_by_keys es)
 
+pub sorted_told : (k : Kept) (name : List ℕ) (n : ℕ) → T (is_sorted key_cmp (told_rows k name n))
+sorted_told k name n = sorted_by_keys (map (told_row k name (columns_in_table k name) n) (values_in_table k name))
+
 module _ (P : List Value × ToldRow → Type 0) where
   each_put : (k : List Value) (v : ToldRow) (es : ToldRows) → P (k, v) → AllByRecursion P es → AllByRecursion P (put key_cmp k v es)
   each_put k v [] h all = (h, tt)
@@ -226,7 +229,7 @@ new_rows : (k : Kept) (name : List ℕ) → no_key_of_streams (columns_in_table 
 new_rows k name plain whole =
     let columns = columns_in_table k name in
     record {
-      sorted = sorted_by_keys (map (told_row k name columns 0) (values_in_table k name));
+      sorted = sorted_told k name 0;
       each = each_by_keys (IsWholeRow columns) (map (told_row k name columns 0) (values_in_table k name))
           (whole_rows k name columns plain k.database.pool.places (system_rows k.database name) whole);
     }
@@ -238,7 +241,7 @@ old_rows k name after gains plain whole =
     let n = length after - length columns in
     let g = begins columns after gains in
     record {
-      sorted = sorted_by_keys (map (told_row k name columns n) (values_in_table k name));
+      sorted = sorted_told k name n;
       each = each_by_keys (IsRow after) (map (told_row k name columns n) (values_in_table k name))
           (rows_told k name columns after n (long_enough columns after g) g plain k.database.pool.places (system_rows k.database name) whole);
     }

@@ -1,6 +1,6 @@
 -- What follows from the definition of made transforms: told records, carried out on the old rows, give the new ones.
 use Rattle.std.specs.Prelude.{◌≡◌, ℕ, ◌-◌, Bool, true, false, not, List, [], ◌++◌, filter, zip, length, replicate, set}
-use Rattle.std.specs.Prelude.{map, take, drop, Option, Some, option_and_then, option_map, bytes_eq}
+use Rattle.std.specs.Prelude.{map, take, drop, Option, Some, None, option_and_then, option_map, bytes_eq}
 use Rattle.std.specs.Prelude.{is_some, if◌then◌else◌, ◌&&◌, T}
 use Rattle.std.specs.FinMap.{find, put, is_sorted}
 use Rattle.std.specs.List.{AllByRecursion, fold, list_any}
@@ -13,6 +13,7 @@ use Rattle.msi_table_cells.specs.KeyOrder.{key_of}
 use Rattle.msi_table_values.specs.declared.value.Value.{Value}
 use Rattle.msi_table_values.specs.declared.value.Value.TheVariants.{Null, Int, Str, Binary}
 use Rattle.msi_table_values.specs.Columns.{ColumnDef}
+use Rattle.msi_database_schema.specs.System.{columns_name, tables_columns, tables_name}
 use Rattle.msi_database_changes.specs.Database.{has_table}
 use Rattle.msi_database_changes.specs.Texts.{PoolInUse}
 use Rattle.msi_database_storage.specs.Kept.{Kept}
@@ -26,9 +27,10 @@ use Rattle.msi_transform.specs.Transforms.{TransformDef, records_for, shapes_of,
 use Rattle.msi_transform_schema.specs.SchemaApplying.{system_rows}
 use Rattle.msi_transform_rows.specs.KeyOfRows.{key_cmp}
 use Rattle.msi_transform_rows.specs.RowStreams.{is_of_streams}
-use Rattle.msi_transform_making.specs.Making.{ToldRecord, ToldRow, ToldRows, ToldTable, columns_before, columns_in_table}
-use Rattle.msi_transform_making.specs.Making.{differences, records_of_table, stored_tables, told_rows, told_values}
-use Rattle.msi_transform_making.specs.Making.{tells_stream, transform_with}
+use Rattle.msi_transform_making.specs.Making.{ToldRecord, ToldRow, ToldRows, ToldTable, by_keys, columns_before}
+use Rattle.msi_transform_making.specs.Making.{columns_in_table, differences, records_of_table, records_of_tables}
+use Rattle.msi_transform_making.specs.Making.{stored_tables, tells_stream, told_names, told_rows, told_values}
+use Rattle.msi_transform_making.specs.Making.{transform_with}
 
 -- RECORDS CARRIED OUT ON ROWS, AS VALUES
 
@@ -130,6 +132,23 @@ abbrev pub RecordsGiveNewTable : Type 0
 RecordsGiveNewTable = (old new : Kept) (name : List ℕ) → IsTellable old new name
     → carried_out (columns_in_table new name) (rows_before old new name) (records_of_table old new name)
     ≡ told_rows new name 0
+
+-- THE LIST OF TABLES
+
+-- `_Tables` has a row for each other table than itself and `_Columns`, which are there
+abbrev pub listed_row : List ℕ → List Value × ToldRow
+listed_row name = (Str name ∷ [], record { values = Str name ∷ []; stream = None })
+
+pub record ListsItsTables (k : Kept) : Type 0 where
+  pub listed : told_rows k tables_name 0 ≡ by_keys (map listed_row (told_names k))
+  pub tables : has_table tables_name k.database ≡ true
+  pub columns : has_table columns_name k.database ≡ true
+
+-- the records of `_Tables`, carried out on old's list, give new's
+abbrev pub RecordsGiveNewList : Type 0
+RecordsGiveNewList = (old new : Kept) → ListsItsTables old → ListsItsTables new
+    → carried_out tables_columns (told_rows old tables_name 0) (records_of_tables old.database new.database)
+    ≡ told_rows new tables_name 0
 
 -- RECORDS IN A TRANSFORM
 

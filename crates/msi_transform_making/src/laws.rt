@@ -1,6 +1,7 @@
 //! Laws of made transforms: each is the contract of a function without a body.
 
-ghost use Rattle.msi_transform_making.specs.MakingLaws.{DifferencesGiveNewRows, RecordsGiveNewTable, ToldRecordsAreRead};
+ghost use Rattle.msi_transform_making.specs.MakingLaws.{DifferencesGiveNewRows, RecordsGiveNewList, RecordsGiveNewTable};
+ghost use Rattle.msi_transform_making.specs.MakingLaws.{ToldRecordsAreRead};
 
 /// What is told of the rows of a table, carried out on the old rows, gives the new ones.
 pub fn differences_give_new_rows()
@@ -10,6 +11,11 @@ pub fn differences_give_new_rows()
 /// The records of a table, carried out on the rows that the old package has of it, give the new package's rows.
 pub fn records_give_new_table()
     ensures { RecordsGiveNewTable }
+{}
+
+/// The records of `_Tables`, carried out on the old package's list of tables, give the new one's.
+pub fn records_give_new_list()
+    ensures { RecordsGiveNewList }
 {}
 
 /// Told records that are stored in a transform are read of it, each with its values.

@@ -1,4 +1,3 @@
-use Rattle.msi_transform_making.proofs.SharedStreamRows as shared
 use Rattle.msi_transform_making.proofs.StoredRecordsLemmas.{told_records_are_read}
 use Rattle.msi_transform_making.proofs.laws.told_records_are_read.Goals as goal
 
