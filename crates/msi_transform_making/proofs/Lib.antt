@@ -3,10 +3,12 @@ pub mod CarriedOutLemmas
 pub mod ChangedRowsLemmas
 pub mod FitnessLemmas
 pub mod ListedTablesLemmas
+pub mod MadeRecordsLemmas
 pub mod MakingRows
 pub mod MaskLemmas
 pub mod PageLemmas
 pub mod SchemaLemmas
+pub mod SharedStreamRows
 pub mod SideLemmas
 pub mod StoredRecordsLemmas
 pub mod StoringLemmas

@@ -294,7 +294,7 @@ other_name a b h = by_test (eq_by_cmp list_cmp a b)
     (λ t. let same : a ≡ b = (bytes_decides a b).0 (sym (is_eq-slice_cmp a b) ∙ t) in yes_is_no (bytes_eq b a) ((bytes_decides b a).1 (sym same)) h)
     (λ t. t)
 
-neither : (a b : Bool) → (a || b) ≡ false → (a ≡ false) × (b ≡ false)
+pub neither : (a b : Bool) → (a || b) ≡ false → (a ≡ false) × (b ≡ false)
 neither true b h = yes_is_no true refl h
 neither false b h = (refl, h)
 

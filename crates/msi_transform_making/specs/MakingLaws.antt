@@ -1,6 +1,6 @@
 -- What follows from the definition of made transforms: told records, carried out on the old rows, give the new ones.
 use Rattle.std.specs.Prelude.{◌≡◌, ℕ, ◌-◌, Bool, true, false, not, List, [], ◌++◌, filter, zip, length, replicate, set}
-use Rattle.std.specs.Prelude.{map, take, drop, Option, Some, None, option_and_then, option_map, bytes_eq}
+use Rattle.std.specs.Prelude.{map, take, drop, Option, Some, None, option_and_then, option_map, bytes_eq, Result, Ok}
 use Rattle.std.specs.Prelude.{is_some, if◌then◌else◌, ◌&&◌, T}
 use Rattle.std.specs.FinMap.{find, put, is_sorted}
 use Rattle.std.specs.List.{AllByRecursion, fold, list_any}
@@ -27,9 +27,9 @@ use Rattle.msi_transform.specs.Transforms.{TransformDef, records_for, shapes_of,
 use Rattle.msi_transform_schema.specs.SchemaApplying.{system_rows}
 use Rattle.msi_transform_rows.specs.KeyOfRows.{key_cmp}
 use Rattle.msi_transform_rows.specs.RowStreams.{is_of_streams}
-use Rattle.msi_transform_making.specs.Making.{ToldRecord, ToldRow, ToldRows, ToldTable, by_keys, columns_before}
+use Rattle.msi_transform_making.specs.Making.{Pair, ToldRecord, ToldRow, ToldRows, ToldTable, by_keys, columns_before, made}
 use Rattle.msi_transform_making.specs.Making.{columns_in_table, differences, records_of_table, records_of_tables}
-use Rattle.msi_transform_making.specs.Making.{stored_tables, tells_stream, told_names, told_rows, told_values}
+use Rattle.msi_transform_making.specs.Making.{stored_tables, tells_stream, told_names, told_rows, told_tables, told_values}
 use Rattle.msi_transform_making.specs.Making.{transform_with}
 
 -- RECORDS CARRIED OUT ON ROWS, AS VALUES
@@ -182,3 +182,10 @@ ToldRecordsAreRead = (page_id : ℕ) (new : Kept) (tables : List ToldTable)
     → has_pair bytes_eq (map (λ table. table.name) tables) ≡ false
     → AllByRecursion (λ table. values_read (transform_with page_id new tables stored) table
     ≡ Some (map as_told table.records)) tables
+
+-- so are those of a transform that is made, where no two tables of new have one name
+abbrev pub MadeRecordsAreRead : Type 0
+MadeRecordsAreRead = (p : Pair) (t : TransformDef) → made p ≡ Ok t
+    → has_pair bytes_eq (map (λ table. table.0) p.new.database.tables) ≡ false
+    → AllByRecursion (λ table. AllByRecursion (IsSpellable table.shapes) table.records) (told_tables p.old p.new)
+    → AllByRecursion (λ table. values_read t table ≡ Some (map as_told table.records)) (told_tables p.old p.new)

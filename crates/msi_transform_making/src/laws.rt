@@ -1,7 +1,7 @@
 //! Laws of made transforms: each is the contract of a function without a body.
 
-ghost use Rattle.msi_transform_making.specs.MakingLaws.{DifferencesGiveNewRows, RecordsGiveNewList, RecordsGiveNewTable};
-ghost use Rattle.msi_transform_making.specs.MakingLaws.{ToldRecordsAreRead};
+ghost use Rattle.msi_transform_making.specs.MakingLaws.{DifferencesGiveNewRows, MadeRecordsAreRead};
+ghost use Rattle.msi_transform_making.specs.MakingLaws.{RecordsGiveNewList, RecordsGiveNewTable, ToldRecordsAreRead};
 
 /// What is told of the rows of a table, carried out on the old rows, gives the new ones.
 pub fn differences_give_new_rows()
@@ -21,4 +21,9 @@ pub fn records_give_new_list()
 /// Told records that are stored in a transform are read of it, each with its values.
 pub fn told_records_are_read()
     ensures { ToldRecordsAreRead }
+{}
+
+/// The records of a transform that is made are read as they were told.
+pub fn made_records_are_read()
+    ensures { MadeRecordsAreRead }
 {}
