@@ -8,3 +8,4 @@ pub mod CreatingLemmas
 pub mod LeavingLemmas
 pub mod TransformingLemmas
 pub mod TransformMakingLemmas
+pub mod TransformedLemmas

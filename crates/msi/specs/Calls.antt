@@ -10,6 +10,8 @@ use Rattle.msi_table_values.specs.declared.value.Value.{Value}
 use Rattle.msi_table.specs.Tables.{TableDef}
 use Rattle.msi_table_values.specs.Columns.{ColumnDef}
 use Rattle.msi_query.specs.Queries.{Query, InsertQuery, UpdateQuery, DeleteQuery}
+use Rattle.msi_transform.specs.Transforms.{TransformDef}
+use Rattle.msi_transform.specs.declared.conditions.ErrorConditions.{ErrorConditions}
 use Rattle.msi.specs.declared.kinds.PackageType.{PackageType}
 
 -- on the summary
@@ -63,6 +65,7 @@ pub data Call : Type 0 where
   has_table get_table drop_table has_stream remove_stream : List ℕ → Call
   create_table : List ℕ → List ColumnDef → Call
   add_column : List ℕ → ColumnDef → Call
+  apply_transform : TransformDef → ErrorConditions → Call
   select_rows : Query → Call
   insert_rows : InsertQuery → Call
   update_rows : UpdateQuery → Call

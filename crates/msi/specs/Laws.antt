@@ -1,5 +1,5 @@
 -- What holds of every step, of runs, and of what bytes mean: statements that public contracts name.
-use Rattle.std.specs.Prelude.{◌≡◌, ℕ, ◌<◌, ◌^◌, ◌⊎◌, true, false, List, ◌∷◌, ◌++◌, length, Some, Result, Ok, Err}
+use Rattle.std.specs.Prelude.{◌≡◌, ℕ, ◌<◌, ◌^◌, ◌⊎◌, true, false, List, [], ◌∷◌, ◌++◌, length, Some, Result, Ok, Err}
 use Rattle.std.specs.List.{AllByRecursion}
 use Rattle.msi_base.specs.declared.errors.ErrorKind.{ErrorKind}
 use Rattle.msi_base.specs.declared.errors.ErrorKind.TheVariants.{Io, OutOfMemory}
@@ -17,7 +17,7 @@ use Rattle.msi.specs.Calls as calls
 use Rattle.msi.specs.Steps.{Step, outcome, is_lending, image_of, refused_early, streams_written, as_written}
 use Rattle.msi.specs.Steps.{with_streams, without_signature}
 use Rattle.msi.specs.Runs.{Session, SessionStep, Run, FitsCall, TextsAreWritable, HoldsPackage, IsSession, IsReplay}
-use Rattle.msi.specs.Runs.{HasExactCounts, IsReplayOver, created, created_over, opened}
+use Rattle.msi.specs.Runs.{ApplyNoTransform, HasExactCounts, IsReplayOver, created, created_over, opened}
 
 -- each of them is a byte
 abbrev pub AreBytes : List ℕ → Type 0
@@ -53,12 +53,14 @@ OpenedArePackages = (bytes : List ℕ) (s : State) → AreBytes bytes → OpensT
 
 -- STEPS
 
--- a package stays one; a sound one stays sound, and exact counts exact and distinct keys distinct
-pub record KeepsPackage (old new : State) : Type 0 where
+-- what these calls keep: a package stays one; a sound one stays sound, and exact counts exact, and distinct keys
+-- distinct where none of them applies a transform
+pub record KeepsPackage (sent : List Call) (old new : State) : Type 0 where
   pub is_package : IsPackage new
   pub sound : is_sound old.kept.database ≡ true → is_sound new.kept.database ≡ true
   pub counts : is_sound old.kept.database ≡ true → CountsAreExact old.kept.database → CountsAreExact new.kept.database
-  pub keys : is_sound old.kept.database ≡ true → KeysAreDistinct old.kept.database → KeysAreDistinct new.kept.database
+  pub keys : ApplyNoTransform sent → is_sound old.kept.database ≡ true
+      → KeysAreDistinct old.kept.database → KeysAreDistinct new.kept.database
 
 -- an accepted recount leaves a sound database, and each count is the number of its cells
 abbrev pub RecountsMakeExact : Type 0
@@ -67,7 +69,7 @@ RecountsMakeExact = (earlier_len : ℕ) (old new : State) (answer : Answer)
 
 abbrev pub StepsKeepPackages : Type 0
 StepsKeepPackages = (earlier_len : ℕ) (old new : State) (call : Call) (answer : Result Answer ErrorKind)
-    → IsPackage old → FitsCall call → Step earlier_len old call answer new → KeepsPackage old new
+    → IsPackage old → FitsCall call → Step earlier_len old call answer new → KeepsPackage (call ∷ []) old new
 
 -- answer and state are fixed by the state and the call, want of memory and faults of the device apart, and these don't
 -- come in place of an early refusal
@@ -111,7 +113,8 @@ pub record IsExact (d : Database) : Type 0 where
 -- calls one after another keep what each of them keeps
 abbrev pub RunsKeepPackages : Type 0
 RunsKeepPackages = (old new : Session) (sent : List Call) (answers : List (Result Answer ErrorKind))
-    → IsPackage old.state → AllByRecursion FitsCall sent → Run old sent answers new → KeepsPackage old.state new.state
+    → IsPackage old.state → AllByRecursion FitsCall sent → Run old sent answers new
+    → KeepsPackage sent old.state new.state
 
 -- so do sessions: what is held after a flush that is done means the package that is left, and opens to it
 abbrev pub RunsKeepSessions : Type 0

@@ -109,6 +109,7 @@ FitsCall (calls.delete_rows query) = Unit {0}
 FitsCall (calls.create_table name columns) = Unit {0}
 FitsCall (calls.drop_table name) = Unit {0}
 FitsCall (calls.add_column name column) = Unit {0}
+FitsCall (calls.apply_transform t passing) = Unit {0}
 FitsCall (calls.set_database_codepage page) = Unit {0}
 FitsCall (calls.remove_stream name) = Unit {0}
 FitsCall calls.remove_digital_signature = Unit {0}
@@ -118,6 +119,14 @@ FitsCall calls.flush = Unit {0}
 FitsCall calls.device_failed = Unit {0}
 FitsCall (calls.summary_info questions) = Unit {0}
 FitsCall (calls.read_stream name stream_calls) = Unit {0}
+
+-- none of these calls applies a transform
+abbrev pub is_transform : Call → Bool
+is_transform (calls.apply_transform t passing) = true
+is_transform _ = false
+
+abbrev pub ApplyNoTransform : List Call → Type 0
+ApplyNoTransform sent = AllByRecursion (λ call. is_transform call ≡ false) sent
 
 -- each text of the pool and the summary can be written in its page
 abbrev pub TextsAreWritable : State → Type 0
@@ -139,7 +148,8 @@ abbrev pub opened : List ℕ → State → Session
 opened bytes s = record { state = s; held = bytes; failed = false }
 
 -- The calls were carried out on a new package and it was flushed: the bytes mean what the accepted calls define,
--- opening them gives the package that was left, and each count is the number of its cells
+-- opening them gives the package that was left, and each count is the number of its cells. No two rows of a table share
+-- a key, where no call applies a transform
 pub record IsReplay (kind : PackageType) (sent : List Call) (answers : List (Result Answer ErrorKind))
     (bytes : List ℕ) : Type 0 where
   pub last : Session
@@ -149,7 +159,7 @@ pub record IsReplay (kind : PackageType) (sent : List Call) (answers : List (Res
   pub held : bytes ≡ left.held
   pub means : TextsAreWritable left.state → HoldsPackage left
   pub counts : CountsAreExact left.state.kept.database
-  pub keys : KeysAreDistinct left.state.kept.database
+  pub keys : ApplyNoTransform sent → KeysAreDistinct left.state.kept.database
 
 -- a replay is refused only for want of memory, for a fault of the device, or as its last flush or the making of the
 -- package was
@@ -171,8 +181,8 @@ BeginsRecounted _ _ = ⊥
 
 -- The calls were carried out on the package that the bytes open to, and it was flushed: the bytes that are left mean
 -- what the accepted calls define, and opening them gives the package that was left. A sound database stays sound, so no
--- count is below the number of its cells; exact counts stay exact, and distinct keys distinct. After a recount first
--- of all the database is sound, and each count is the number of its cells
+-- count is below the number of its cells; exact counts stay exact, and distinct keys distinct where no call applies a
+-- transform. After a recount first of all the database is sound, and each count is the number of its cells
 pub record IsReplayOver (bytes : List ℕ) (sent : List Call) (answers : List (Result Answer ErrorKind))
     (written : List ℕ) : Type 0 where
   pub start : State
@@ -186,7 +196,7 @@ pub record IsReplayOver (bytes : List ℕ) (sent : List Call) (answers : List (R
   pub sound : is_sound start.kept.database ≡ true → is_sound left.state.kept.database ≡ true
   pub counts : is_sound start.kept.database ≡ true
       → CountsAreExact start.kept.database → CountsAreExact left.state.kept.database
-  pub keys : is_sound start.kept.database ≡ true
+  pub keys : ApplyNoTransform sent → is_sound start.kept.database ≡ true
       → KeysAreDistinct start.kept.database → KeysAreDistinct left.state.kept.database
   pub recounted : BeginsRecounted sent answers → HasExactCounts left.state.kept.database
 

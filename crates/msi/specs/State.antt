@@ -1,6 +1,8 @@
 -- What a package is: the parts that its bytes mean, and what it keeps beside them.
-use Rattle.std.specs.Prelude.{ℕ, Bool, not, List, map, filter, ◌||◌, bytes_eq}
+use Rattle.std.specs.Prelude.{ℕ, Bool, not, List, [], ◌∷◌, map, filter, ◌||◌, bytes_eq}
 use Rattle.std.specs.List.{list_any}
+use Rattle.msi_base.specs.declared.errors.ErrorKind.TheVariants.{InvalidInput}
+use Rattle.msi_base.specs.Refusals.{Refusals}
 use Rattle.msi_summary.specs.Properties.{Properties}
 use Rattle.msi_database_schema.specs.Keys.{table_key, summary_key, string_pool_name, string_data_name}
 use Rattle.msi_database_schema.specs.System.{validation_name}
@@ -27,6 +29,10 @@ pub record State : Type 0 where
   pub is_unwritten : Bool
   pub is_summary_lent : Bool
   pub is_pool_changed : Bool
+
+-- no package with storages below the root is changed
+abbrev pub storage_refusal : Parts → Refusals
+storage_refusal p = (p.has_storages, InvalidInput) ∷ []
 
 -- the streams that no table, pool or summary owns
 abbrev pub is_other_name : List (List ℕ) → List ℕ → Bool

@@ -24,6 +24,7 @@ use Rattle.msi_database.specs.AddColumn.{add_column, early_column_refusals}
 use Rattle.msi_database.specs.RecountedDatabases.{counts_changed, early_recount_refusals, recount}
 use Rattle.msi_database_storage.specs.Streams.{Streams, stream_at, has_stream_at, with_stream, without_stream}
 use Rattle.msi_database_storage.specs.Kept as databases
+use Rattle.msi_database_storage.specs.Kept.{Kept}
 use Rattle.msi_database.specs.Creating.{create_refusals}
 use Rattle.msi_database.specs.Listed.{table_def_at, tables_listed}
 use Rattle.msi_database.specs.Listed as listed
@@ -32,7 +33,10 @@ use Rattle.msi.specs.Listing.{is_listed, text_of_key}
 use Rattle.msi.specs.Renewing.{pool_over, summary_over}
 use Rattle.msi.specs.Renewing as renewals
 use Rattle.msi.specs.Kinds.{clsid_of}
+use Rattle.msi_transform_rows.specs.RecordRefusals.{Refusal}
 use Rattle.msi.specs.State.{Parts, State, parts_of}
+pub use Rattle.msi.specs.State.{storage_refusal}
+use Rattle.msi.specs.Transforming.{IsLeft, after_transform, transforming}
 use Rattle.msi.specs.Calls.{Call, Answer}
 use Rattle.msi.specs.Calls as calls
 use Rattle.msi.specs.Lent.{RunsTo, summary_outcome, summary_wants_memory, reader_outcome, reader_wants_memory}
@@ -45,10 +49,6 @@ after_change s c = record s {
   is_unwritten = true;
   is_pool_changed = s.is_pool_changed || c.is_pool_used;
 }
-
--- no package with storages below the root is changed
-abbrev pub storage_refusal : Parts → Refusals
-storage_refusal p = (p.has_storages, InvalidInput) ∷ []
 
 abbrev pub changing : Parts → (Database → Result Change ErrorKind) → Result Change ErrorKind
 changing p change = unless_refused (storage_refusal p) p.database >>= change
@@ -71,6 +71,11 @@ after_recount s = record s {
 abbrev pub recounted : State → Result ℕ ErrorKind → Result Answer ErrorKind × State
 recounted s (Ok changed) = (Ok (calls.count_is changed), after_recount s)
 recounted s (Err kind) = (Err kind, s)
+
+-- an applied transform leaves its database, or is refused with the kind of its refusal
+abbrev pub transformed : State → Result Kept Refusal → Result Answer ErrorKind × State
+transformed s (Ok k) = (Ok calls.done, after_transform s k)
+transformed s (Err refusal) = (Err refusal.kind, s)
 
 -- The root's other streams
 abbrev pub with_streams : (Streams → Streams) → State → State
@@ -184,6 +189,7 @@ outcome earlier_len s (calls.create_table name columns) =
 outcome earlier_len s (calls.drop_table name) = changed s (changing (parts_of s) (λ d. drop_table d name))
 outcome earlier_len s (calls.add_column name column) =
     changed s (changing (parts_of s) (λ d. add_column d name column))
+outcome earlier_len s (calls.apply_transform t passing) = transformed s (transforming s t passing)
 outcome earlier_len s (calls.set_database_codepage page) =
     leaving s (storage_refusal (parts_of s) ++ sound_refusal s.kept.database) (with_page page s)
 outcome earlier_len s (calls.remove_stream name) =
@@ -241,6 +247,7 @@ Lends s (calls.delete_rows query) _ new = ⊥
 Lends s (calls.create_table name columns) _ new = ⊥
 Lends s (calls.drop_table name) _ new = ⊥
 Lends s (calls.add_column name column) _ new = ⊥
+Lends s (calls.apply_transform t passing) _ new = ⊥
 Lends s (calls.set_database_codepage page) _ new = ⊥
 Lends s (calls.remove_stream name) _ new = ⊥
 Lends s calls.remove_digital_signature _ new = ⊥
@@ -269,6 +276,7 @@ is_lending (calls.delete_rows query) = false
 is_lending (calls.create_table name columns) = false
 is_lending (calls.drop_table name) = false
 is_lending (calls.add_column name column) = false
+is_lending (calls.apply_transform t passing) = false
 is_lending (calls.set_database_codepage page) = false
 is_lending (calls.remove_stream name) = false
 is_lending calls.remove_digital_signature = false
@@ -292,6 +300,7 @@ may_want_memory s (calls.delete_rows q) = true
 may_want_memory s (calls.create_table name columns) = true
 may_want_memory s (calls.drop_table name) = true
 may_want_memory s (calls.add_column name column) = true
+may_want_memory s (calls.apply_transform t passing) = true
 may_want_memory s (calls.set_database_codepage page) = false
 may_want_memory s (calls.write_stream name c) = true
 may_want_memory s (calls.read_stream name c) = false
@@ -329,6 +338,7 @@ may_meet_fault s (calls.delete_rows query) = false
 may_meet_fault s (calls.create_table name columns) = false
 may_meet_fault s (calls.drop_table name) = false
 may_meet_fault s (calls.add_column name column) = false
+may_meet_fault s (calls.apply_transform t passing) = false
 may_meet_fault s (calls.set_database_codepage page) = false
 may_meet_fault s (calls.remove_stream name) = false
 may_meet_fault s calls.remove_digital_signature = false
@@ -359,6 +369,8 @@ refused_early s calls.recount = first_refusal (storage_refusal (parts_of s) ++ e
 refused_early s (calls.write_stream name stream_calls) = first_refusal (name_refusals (parts_of s) name)
 refused_early s (calls.image n) = first_refusal (storage_refusal (parts_of s) ++ text_refusals s)
 refused_early s calls.flush = first_refusal (flush_refusals s)
+-- want of memory may come in place of each refusal of a transform
+refused_early s (calls.apply_transform t passing) = None
 -- these want no memory, and call no device
 refused_early s calls.package_type = None
 refused_early s calls.database_codepage = None
@@ -376,12 +388,18 @@ refused_early s (calls.summary_info questions) = None
 refused_early s (calls.summary_info_mut summary_calls) = None
 refused_early s (calls.read_stream name stream_calls) = None
 
+-- what an applied transform leaves beside its outcome
+abbrev pub LeavesKept : Call → Result Answer ErrorKind → State → Type 0
+LeavesKept (calls.apply_transform t passing) (Ok answer) new = IsLeft new.kept
+LeavesKept (calls.apply_transform t passing) (Err kind) new = Unit {0}
+LeavesKept _ answer new = Unit {0}
+
 -- One call: the first refusal that holds, and nothing changes; or its effect. Want of memory and a fault of the device
 -- change nothing, and neither comes in place of an early refusal
 abbrev pub Step : ℕ → State → Call → Result Answer ErrorKind → State → Type 0
 Step earlier_len old call answer new =
     MatchBool (is_lending call) (LendsOrRefuses old call (outcome earlier_len old call) answer new)
-    (outcome earlier_len old call ≡ (answer, new))
+    ((outcome earlier_len old call ≡ (answer, new)) × LeavesKept call answer new)
     ⊎ IsTrue (may_want_memory old call) × (answer ≡ Err OutOfMemory) × (new ≡ old)
     × AnswersWith (refused_early old call) answer
     ⊎ IsTrue (may_meet_fault old call) × (answer ≡ Err Io) × (new ≡ old)

@@ -10,5 +10,6 @@ pub use Rattle.msi_transform_rows.specs.RowStreams
 pub use Rattle.msi_transform_rows.specs.TableRecords
 pub use Rattle.msi_transform_schema.specs.SchemaApplying
 pub use Rattle.msi_transform_schema.specs.SchemaChanges
+pub use Rattle.msi_transform.specs.declared.conditions.ErrorConditions
 pub use Rattle.msi_transform_applying.specs.Applying
 pub use Rattle.msi_database.specs.Transforming

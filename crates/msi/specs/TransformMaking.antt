@@ -34,12 +34,15 @@ transform_made old new = unless_refused (kind_refusal old.kind) tt >>= λ u.
     unless_refused (kind_refusal new.kind) tt >>= λ u. transform_between (side_of old) (side_of new)
 
 -- the faults that have to pass where it is applied to the old package
-abbrev pub conditions_needed : Pair → ErrorConditions
-conditions_needed p = record {
+abbrev pub only_other_page : Bool → ErrorConditions
+only_other_page passes = record {
   added_row_exists = false;
   removed_row_missing = false;
   added_table_exists = false;
   removed_table_missing = false;
   changed_row_missing = false;
-  other_page = needs_other_page p;
+  other_page = passes;
 }
+
+abbrev pub conditions_needed : Pair → ErrorConditions
+conditions_needed p = only_other_page (needs_other_page p)

@@ -9,10 +9,12 @@ use Rattle.msi_database.specs.Changes.{Change}
 use Rattle.msi_database_storage.specs.Kept.{Kept}
 use Rattle.msi_database_storage.specs.Streams.{has_stream_at}
 use Rattle.msi_database.specs.Others.{with_streams}
+use Rattle.msi_transform_rows.specs.RecordRefusals.{Refusal}
 use Rattle.msi.specs.Renewing.{opened}
 use Rattle.msi.specs.declared.kinds.PackageType.{PackageType}
 use Rattle.msi.specs.State.{State}
 use Rattle.msi.specs.Steps.{after_change}
+use Rattle.msi.specs.Transforming.{after_transform}
 
 -- its state, what the device holds where that tells it, whether a call of the device failed, and whether bytes were
 -- written that the device has not passed on
@@ -58,3 +60,8 @@ pub record IsHeld (k : Kept) (name : Option (List ℕ)) (is_pool_changed : Bool)
 abbrev pub Leaves : Whole → Result Change ErrorKind → Whole → Type 0
 Leaves old (Ok c) new = new ≡ with_state (after_change old.state c) old
 Leaves old (Err kind) new = ⊥
+
+-- what an accepted transform leaves
+abbrev pub Becomes : Whole → Result Kept Refusal → Whole → Type 0
+Becomes old (Ok k) new = new ≡ with_state (after_transform old.state k) old
+Becomes old (Err refusal) new = ⊥

@@ -44,8 +44,8 @@ pub fn steps_are_fixed()
     ensures { StepsAreFixed }
 {}
 
-/// A call leaves a package: a sound one stays sound, and then exact counts stay exact and distinct keys stay
-/// distinct.
+/// A call leaves a package: a sound one stays sound, and then exact counts stay exact and, but for `apply_transform`,
+/// distinct keys stay distinct.
 pub fn steps_keep_packages()
     ensures { StepsKeepPackages }
 {}
@@ -124,8 +124,9 @@ pub fn images_mean()
 {}
 
 /// After any calls on a new package and a last flush that succeeds, each count is the number of its cells, and no two
-/// rows of a table share a key. If each text can be written in its page, that is if it reads back as it was, the
-/// bytes mean what the accepted calls define, and opening them gives the package that was left.
+/// rows of a table share a key if no call applies a transform. If each text can be written in its page, that is if it
+/// reads back as it was, the bytes mean what the accepted calls define, and opening them gives the package that was
+/// left.
 pub fn replays_mean()
     ensures { ReplaysMean }
 {}
@@ -133,7 +134,7 @@ pub fn replays_mean()
 /// After any calls on a package that was opened and a last flush that succeeds: if each text can be written in its
 /// page, the bytes mean what the accepted calls define, and opening them gives the package that was left. If the opened
 /// database was sound, it still is, so no count is below the number of its cells; then exact counts stay exact, and
-/// distinct keys distinct.
+/// distinct keys distinct if no call applies a transform.
 pub fn replays_over_mean()
     ensures { ReplaysOverMean }
 {}

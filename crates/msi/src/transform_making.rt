@@ -1,15 +1,15 @@
 //! Making a transform: of a package and of what it has become.
 
-ghost use Rattle.std.specs.Prelude.{◌≡◌, IfErr, IfOk, Ok};
+ghost use Rattle.std.specs.Prelude.{◌≡◌, ◌==◌, ◌&&◌, IfErr, IfOk, Ok, not};
 ghost use Rattle.msi_base.specs.Refusals.{IsRefusal, unless_refused};
 ghost use Rattle.msi_transform_making.specs.Making.{table_reasons, told_names};
 ghost use Rattle.msi_transform_making.specs.MakingRefusals.{IsAtFault};
-ghost use Rattle.msi.specs.TransformMaking.{conditions_needed as needed, kind_refusal, pair_of_states, transform_made};
+ghost use Rattle.msi.specs.TransformMaking.{conditions_needed as needed, kind_refusal, only_other_page};
+ghost use Rattle.msi.specs.TransformMaking.{pair_of_states, transform_made};
 
 use crate::package::{Package, settle};
-use crate::reasons;
 use crate::transforms::stored_page;
-use crate::PackageType;
+use crate::{PackageType, reasons};
 use msi_base::errors::{Error, ErrorKind, Reason};
 use msi_container_device::Source;
 use msi_transform::{ErrorConditions, Transform};
@@ -61,7 +61,8 @@ impl<F: Source> Package<F> {
         settle(&mut new.database, &mut new.open, &mut new.current);
         let page_id = stored_page(&self.database, self.is_pool_changed);
         let new_page_id = stored_page(&new.database, new.is_pool_changed);
-        self.database.transform_to(page_id, &new.database, new_page_id)
+        self.database
+            .transform_to(page_id, &new.database, new_page_id)
     }
 
     /// Returns the faults that have to pass where the transform of `transform_to` is applied to this package: that the
@@ -75,9 +76,14 @@ impl<F: Source> Package<F> {
         settle(&mut new.database, &mut new.open, &mut new.current);
         let page_id = stored_page(&self.database, self.is_pool_changed);
         let new_page_id = stored_page(&new.database, new.is_pool_changed);
-        ErrorConditions {
-            other_page: page_id != 0 && page_id != new_page_id,
-            ..ErrorConditions::default()
-        }
+        conditions_between(page_id, new_page_id)
     }
+}
+
+fn conditions_between(page_id: u32, new_page_id: u32) -> ErrorConditions
+    ensures { result ≡ only_other_page (not (page_id == 0) && not (page_id == new_page_id)) }
+{
+    let mut conditions = ErrorConditions::default();
+    conditions.other_page = page_id != 0 && page_id != new_page_id;
+    conditions
 }

@@ -2,10 +2,14 @@
 
 ghost use Rattle.std.specs.Prelude.{◌≡◌, IfErr, OnErr, OnOk};
 ghost use Rattle.msi_transform_rows.specs.RecordRefusals.{IsRefused};
-ghost use Rattle.msi.specs.Transforming.{Becomes, page_of, transforming};
+ghost use Rattle.std.specs.FinMap.{entries};
+ghost use Rattle.msi_container_write.specs.LayoutLaw.{HaveNames};
+ghost use Rattle.msi.specs.Transforming.{IsLeft, page_of, transforming};
+ghost use Rattle.msi.specs.Whole.{Becomes};
 
 use crate::package::{Package, settle};
 use msi_container_device::Source;
+use msi_container_format::contents::StreamMap;
 use msi_database::Database;
 use msi_transform::stored_pool::page_id_in;
 pub use msi_transform::{ErrorConditions, Fault, Transform};
@@ -20,6 +24,15 @@ pub(crate) fn stored_page(database: &Database, is_pool_changed: bool) -> u32
         database.codepage().id() as u32
     } else {
         page_id_in(database.streams())
+    }
+}
+
+/// Goes over streams: each has a name that a container can hold.
+fn look_at_names(streams: &StreamMap)
+    ensures { HaveNames (entries streams.now) }
+{
+    for (name, _) in streams.iter() {
+        let _units = name.units();
     }
 }
 
@@ -63,6 +76,7 @@ impl<F: Source> Package<F> {
         passing: ErrorConditions,
     ) -> Result<(), Refusal>
         ensures ok { OnOk result (Becomes self.old (transforming self.old.state transform.now passing) self.new) }
+        ensures kept { OnOk result (IsLeft self.new.state.kept) }
         ensures same { OnErr result (self.new ≡ self.old) }
         ensures kind { IfErr result (IsRefused (transforming self.old.state transform.now passing)) }
     {
@@ -70,6 +84,8 @@ impl<F: Source> Package<F> {
         settle(&mut self.database, &mut self.open, &mut self.current);
         let page_id = stored_page(&self.database, self.is_pool_changed);
         let database = self.database.apply(page_id, transform, passing)?;
+        database.kept();
+        look_at_names(database.streams());
         self.database = database;
         self.is_unwritten = true;
         self.is_pool_changed = true;

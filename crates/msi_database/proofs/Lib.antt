@@ -11,6 +11,8 @@ pub mod FreshCallLemmas
 pub mod FreshMadeLemmas
 pub mod FreshStepLemmas
 pub mod TransformingLemmas
+pub mod TransformedLemmas
+pub mod TransformMakingLemmas
 -- The lemmas of the crates below, which proofs above cite.
 pub use Rattle.msi_database_changes.proofs.steps.RefusedLemmas
 pub use Rattle.msi_database_changes.proofs.describing.SchemaKeptLemmas

@@ -1,18 +1,28 @@
 //! Making a transform: of a database and of what it has become.
 
 ghost use Rattle.std.specs.Prelude.{◌≡◌, IfErr, IfOk, Ok};
-ghost use Rattle.msi_base.specs.Refusals.{IsRefusal};
+ghost use Rattle.msi_base.specs.Refusals.{IsRefusal, unless_refused};
+ghost use Rattle.msi_database_changes.specs.Changes.{sound_refusal};
 ghost use Rattle.msi_transform_making.specs.Making.{pair_of, table_reasons, told_names};
 ghost use Rattle.msi_transform_making.specs.MakingRefusals.{IsAtFault};
 ghost use Rattle.msi_database.specs.TransformMaking.{transform_between};
 
 use crate::database::Database;
 use crate::reasons;
-use msi_base::errors::{Error, ErrorKind};
+use msi_base::errors::{Error, ErrorKind, Reason};
 use msi_transform::Transform;
 use msi_transform_making::{Base, MakingRefusal, make};
 
 impl Database {
+    fn check_sound_side(&self, reason: Reason) -> Result<(), Error>
+        ensures { result ≡ unless_refused (sound_refusal self.now.database) tt }
+    {
+        if !self.is_sound {
+            return Err(Error::new(ErrorKind::InvalidData, reason));
+        }
+        Ok(())
+    }
+
     /// Returns the parts of the database of which a transform is made.
     fn base(&self, page_id: u32) -> Base<'_>
         ensures { result ≡ record { page_id = page_id; kept = self.now } }
@@ -54,14 +64,10 @@ impl Database {
             let other = record { page_id = new_page_id; kept = new.now } in
             IfErr result (IsAtFault (table_reasons (pair_of old other)) (told_names new.now)) }
     {
-        if !self.is_sound {
-            let error = Error::new(ErrorKind::InvalidData, reasons::OLD_UNSOUND);
-            return Err(MakingRefusal::nowhere(error));
-        }
-        if !new.is_sound {
-            let error = Error::new(ErrorKind::InvalidData, reasons::NEW_UNSOUND);
-            return Err(MakingRefusal::nowhere(error));
-        }
-        make(&self.base(page_id), &new.base(new_page_id))
+        self.check_sound_side(reasons::OLD_UNSOUND)?;
+        new.check_sound_side(reasons::NEW_UNSOUND)?;
+        let old_base = self.base(page_id);
+        let new_base = new.base(new_page_id);
+        make(&old_base, &new_base)
     }
 }

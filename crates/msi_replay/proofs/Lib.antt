@@ -10,6 +10,7 @@ pub mod StreamLemmas
 pub mod SummaryLemmas
 pub mod SentLemmas
 pub mod TakenLemmas
+pub mod TransformedLemmas
 pub mod StreamsLemmas
 pub mod PackageLemmas
 pub mod PagesLemmas

@@ -15,7 +15,7 @@ use Rattle.msi_replay.specs.Told.{told}
 module _ (old new : Whole) where
   pub recount_done : (n : ℕ) → recounting (parts_of old.state) ≡ Ok n → new ≡ with_state (after_recount old.state) old → Takes old calls.recount (Ok (calls.count_is n)) new
   recount_done n is left = record {
-    step = λ len. inl (ap (recounted old.state) is ∙ ap (λ (s : State). (Ok (calls.count_is n), s)) (sym (ap (λ (w : Whole). w.state) left)));
+    step = λ len. inl (ap (recounted old.state) is ∙ ap (λ (s : State). (Ok (calls.count_is n), s)) (sym (ap (λ (w : Whole). w.state) left)), tt);
     held = ap (λ (w : Whole). w.held) left;
     failed = ap (λ (w : Whole). w.failed) left;
   }
@@ -34,7 +34,7 @@ module _ (old new : Whole) where
     failed = ap (λ (w : Whole). w.failed) same;
   }
   recount_refused A kind told_kind is same (inr e) early = record {
-    step = λ len. inl (ap (recounted old.state) e ∙ (λ i. (Err (sym is i), sym (ap (λ (w : Whole). w.state) same) i)));
+    step = λ len. inl (ap (recounted old.state) e ∙ (λ i. (Err (sym is i), sym (ap (λ (w : Whole). w.state) same) i)), tt);
     held = ap (λ (w : Whole). w.held) same;
     failed = ap (λ (w : Whole). w.failed) same;
   }

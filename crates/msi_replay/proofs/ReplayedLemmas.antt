@@ -87,7 +87,7 @@ module _ (start last left : Whole) (sent : List Call) (answers : List (Result An
     session_at last,
     run,
     ap (λ (m : ℕ). written_for last.state m) (sym is)
-        ∙ refused_for last.state left.state last.state.is_unwritten (written_for last.state n) error e,
+        ∙ refused_for last.state left.state last.state.is_unwritten (written_for last.state n) error e.0,
   ))
   refused_by n error is (inr (inl memory)) = let e = memory.1 in inl cc
   refused_by n error is (inr (inr fault)) = let e = fault.1 in inr (inl cc)

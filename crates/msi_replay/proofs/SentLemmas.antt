@@ -25,6 +25,7 @@ change_quiet (change.UpdateRows query) = record { unflushed = refl; alone = refl
 change_quiet (change.DeleteRows query) = record { unflushed = refl; alone = refl }
 change_quiet (change.DropTable name) = record { unflushed = refl; alone = refl }
 change_quiet (change.AddColumn name column) = record { unflushed = refl; alone = refl }
+change_quiet (change.ApplyTransform t passing) = record { unflushed = refl; alone = refl }
 change_quiet (change.SetDatabaseCodepage page) = record { unflushed = refl; alone = refl }
 change_quiet (change.RemoveStream name) = record { unflushed = refl; alone = refl }
 change_quiet change.RemoveDigitalSignature = record { unflushed = refl; alone = refl }
@@ -46,6 +47,7 @@ change_fits (change.UpdateRows query) = tt
 change_fits (change.DeleteRows query) = tt
 change_fits (change.DropTable name) = tt
 change_fits (change.AddColumn name column) = tt
+change_fits (change.ApplyTransform t passing) = tt
 change_fits (change.SetDatabaseCodepage page) = tt
 change_fits (change.RemoveStream name) = tt
 change_fits change.RemoveDigitalSignature = tt

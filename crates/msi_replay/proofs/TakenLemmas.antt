@@ -13,7 +13,7 @@ use Rattle.msi.specs.Calls as calls
 use Rattle.msi.specs.Steps.{Lends, Step, changed, is_lending, leaving, leaving_or, may_want_memory, outcome, refused_early}
 use Rattle.msi.specs.Whole.{Leaves, Whole, with_state}
 use Rattle.msi.proofs.writing.FlushStepLemmas.{answers_as}
-use Rattle.msi.proofs.calls_in_turn.CallLemmas.{change_done, change_refused, left_done, left_refused, lent, unanswered}
+use Rattle.msi.proofs.calls_in_turn.CallLemmas.{change_done, change_refused, left_done, left_refused, lent, says_more, unanswered}
 use Rattle.msi_replay.specs.Taken.{Takes}
 use Rattle.msi_replay.specs.Told.{told}
 
@@ -23,7 +23,7 @@ was_done answer = told (λ _. calls.done) answer
 
 -- CHANGING
 
-module _ (old new : Whole) (call : Call) (plain : is_lending call ≡ false) where
+module _ (old new : Whole) (call : Call) (plain : says_more call ≡ false) where
   pub change_takes : (wants : IsTrue (may_want_memory old.state call)) (r : Result Change ErrorKind)
       → ((n : ℕ) → outcome n old.state call ≡ changed old.state r) → (answer : Result (Unit {0}) ErrorKind)
       → OnOk answer (Leaves old r new) → OnErr answer (new ≡ old) → IfErr answer (IsRefusal r) → AnswersWith (refused_early old.state call) answer

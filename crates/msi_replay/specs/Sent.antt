@@ -76,6 +76,7 @@ change_sent (change.UpdateRows query) = calls.update_rows query
 change_sent (change.DeleteRows query) = calls.delete_rows query
 change_sent (change.DropTable name) = calls.drop_table name
 change_sent (change.AddColumn name column) = calls.add_column name column
+change_sent (change.ApplyTransform t passing) = calls.apply_transform t passing
 change_sent (change.SetDatabaseCodepage page) = calls.set_database_codepage page
 change_sent (change.RemoveStream name) = calls.remove_stream name
 change_sent change.RemoveDigitalSignature = calls.remove_digital_signature

@@ -1,5 +1,6 @@
 //! Calls on a package, and on its borrowed summary and streams, as values.
 
+use msi::transforms::{ErrorConditions, Transform};
 use msi::{
     CodePage, Column, Delete, Insert, Items, LanguageId, NumberProperty, Select, SummaryProperty,
     Text, TextProperty, TimeProperty, Timestamp, Update,
@@ -95,6 +96,8 @@ pub enum Change {
     DropTable(Text),
     /// Adds a column to the table of this name.
     AddColumn(Text, Column),
+    /// Applies a transform, where these faults of its records pass.
+    ApplyTransform(Transform, ErrorConditions),
     /// Sets the page in which the database's texts are written.
     SetDatabaseCodepage(CodePage),
     /// Removes the stream of this name.

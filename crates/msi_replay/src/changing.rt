@@ -12,6 +12,7 @@ ghost use Rattle.msi_replay.specs.Told.{answer_told, told};
 use crate::answer::Answer;
 use crate::call::{Change, SummaryCall};
 use crate::summary::{carry_out_all, discard_all};
+use msi::transforms::{ErrorConditions, Transform};
 use msi::{Error, ErrorKind, Items, Memory, Package};
 use std::alloc::Global;
 
@@ -21,6 +22,20 @@ pub(crate) fn done(outcome: Result<(), Error>) -> Result<Answer, ErrorKind>
     match outcome {
         Ok(()) => Ok(Answer::Done),
         Err(error) => Err(error.kind()),
+    }
+}
+
+fn transformed(
+    target: &mut Package<Memory>,
+    transform: &Transform,
+    passing: ErrorConditions,
+) -> Result<(), Error>
+    ensures { let call = calls.apply_transform transform.now passing in
+        Takes target.old call (told (λ _. calls.done) result) target.new }
+{
+    match target.apply_transform(transform, passing) {
+        Ok(()) => Ok(()),
+        Err(refusal) => Err(refusal.into_error()),
     }
 }
 
@@ -36,6 +51,7 @@ fn changed(target: &mut Package<Memory>, change: Change) -> Result<(), Error>
         Change::DeleteRows(query) => target.delete_rows(query),
         Change::DropTable(name) => target.drop_table(name.as_str()),
         Change::AddColumn(name, column) => target.add_column(name.as_str(), column),
+        Change::ApplyTransform(transform, passing) => transformed(target, &transform, passing),
         Change::SetDatabaseCodepage(page) => target.set_database_codepage(page),
         Change::RemoveStream(name) => target.remove_stream(name.as_str()),
         Change::RemoveDigitalSignature => target.remove_digital_signature(),

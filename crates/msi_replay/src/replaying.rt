@@ -132,8 +132,9 @@ fn look_at_bytes(bytes: &[u8])
 /// Opens the package that the bytes mean, makes the calls on it one after another, and flushes it. If each text can be
 /// written in its page, that is if it reads back as it was, the new bytes mean what the accepted calls define, and
 /// opening them gives the package that the calls left. If the opened database is sound, it stays so, and no count is
-/// below the number of its cells; then exact counts stay exact, and distinct keys distinct. If the first call is a
-/// recount that is accepted, the database is sound, and each count is the number of its cells.
+/// below the number of its cells; then exact counts stay exact, and distinct keys distinct if no call applies a
+/// transform. If the first call is a recount that is accepted, the database is sound, and each count is the number of
+/// its cells.
 ///
 /// # Errors
 /// Fails with `OutOfMemory`, or with `Io` if the device can't grow. Otherwise it fails as [`Package::open`] does on the

@@ -7,3 +7,5 @@ pub mod FinishedLemmas
 pub mod StorableLemmas
 pub mod RowsPutLemmas
 pub mod TableApplyingLemmas
+pub mod RowStepStreamsLemmas
+pub mod OtherStreamsLemmas

@@ -2,7 +2,9 @@
 use Rattle.std.proofs.Common.{◌≡◌, ℕ, Bool, List, [], ◌∷◌, map, refl, sym, ap, ◌∙◌}
 use Rattle.std.specs.Prelude.{◌||◌, bytes_eq}
 use Rattle.std.specs.List.{list_any}
-use Rattle.std.specs.Ordering.{eq_by_cmp, is_eq}
+use Rattle.std.specs.Ordering.{is_eq, ordering_then}
+use Rattle.std.specs.declared.cmp.Ordering.{Ordering}
+use Rattle.std.specs.declared.cmp.Ordering.TheVariants.{Less, Equal, Greater}
 use Rattle.msi_base.specs.Lists.{has_pair, list_cmp}
 use Rattle.msi_database_schema.proofs.SchemaLemmas.{names_tie}
 use Rattle.msi_table_cells.specs.KeyOrder.{same_key}
@@ -12,14 +14,13 @@ use Rattle.msi_table_values.specs.declared.value.Value.TheVariants.{Str}
 abbrev pub key_of_text : List ℕ → List Value
 key_of_text text = Str text ∷ []
 
-same_of_texts : (a b : List ℕ) → same_key (key_of_text a) (key_of_text b) ≡ eq_by_cmp list_cmp a b
-same_of_texts a b = match list_cmp a b
-  | Less ↦ refl
-  | Equal ↦ refl
-  | Greater ↦ refl
+alone : (o : Ordering) → is_eq (ordering_then o Equal) ≡ is_eq o
+alone Less = refl
+alone Equal = refl
+alone Greater = refl
 
 same_is : (a b : List ℕ) → same_key (key_of_text a) (key_of_text b) ≡ bytes_eq a b
-same_is a b = same_of_texts a b ∙ names_tie a b
+same_is a b = alone (list_cmp a b) ∙ names_tie a b
 
 any_is : (a : List ℕ) (texts : List (List ℕ)) → list_any (same_key (key_of_text a)) (map key_of_text texts) ≡ list_any (bytes_eq a) texts
 any_is a [] = refl

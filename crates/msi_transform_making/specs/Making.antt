@@ -341,8 +341,9 @@ lacks_text_of pool = list_any (is_lacking pool.page) pool.places
 abbrev pub lacks_text : Kept → Bool
 lacks_text k = lacks_text_of k.database.pool
 
--- The texts that name the streams of rows, those with a stream: of a table's rows, and of those that another package
--- lacks. Two rows share a stream where these are the same: `a.b` and c in a table of two keys, say, and `a` and b.c
+-- The texts that name the streams of a table's rows: of those that have one; and of all rows that another package
+-- lacks, where one of the tables has a column of streams. A transform with two of one name would say two things of one
+-- stream: `a.b` and c in a table of two keys, say, and `a` and b.c
 abbrev pub stream_texts : List ℕ → List Value × ToldRow → List (List ℕ)
 stream_texts table e = if is_some e.1.stream then stream_text table e.0 ∷ [] else []
 
@@ -354,8 +355,8 @@ abbrev pub is_row_gone : ToldRows → List Value × ToldRow → Bool
 is_row_gone others e = not (is_some (find key_cmp e.0 others))
 
 abbrev pub gone_streams : Kept → Kept → List ℕ → List (List ℕ)
-gone_streams old new table = if has_streams (columns_in_table old table)
-    then flat_map (stream_texts table) (filter (is_row_gone (told_rows new table 0)) (told_rows old table 0)) else []
+gone_streams old new table = if has_streams (columns_in_table old table) || has_streams (columns_in_table new table)
+    then map (λ e. stream_text table e.0) (filter (is_row_gone (told_rows new table 0)) (told_rows old table 0)) else []
 
 abbrev pub shared_among : List (List ℕ) → Bool
 shared_among texts = has_pair bytes_eq texts

@@ -40,8 +40,8 @@ fn transform_of(new: &Base, tables: &[ToldTable]) -> Result<Transform, Error>
 /// or under a name that none may have; the new one's page is neutral and the old one's isn't, or it lacks a text; two
 /// rows of either have streams of one name; a table loses or changes a column, gets one of the key, or gets columns and
 /// has more than 32 then, or two of one name, or one without a name; a row of more than 255 columns would have to be
-/// added; or the texts are too many. Otherwise it fails with `OutOfMemory`, which may come in place of the others. Where
-/// a table is at fault for its columns, the refusal says which.
+/// added; or the texts are too many. Otherwise it fails with `OutOfMemory`, which may come in place of the others.
+/// Where a table is at fault for its columns, the refusal says which.
 pub fn make<'a>(old: &Base<'a>, new: &Base<'a>) -> Result<Transform, MakingRefusal>
     ensures ok { IfOk result (λ transform. made (pair_of old.now new.now) ≡ Ok transform) }
     ensures kind { IfErr result (λ refusal. IsRefusal (made (pair_of old.now new.now)) refusal.kind) }

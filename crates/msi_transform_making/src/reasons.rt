@@ -19,7 +19,7 @@ pub(crate) const TEXT_NOT_IN_PAGE: Reason = Reason(
 );
 
 pub(crate) const STREAM_SHARED: Reason = Reason(
-    "two rows have streams of one name, so a transform can't say which row a stream is of",
+    "the streams of two rows have one name, so a transform can't say whose it is",
 );
 
 pub(crate) const COLUMNS_DIFFER: Reason = Reason(

@@ -10,6 +10,7 @@ ghost use Rattle.msi_transform_making.specs.Making.{gone_streams, is_row_gone, p
 ghost use Rattle.msi_transform_making.specs.Making.{shared_among, shares_stream as is_stream_shared};
 ghost use Rattle.msi_transform_making.specs.Making.{stream_texts, streams_in, told_names as names_told};
 ghost use Rattle.msi_transform_making.specs.Names.{names_in};
+ghost use Rattle.msi_transform_rows.specs.RowStreams.{stream_text as name_of_stream};
 
 use crate::base::Base;
 use crate::reading::told_rows;
@@ -20,6 +21,13 @@ use msi_database_changes::keys::{Key, distinct_keys};
 use msi_table_values::parts::ValueView;
 use msi_transform_rows::row_streams::{has_streams, stream_text};
 use std::alloc::Global;
+
+fn stream_name(alloc: Global, table: &str, key: &Key) -> Result<Text, Error>
+    ensures ok { IfOk result (λ text. text ≡ name_of_stream table.now key.now) }
+    ensures kind { OnlyMemory result }
+{
+    Ok(Text::from_string(stream_text(alloc, table, key.values())?))
+}
 
 /// Adds the text that names a row's stream, if it has one.
 fn push_stream_text(
@@ -34,8 +42,7 @@ fn push_stream_text(
     ensures kind { OnlyMemory result }
 {
     if row.stream().is_some() {
-        let text = stream_text(alloc, table, key.values())?;
-        texts.push(Text::from_string(text))?;
+        texts.push(stream_name(alloc, table, key)?)?;
     }
     Ok(())
 }
@@ -56,7 +63,7 @@ fn push_streams_of<'a>(
     Ok(())
 }
 
-/// Adds those of the rows that others lack.
+/// Adds those of all rows that others lack.
 fn push_streams_beside<'a>(
     alloc: Global,
     texts: &mut Vec<Text>,
@@ -65,14 +72,14 @@ fn push_streams_beside<'a>(
     others: &ToldRows<'a>,
 ) -> Result<(), Error>
     ensures ok { let gone = filter (is_row_gone (entries others.now)) (entries rows.now) in
-        OnOk result (texts.new.items ≡ texts.old.items ++ flat_map (stream_texts table.now) gone) }
+        OnOk result (texts.new.items ≡ texts.old.items ++ map (λ e. name_of_stream table.now e.0) gone) }
     ensures kind { OnlyMemory result }
 {
-    for (key, row) in rows.iter() {
+    for (key, _) in rows.iter() {
         if others.get(key).is_some() {
             continue;
         }
-        push_stream_text(alloc, texts, table, key, row)?;
+        texts.push(stream_name(alloc, table, key)?)?;
     }
     Ok(())
 }
@@ -99,7 +106,7 @@ fn push_gone_streams<'a>(
         ≡ texts.old.items ++ gone_streams old.now.kept new.now.kept table.now) }
     ensures kind { OnlyMemory result }
 {
-    if !has_streams(old.columns_of(table)) {
+    if !has_streams(old.columns_of(table)) && !has_streams(new.columns_of(table)) {
         return Ok(());
     }
     let rows = told_rows(old, table, 0)?;
@@ -154,8 +161,8 @@ fn has_text_twice(alloc: Global, texts: &[Text]) -> Result<bool, Error>
     Ok(distinct_keys(alloc, keys)?.is_none())
 }
 
-/// Returns whether two rows have streams of one name: of the rows of the new database, and of those of the old one that
-/// the new one lacks. It costs the rows of tables with columns of streams times a logarithm.
+/// Returns whether two streams of rows have one name: of the rows of the new database that have one, and of the rows of
+/// the old one that the new one lacks. It costs the rows of tables with columns of streams times a logarithm.
 ///
 /// # Errors
 /// Fails with `OutOfMemory`.

@@ -580,18 +580,8 @@ const FAULTS: &[&str] = &[
 
 /// What may be validated before a transform is applied at an installation.
 const VALIDATIONS: &[&str] = &[
-    "language",
-    "product",
-    "platform",
-    "major",
-    "minor",
-    "update",
-    "below",
-    "at-most",
-    "equal",
-    "at-least",
-    "above",
-    "upgrade",
+    "language", "product", "platform", "major", "minor", "update", "below", "at-most", "equal",
+    "at-least", "above", "upgrade",
 ];
 
 /// The commands about transforms.

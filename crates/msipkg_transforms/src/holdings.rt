@@ -89,7 +89,10 @@ impl Holdings {
         for (nouns, counts) in self.kinds() {
             for (verb, count) in verbs(counts) {
                 if count > 0 {
-                    let (comma, noun) = (comma(is_first), if count == 1 { nouns.0 } else { nouns.1 });
+                    let (comma, noun) = (
+                        comma(is_first),
+                        if count == 1 { nouns.0 } else { nouns.1 },
+                    );
                     write!(output, "{comma}{count} {noun} {verb}");
                     is_first = false;
                 }

@@ -165,7 +165,10 @@ fn row_streams(alloc: Global, package: &Package<Opened>) -> Result<BTreeSet<Stri
 }
 
 fn has_streams(table: &Table) -> bool {
-    table.columns().iter().any(|column| matches!(column.coltype(), ColumnType::Binary))
+    table
+        .columns()
+        .iter()
+        .any(|column| matches!(column.coltype(), ColumnType::Binary))
 }
 
 fn add_row_streams(

@@ -61,7 +61,11 @@ pub fn make_transform(
     notes: &mut Output,
 ) -> Result<(), Failure> {
     let alloc = rt.alloc();
-    at_file(alloc, asked.path, check_way(rt, asked.path, asked.is_forced))?;
+    at_file(
+        alloc,
+        asked.path,
+        check_way(rt, asked.path, asked.is_forced),
+    )?;
     let mut old = side_of(rt, old, notes)?;
     let mut new = match side_of(rt, new, notes) {
         Ok(side) => side,
@@ -77,7 +81,11 @@ pub fn make_transform(
     let flags = flags_of(&mut old, &mut new, &made, asked);
     let summary = summary_of(alloc, &old.package, &new.package, flags)?;
     let bytes = TransformBytes::of(alloc, made, summary)?.read_again(alloc)?;
-    at_file(alloc, asked.path, write_transform(rt, asked.path, asked.is_forced, &bytes))?;
+    at_file(
+        alloc,
+        asked.path,
+        write_transform(rt, asked.path, asked.is_forced, &bytes),
+    )?;
     print_made(alloc, style, asked, &holdings, &left_out, output, notes);
     Ok(())
 }

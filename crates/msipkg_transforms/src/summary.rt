@@ -17,7 +17,9 @@ const FORMAT: [u8; 16] = [
 
 /// The queries for what a package's properties say of its product.
 const PRODUCT_CODE: &str = "SELECT Value FROM Property WHERE Property = 'ProductCode'";
+
 const PRODUCT_VERSION: &str = "SELECT Value FROM Property WHERE Property = 'ProductVersion'";
+
 const UPGRADE_CODE: &str = "SELECT Value FROM Property WHERE Property = 'UpgradeCode'";
 
 /// The version of the system that the set says it was made on.
@@ -100,7 +102,11 @@ fn product_of(alloc: Global, package: &Package<Opened>) -> Result<Option<String>
     let mut text = String::new(alloc);
     let has_code = push_selected(alloc, package, PRODUCT_CODE, &mut text)?;
     let has_version = push_selected(alloc, package, PRODUCT_VERSION, &mut text)?;
-    Ok(if has_code && has_version { Some(text) } else { None })
+    Ok(if has_code && has_version {
+        Some(text)
+    } else {
+        None
+    })
 }
 
 /// Puts the text that a query selects behind another, and returns whether there is one. A table that isn't there, can't

@@ -1,17 +1,20 @@
-//! Calls that make a package, open one, write it or take it apart.
+//! Calls that make a package, open one, apply a transform to it, write it or take it apart.
 
 use crate::counting::Counting;
 use crate::session::Session;
+use msi::transforms::{ErrorConditions, Transform};
 use msi::{Error, Package, PackageType};
+use transcripts_words::contents::transform;
 use transcripts_words::failure::Failure;
 use transcripts_words::kept::pieces;
 use transcripts_words::words::Words;
 
 /// The names of these calls.
-pub(crate) static VERBS: [&str; 6] = [
+pub(crate) static VERBS: [&str; 7] = [
     "device",
     "create",
     "open",
+    "apply_transform",
     "image",
     "into_reader",
     "into_inner",
@@ -25,6 +28,7 @@ pub(crate) fn make(session: &mut Session, verb: &str, words: &mut Words) -> Resu
         }
         "create" => create(session, words),
         "open" => open(session, words),
+        "apply_transform" => apply_transform(session, words),
         _ => {
             let name = words.name();
             session.kept.reserve(words.alloc, name)?;
@@ -59,6 +63,35 @@ fn open(session: &mut Session, words: &mut Words) -> Result<(), Failure> {
     let device = session.device(words.alloc, bytes);
     session.package = Some(Package::open(words.alloc, device)?);
     Ok(())
+}
+
+/// Applies a transform that is given by its streams.
+fn apply_transform(session: &mut Session, words: &mut Words) -> Result<(), Failure> {
+    let contents = transform(&session.kept, words)?;
+    let passing = conditions(words);
+    words.check()?;
+    let transform = Transform::of_contents(words.alloc, contents)?;
+    match session.package_mut()?.apply_transform(&transform, passing) {
+        Ok(()) => Ok(()),
+        Err(refusal) => Err(Failure::from(refusal.into_error())),
+    }
+}
+
+/// Reads which faults of a transform's records pass.
+fn conditions(words: &mut Words) -> ErrorConditions {
+    let mut passing = ErrorConditions::default();
+    for _ in 0..words.len() {
+        match words.word() {
+            "added_row_exists" => passing.added_row_exists = true,
+            "removed_row_missing" => passing.removed_row_missing = true,
+            "added_table_exists" => passing.added_table_exists = true,
+            "removed_table_missing" => passing.removed_table_missing = true,
+            "changed_row_missing" => passing.changed_row_missing = true,
+            "other_page" => passing.other_page = true,
+            _ => words.refuse("a transform has no such fault"),
+        }
+    }
+    passing
 }
 
 /// Keeps the bytes that a flush would write over so many; or takes the package apart, written or not, and keeps the

@@ -17,6 +17,11 @@ const INSTALLER: [u8; 16] = [
     0x84, 0x10, 0x0C, 0, 0, 0, 0, 0, 0xC0, 0, 0, 0, 0, 0, 0, 0x46,
 ];
 
+/// The CLSID of a transform.
+const TRANSFORM: [u8; 16] = [
+    0x82, 0x10, 0x0C, 0, 0, 0, 0, 0, 0xC0, 0, 0, 0, 0, 0, 0, 0x46,
+];
+
 /// Returns the file of an installer package with streams of some names and lengths: `(a 64) (b 0)`, and in front of
 /// them `over 10000` for a longer file that they are written over, and `storages` if it has some.
 pub(crate) fn written(words: &mut Words) -> Result<Vec<u8>, Error> {
@@ -84,6 +89,37 @@ fn key(words: &mut Words) -> Result<Name, Error> {
         }
         None => Name::new(words.name()),
     }
+}
+
+/// Reads the streams of a transform, each with its name and its bytes: `(_StringPool 00000000, "B.six" "6th")`. A word
+/// is the name of a table, and a text that of another stream, as a package names it. Fails at a name that no stream may
+/// have, where bytes can't be read, and if memory runs out.
+pub fn transform(kept: &Kept, words: &mut Words) -> Result<Contents, Failure> {
+    let mut streams = StreamMap::new(words.alloc);
+    let mut goes_on = words.begins_list();
+    for _ in 0..words.len() {
+        if !goes_on {
+            break;
+        }
+        let name = own_key(words)?;
+        let bytes = Bytes::from_vec(pieces(kept, words)?);
+        streams.insert(name, bytes)?;
+        goes_on = words.goes_on();
+    }
+    Ok(Contents {
+        clsid: TRANSFORM,
+        streams,
+        has_storages: false,
+    })
+}
+
+/// Reads the name of a table's stream, which is a word, or that of another stream as a package names it.
+fn own_key(words: &mut Words) -> Result<Name, Error> {
+    if words.peek_word().is_some() {
+        return key(words);
+    }
+    let name = streamname::encode(words.alloc, words.name(), false)?;
+    Name::new(name.as_str())
 }
 
 pub(crate) fn changed(

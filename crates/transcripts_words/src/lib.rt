@@ -5,7 +5,7 @@ pub mod answers;
 pub mod calls;
 pub mod columns;
 pub mod containers;
-mod contents;
+pub mod contents;
 pub mod failure;
 pub mod files;
 pub mod kept;

@@ -1,7 +1,7 @@
 -- Answers of calls are steps: what a call answers and leaves, or why it is refused, is what a step says of it.
-use Rattle.std.proofs.Common.{◌≡◌, ℕ, Bool, true, false, Option, Some, None, Result, Ok, Err, refl, sym, ap, subst, ◌∙◌, inl, inr, length}
+use Rattle.std.proofs.Common.{◌≡◌, ℕ, Bool, true, false, ◌||◌, Option, Some, None, Result, Ok, Err, refl, sym, ap, subst, ◌∙◌, inl, inr, length}
 use Rattle.std.specs.Prelude.{IsTrue}
-use Rattle.std.proofs.lemmas.Bool.{true≢false}
+use Rattle.std.proofs.lemmas.Bool.{or_parts, true≢false}
 use Rattle.msi_base.specs.declared.errors.ErrorKind.{ErrorKind}
 use Rattle.msi_base.specs.declared.errors.ErrorKind.TheVariants.{OutOfMemory}
 use Rattle.msi_base.specs.Refusals.{AnswersWith, Refusals, IsRefusal, first_refusal, unless, unless_refused}
@@ -10,15 +10,24 @@ use Rattle.msi_database.proofs.RefusedLemmas.{unless_err}
 use Rattle.msi.specs.State.{State}
 use Rattle.msi.specs.Calls.{Call, Answer}
 use Rattle.msi.specs.Calls as calls
-use Rattle.msi.specs.Steps.{Step, outcome, after_change, changed, leaving, leaving_or, answer_of, is_lending, may_want_memory, refused_early, Lends, LendsOrRefuses}
-use Rattle.msi.specs.Runs.{Session, SessionStep, SameDevice}
+use Rattle.msi.specs.Steps.{Step, outcome, after_change, changed, leaving, leaving_or, answer_of, is_lending, may_want_memory, refused_early, LeavesKept, Lends, LendsOrRefuses}
+use Rattle.msi.specs.Runs.{Session, SessionStep, SameDevice, is_transform}
 use Rattle.msi.proofs.packages.LeavingLemmas.{is_flush}
 use Rattle.msi.proofs.writing.FlushStepLemmas.{when_false, when_true}
 
+-- calls of which more is said than their outcome: those that lend, and an applied transform
+abbrev pub says_more : Call → Bool
+says_more call = is_lending call || is_transform call
+
+nothing_more : (call : Call) (answer : Result Answer ErrorKind) (new : State) → says_more call ≡ false → LeavesKept call answer new
+nothing_more (calls.apply_transform t passing) answer new e = absurd (true≢false e)
+nothing_more _ answer new e = tt
+
 module _ (n : ℕ) (s : State) (call : Call) where
   -- a call that takes no memory, or was given it
-  pub step_is : (answer : Result Answer ErrorKind) (new : State) → is_lending call ≡ false → outcome n s call ≡ (answer, new) → Step n s call answer new
-  step_is answer new plain is = inl (when_false (is_lending call) _ (outcome n s call ≡ (answer, new)) plain is)
+  pub step_is : (answer : Result Answer ErrorKind) (new : State) → says_more call ≡ false → outcome n s call ≡ (answer, new) → Step n s call answer new
+  step_is answer new plain is = inl (when_false (is_lending call) _ ((outcome n s call ≡ (answer, new)) × LeavesKept call answer new) (or_parts (is_lending call) (is_transform call) plain).0
+      (is, nothing_more call answer new plain))
 
   -- one that was refused it, where no early refusal holds
   pub step_unfed : IsTrue (may_want_memory s call) → (new : State) → (kind : ErrorKind) → kind ≡ OutOfMemory → new ≡ s
@@ -27,7 +36,7 @@ module _ (n : ℕ) (s : State) (call : Call) where
 
   -- WHAT CHANGES TABLES
 
-  module _ (r : Result Change ErrorKind) (plain : is_lending call ≡ false) (wants : IsTrue (may_want_memory s call)) (is : outcome n s call ≡ changed s r) (new : State) where
+  module _ (r : Result Change ErrorKind) (plain : says_more call ≡ false) (wants : IsTrue (may_want_memory s call)) (is : outcome n s call ≡ changed s r) (new : State) where
     pub change_done : (c : Change) → r ≡ Ok c → new ≡ after_change s c → Step n s call (Ok calls.done) new
     change_done c e after = step_is (Ok calls.done) new plain (is ∙ ap (changed s) e ∙ ap (λ (t : State). (Ok calls.done, t)) (sym after))
 
@@ -41,7 +50,7 @@ module _ (n : ℕ) (s : State) (call : Call) where
   no_refusal x y None e = refl
   no_refusal x y (Some kind) e = absurd cc
 
-  module _ {X : Type 0} (x : X) (refusals : Refusals) (next : State) (plain : is_lending call ≡ false) (is : outcome n s call ≡ leaving s refusals next) (new : State) where
+  module _ {X : Type 0} (x : X) (refusals : Refusals) (next : State) (plain : says_more call ≡ false) (is : outcome n s call ≡ leaving s refusals next) (new : State) where
     pub left_done : (y : X) → unless_refused refusals x ≡ Ok y → new ≡ next → Step n s call (Ok calls.done) new
     left_done y e after = step_is (Ok calls.done) new plain
         (is ∙ ap (λ (o : Option ErrorKind). leaving_or o s next) (no_refusal x y (first_refusal refusals) e) ∙ ap (λ (t : State). (Ok calls.done, t)) (sym after))
@@ -52,7 +61,7 @@ module _ (n : ℕ) (s : State) (call : Call) where
 
   -- WHAT ONLY ANSWERS
 
-  module _ {A : Type 0} (f : A → Answer) (r : Result A ErrorKind) (plain : is_lending call ≡ false) (wants : IsTrue (may_want_memory s call)) (is : outcome n s call ≡ (answer_of f r, s)) where
+  module _ {A : Type 0} (f : A → Answer) (r : Result A ErrorKind) (plain : says_more call ≡ false) (wants : IsTrue (may_want_memory s call)) (is : outcome n s call ≡ (answer_of f r, s)) where
     pub answered : (x : A) → r ≡ Ok x → Step n s call (Ok (f x)) s
     answered x e = step_is (Ok (f x)) s plain (is ∙ ap (λ (r : Result A ErrorKind). (answer_of f r, s)) e)
 

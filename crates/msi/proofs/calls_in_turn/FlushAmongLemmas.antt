@@ -24,7 +24,7 @@ parts_by s t answer true (Ok streams) h written is = ap (λ p. parts_of p.1) (sy
 parts_by s t answer true (Err kind) h written is = no_answer kind (ap (λ p. p.0) is)
 
 parts_kept : (n : ℕ) (s t : State) (answer : Answer) → IsPackage s → Step n s calls.flush (Ok answer) t → parts_of t ≡ parts_of s
-parts_kept n s t answer h (inl is) = parts_by s t answer s.is_unwritten (written_for s n) h (written_is s n) is
+parts_kept n s t answer h (inl is) = parts_by s t answer s.is_unwritten (written_for s n) h (written_is s n) is.0
 parts_kept n s t answer h (inr (inl memory)) = no_answer _ (sym memory.1)
 parts_kept n s t answer h (inr (inr fault)) = no_answer _ (sym fault.1)
 
@@ -34,7 +34,7 @@ refused_by s t kind true (Ok streams) is = no_answer kind (sym (ap (λ p. p.0) i
 refused_by s t kind true (Err other) is = sym (ap (λ p. p.1) is)
 
 refused_kept : (n : ℕ) (s t : State) (kind : ErrorKind) → Step n s calls.flush (Err kind) t → t ≡ s
-refused_kept n s t kind (inl is) = refused_by s t kind s.is_unwritten (written_for s n) is
+refused_kept n s t kind (inl is) = refused_by s t kind s.is_unwritten (written_for s n) is.0
 refused_kept n s t kind (inr (inl memory)) = memory.2
 refused_kept n s t kind (inr (inr fault)) = fault.2
 

@@ -4,7 +4,7 @@ use Rattle.std.proofs.lemmas.Bool.{MatchBool-at_false}
 use Rattle.msi_database_schema.specs.Keys.{stream_key, signature_key, signature_ex_key}
 use Rattle.msi_database_storage.specs.Streams.{Streams, without_stream}
 use Rattle.msi.specs.State.{names_of, parts_of}
-use Rattle.msi.specs.Steps.{LendsOrRefuses, outcome}
+use Rattle.msi.specs.Steps.{LeavesKept, LendsOrRefuses, outcome}
 use Rattle.msi.specs.Laws.{WritesItsStream, RemovesItsStream, RemovesSignature, FlushKeepsParts, StepsAreFixed, PassingMeans, with_others}
 use Rattle.msi.proofs.writing.FlushLemmas.{flush_parts}
 use Rattle.msi.proofs.named_streams.OtherStreamLemmas.{others_with, others_without, stream_key_is_other}
@@ -31,6 +31,7 @@ passing_means = reading.passing_means
 -- ANSWERS
 
 pub steps_are_fixed : StepsAreFixed
-steps_are_fixed n old call e answer new (inl is) = inl (MatchBool-at_false (LendsOrRefuses old call (outcome n old call) answer new) (outcome n old call ≡ (answer, new)) e is)
+steps_are_fixed n old call e answer new (inl is) = inl ((MatchBool-at_false (LendsOrRefuses old call (outcome n old call) answer new)
+    ((outcome n old call ≡ (answer, new)) × LeavesKept call answer new) e is).0)
 steps_are_fixed n old call e answer new (inr (inl memory)) = inr (inl memory.1, memory.2, memory.3)
 steps_are_fixed n old call e answer new (inr (inr fault)) = inr (inr fault.1, fault.2, fault.3)

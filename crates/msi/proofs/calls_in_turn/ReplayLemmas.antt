@@ -86,7 +86,7 @@ replays_mean k sent answers last left fits run flush =
       held = refl;
       means = after.held clean;
       counts = flushed.counts sound (kept.counts start.1.sound start.1.counts);
-      keys = flushed.keys sound (kept.keys start.1.sound start.1.keys);
+      keys = λ none. flushed.keys (refl, tt) sound (kept.keys none start.1.sound start.1.keys);
     }
 
 -- where the first call is a recount that is accepted, counts are exact from then on
@@ -117,7 +117,7 @@ replays_over_mean bytes start sent answers last left small opens fits run flush 
       means = after.held (flushed_clean last left calls.done flush);
       sound = λ sound. flushed.sound (kept.sound sound);
       counts = λ sound counts. flushed.counts (kept.sound sound) (kept.counts sound counts);
-      keys = λ sound keys. flushed.keys (kept.sound sound) (kept.keys sound keys);
+      keys = λ none sound keys. flushed.keys (refl, tt) (kept.sound sound) (kept.keys none sound keys);
       recounted = λ begins.
           let exact = recounted_first (opened bytes start) last sent answers first.is_package fits run begins in
           record { sound = flushed.sound exact.sound; counts = flushed.counts exact.sound exact.counts };

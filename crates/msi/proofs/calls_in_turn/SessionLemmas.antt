@@ -80,7 +80,7 @@ flush_by x y true (Ok streams) answer e done is d h =
 
 flush_step : (x y : Session) (answer : Result Answer ErrorKind) → IsPackage x.state → SessionStep x calls.flush answer y → HeldClean x → HeldClean y
 flush_step x y answer is (inl step, d) h =
-    flush_by x y x.state.is_unwritten (written_for x.state (length x.held)) answer refl (λ streams e. left_by x.state streams (length x.held) is e) step d h
+    flush_by x y x.state.is_unwritten (written_for x.state (length x.held)) answer refl (λ streams e. left_by x.state streams (length x.held) is e) step.0 d h
 flush_step x y answer is (inr (inl memory), d) h = flush_stays x y x.state.is_unwritten answer refl memory.2 d h
 flush_step x y answer is (inr (inr fault), d) h = flush_stays x y x.state.is_unwritten answer refl fault.2 d h
 
@@ -116,7 +116,7 @@ clean_by s y answer true (Ok streams) e is = ap (λ (t : State). t.is_unwritten)
 clean_by s y answer true (Err kind) e is = no_answer kind (ap (λ p. p.0) is)
 
 pub flushed_clean : (x y : Session) (answer : Answer) → SessionStep x calls.flush (Ok answer) y → y.state.is_unwritten ≡ false
-flushed_clean x y answer (inl is, b) = clean_by x.state y.state answer x.state.is_unwritten (written_for x.state (length x.held)) refl is
+flushed_clean x y answer (inl is, b) = clean_by x.state y.state answer x.state.is_unwritten (written_for x.state (length x.held)) refl is.0
 flushed_clean x y answer (inr (inl memory), b) = no_answer _ (sym memory.1)
 flushed_clean x y answer (inr (inr fault), b) = no_answer _ (sym fault.1)
 
@@ -140,7 +140,7 @@ image_by x y answer true (Ok streams) e is d =
     ap held_answer (flush_done x y streams (sym (ap (λ p. p.1) is)) d)
 
 pub flush_holds_image : FlushHoldsImage
-flush_holds_image x y answer unwritten (inl is, d) = image_by x y answer x.state.is_unwritten (written_for x.state (length x.held)) unwritten is d
+flush_holds_image x y answer unwritten (inl is, d) = image_by x y answer x.state.is_unwritten (written_for x.state (length x.held)) unwritten is.0 d
 flush_holds_image x y answer unwritten (inr (inl memory), d) = no_answer _ (sym memory.1)
 flush_holds_image x y answer unwritten (inr (inr fault), d) = no_answer _ (sym fault.1)
 

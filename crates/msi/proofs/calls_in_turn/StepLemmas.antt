@@ -28,8 +28,13 @@ use Rattle.msi_summary.specs.declared.property.SummaryProperty.{SummaryProperty}
 use Rattle.msi.specs.Calls.{Call, Answer}
 use Rattle.msi.specs.Calls as calls
 use Rattle.msi.specs.Lent.{FitsSummaryCall}
-use Rattle.msi.specs.Runs.{FitsCall}
-use Rattle.msi.specs.Steps.{after_change, after_recount, recounted, recounting, storage_refusal, changing, changed, with_page, with_streams, with_lent_summary, with_summary_calls, without_signature, name_refusals, has_stream, leaving_or, streams_written, written_for, image_refusals, as_written, flushed, outcome, Lends, LendsOrRefuses, Step, is_lending}
+use Rattle.msi_database_storage.specs.Kept.{Kept}
+use Rattle.msi_transform.specs.Transforms.{TransformDef}
+use Rattle.msi_transform.specs.declared.conditions.ErrorConditions.{ErrorConditions}
+use Rattle.msi_transform_rows.specs.RecordRefusals.{Refusal}
+use Rattle.msi.specs.Transforming.{IsLeft, after_transform, transforming}
+use Rattle.msi.specs.Runs.{FitsCall, is_transform}
+use Rattle.msi.specs.Steps.{after_change, after_recount, recounted, recounting, storage_refusal, changing, changed, with_page, with_streams, with_lent_summary, with_summary_calls, without_signature, name_refusals, has_stream, leaving_or, streams_written, written_for, image_refusals, as_written, flushed, outcome, transformed, LeavesKept, Lends, LendsOrRefuses, Step, is_lending}
 use Rattle.msi.proofs.packages.SummarySetLemmas.{run_kept}
 use Rattle.msi.proofs.packages.PackageLemmas as packages
 use Rattle.msi.proofs.writing.FlushLemmas.{flush_package}
@@ -70,15 +75,17 @@ written_is s earlier_len streams e =
 
 -- WHAT IS KEPT
 
--- a lent summary, a changed stream and a flush leave the database; tables and the page are changed
-pub record Keeps (P : State → Type 0) : Type 0 where
+-- a lent summary, a changed stream and a flush leave the database; tables and the page are changed; and transforms are
+-- applied, where it keeps what they leave
+pub record Keeps (Applied : Type 0) (P : State → Type 0) : Type 0 where
   pub is_package : (s : State) → P s → IsPackage s
   pub same : (s t : State) → P s → t.kept.database ≡ s.kept.database → IsPackage t → P t
   pub changed : (s : State) (c : Change) → P s → AnyChange s.kept.database c → P (after_change s c)
   pub paged : (s : State) (page : CodePage) → P s → is_sound s.kept.database ≡ true → P (with_page page s)
   pub recounted : (s : State) → P s → first_refusal (recount_refusals s.kept.database) ≡ None → P (after_recount s)
+  pub transformed : Applied → (s : State) (t : TransformDef) (passing : ErrorConditions) (k : Kept) → P s → transforming s t passing ≡ Ok k → IsLeft k → P (after_transform s k)
 
-module _ (P : State → Type 0) (keeps : Keeps P) where
+module _ (Applied : Type 0) (P : State → Type 0) (keeps : Keeps Applied P) where
   leaving_keeps : (o : Option ErrorKind) (old new : State) → P old → (o ≡ None → P new) → P (leaving_or o old new).1
   leaving_keeps None old new h next = next refl
   leaving_keeps (Some kind) old new h next = h
@@ -90,6 +97,11 @@ module _ (P : State → Type 0) (keeps : Keeps P) where
   recounted_keeps : (s : State) (r : Result ℕ ErrorKind) → P s → ((n : ℕ) → r ≡ Ok n → first_refusal (recount_refusals s.kept.database) ≡ None) → P (recounted s r).1
   recounted_keeps s (Ok n) h passes = keeps.recounted s h (passes n refl)
   recounted_keeps s (Err kind) h passes = h
+
+  transformed_keeps : Applied → (s : State) (t : TransformDef) (passing : ErrorConditions) (r : Result Kept Refusal) → transforming s t passing ≡ r → P s
+      → LeavesKept (calls.apply_transform t passing) (transformed s r).0 (transformed s r).1 → P (transformed s r).1
+  transformed_keeps may s t passing (Ok k) is h left = keeps.transformed may s t passing k h is left
+  transformed_keeps may s t passing (Err refusal) is h left = h
 
   flushed_keeps : (s : State) (r : Result Streams ErrorKind) → P s → ((streams : Streams) → r ≡ Ok streams → streams_written s ≡ Some streams) → P (flushed s r).1
   flushed_keeps s (Ok streams) h written = keeps.same s (as_written s streams) h refl (flush_package s streams (keeps.is_package s h) (written streams refl))
@@ -136,36 +148,38 @@ module _ (P : State → Type 0) (keeps : Keeps P) where
     table_change change is = changed_keeps s (changing (parts_of s) change) h (λ c e. is c (changing_is (parts_of s) change c e))
 
     -- a call that lends nothing
-    outcome_keeps : (call : Call) → is_lending call ≡ false → P (outcome earlier_len s call).1
-    outcome_keeps calls.package_type e = h
-    outcome_keeps calls.database_codepage e = h
-    outcome_keeps calls.device_failed e = h
-    outcome_keeps (calls.has_table name) e = h
-    outcome_keeps (calls.get_table name) e = h
-    outcome_keeps calls.tables e = h
-    outcome_keeps (calls.has_stream name) e = h
-    outcome_keeps calls.streams e = h
-    outcome_keeps calls.has_digital_signature e = h
-    outcome_keeps (calls.select_rows query) e = h
-    outcome_keeps (calls.insert_rows query) e = table_change (λ d. insert_rows d query) (λ c is. inl (inserted query is))
-    outcome_keeps (calls.update_rows query) e = table_change (λ d. update_rows d query) (λ c is. inl (updated query is))
-    outcome_keeps (calls.delete_rows query) e = table_change (λ d. delete_rows d query) (λ c is. inl (deleted query is))
-    outcome_keeps (calls.create_table name columns) e = table_change (λ d. create_table d name columns) (λ c is. inr (created name columns is))
-    outcome_keeps (calls.drop_table name) e = table_change (λ d. drop_table d name) (λ c is. inr (dropped name is))
-    outcome_keeps (calls.add_column name column) e = table_change (λ d. add_column d name column) (λ c is. inr (column_added name column is))
-    outcome_keeps (calls.set_database_codepage page) e = leaving_keeps (first_refusal (storage_refusal (parts_of s) ++ sound_refusal s.kept.database)) s (with_page page s) h
+    outcome_keeps : (call : Call) → is_lending call ≡ false → (is_transform call ≡ true → Applied) → LeavesKept call (outcome earlier_len s call).0 (outcome earlier_len s call).1
+        → P (outcome earlier_len s call).1
+    outcome_keeps calls.package_type e may left = h
+    outcome_keeps calls.database_codepage e may left = h
+    outcome_keeps calls.device_failed e may left = h
+    outcome_keeps (calls.has_table name) e may left = h
+    outcome_keeps (calls.get_table name) e may left = h
+    outcome_keeps calls.tables e may left = h
+    outcome_keeps (calls.has_stream name) e may left = h
+    outcome_keeps calls.streams e may left = h
+    outcome_keeps calls.has_digital_signature e may left = h
+    outcome_keeps (calls.select_rows query) e may left = h
+    outcome_keeps (calls.insert_rows query) e may left = table_change (λ d. insert_rows d query) (λ c is. inl (inserted query is))
+    outcome_keeps (calls.update_rows query) e may left = table_change (λ d. update_rows d query) (λ c is. inl (updated query is))
+    outcome_keeps (calls.delete_rows query) e may left = table_change (λ d. delete_rows d query) (λ c is. inl (deleted query is))
+    outcome_keeps (calls.create_table name columns) e may left = table_change (λ d. create_table d name columns) (λ c is. inr (created name columns is))
+    outcome_keeps (calls.drop_table name) e may left = table_change (λ d. drop_table d name) (λ c is. inr (dropped name is))
+    outcome_keeps (calls.add_column name column) e may left = table_change (λ d. add_column d name column) (λ c is. inr (column_added name column is))
+    outcome_keeps (calls.apply_transform t passing) e may left = transformed_keeps (may refl) s t passing (transforming s t passing) refl h left
+    outcome_keeps (calls.set_database_codepage page) e may left = leaving_keeps (first_refusal (storage_refusal (parts_of s) ++ sound_refusal s.kept.database)) s (with_page page s) h
         (λ passes. keeps.paged s page h (second_passes s.has_storages (is_sound s.kept.database) InvalidInput InvalidData None passes))
-    outcome_keeps (calls.remove_stream name) e = leaving_keeps _ s (with_streams (without_stream (stream_key name)) s) h
+    outcome_keeps (calls.remove_stream name) e may left = leaving_keeps _ s (with_streams (without_stream (stream_key name)) s) h
         (λ passes. keeps.same s (with_streams (without_stream (stream_key name)) s) h refl
         (packages.stream_removed s name (accepted_name (parts_of s) name ((not (has_stream (parts_of s) name), NotFound) ∷ []) passes) (keeps.is_package s h)))
-    outcome_keeps calls.remove_digital_signature e = leaving_keeps _ s (with_streams without_signature s) h (λ _. keeps.same s (with_streams without_signature s) h refl (packages.signature_removed s (keeps.is_package s h)))
-    outcome_keeps calls.recount e = recounted_keeps s (recounting (parts_of s)) h (recounting_passes (parts_of s))
-    outcome_keeps (calls.image n) e = h
-    outcome_keeps calls.flush e = flush_keeps s earlier_len s.is_unwritten h
-    outcome_keeps (calls.summary_info questions) e = absurd (true≢false e)
-    outcome_keeps (calls.summary_info_mut summary_calls) e = absurd (true≢false e)
-    outcome_keeps (calls.write_stream name stream_calls) e = absurd (true≢false e)
-    outcome_keeps (calls.read_stream name stream_calls) e = absurd (true≢false e)
+    outcome_keeps calls.remove_digital_signature e may left = leaving_keeps _ s (with_streams without_signature s) h (λ _. keeps.same s (with_streams without_signature s) h refl (packages.signature_removed s (keeps.is_package s h)))
+    outcome_keeps calls.recount e may left = recounted_keeps s (recounting (parts_of s)) h (recounting_passes (parts_of s))
+    outcome_keeps (calls.image n) e may left = h
+    outcome_keeps calls.flush e may left = flush_keeps s earlier_len s.is_unwritten h
+    outcome_keeps (calls.summary_info questions) e may left = absurd (true≢false e)
+    outcome_keeps (calls.summary_info_mut summary_calls) e may left = absurd (true≢false e)
+    outcome_keeps (calls.write_stream name stream_calls) e may left = absurd (true≢false e)
+    outcome_keeps (calls.read_stream name stream_calls) e may left = absurd (true≢false e)
 
     -- a call that lends
     lent_keeps : (call : Call) (answer : Result Answer ErrorKind) (new : State) → is_lending call ≡ true → FitsCall call → LendsOrRefuses s call (outcome earlier_len s call) answer new → P new
@@ -176,12 +190,15 @@ module _ (P : State → Type 0) (keeps : Keeps P) where
     lent_keeps (calls.read_stream name cs) answer new e fits l = lending_keeps s (calls.read_stream name cs) _ s answer new l h (λ _ a k. read_keeps s name cs a new k h)
     lent_keeps _ answer new e fits l = absurd (true≢false (sym e))
 
-    step_by : (b : Bool) (call : Call) (answer : Result Answer ErrorKind) (new : State) → is_lending call ≡ b → FitsCall call
-        → MatchBool b (LendsOrRefuses s call (outcome earlier_len s call) answer new) (outcome earlier_len s call ≡ (answer, new)) → P new
-    step_by true call answer new e fits l = lent_keeps call answer new e fits l
-    step_by false call answer new e fits is = subst P (ap (λ r. r.1) is) (outcome_keeps call e)
+    step_by : (b : Bool) (call : Call) (answer : Result Answer ErrorKind) (new : State) → is_lending call ≡ b → FitsCall call → (is_transform call ≡ true → Applied)
+        → MatchBool b (LendsOrRefuses s call (outcome earlier_len s call) answer new) ((outcome earlier_len s call ≡ (answer, new)) × LeavesKept call answer new) → P new
+    step_by true call answer new e fits may l = lent_keeps call answer new e fits l
+    step_by false call answer new e fits may is =
+        let left : LeavesKept call (outcome earlier_len s call).0 (outcome earlier_len s call).1 =
+        subst (λ (r : Result Answer ErrorKind × State). LeavesKept call r.0 r.1) (sym is.0) is.1 in
+        subst P (ap (λ r. r.1) is.0) (outcome_keeps call e may left)
 
-    pub step_keeps : (call : Call) (answer : Result Answer ErrorKind) (new : State) → FitsCall call → Step earlier_len s call answer new → P new
-    step_keeps call answer new fits (inl is) = step_by (is_lending call) call answer new refl fits is
-    step_keeps call answer new fits (inr (inl memory)) = subst P (sym memory.2) h
-    step_keeps call answer new fits (inr (inr fault)) = subst P (sym fault.2) h
+    pub step_keeps : (call : Call) (answer : Result Answer ErrorKind) (new : State) → FitsCall call → (is_transform call ≡ true → Applied) → Step earlier_len s call answer new → P new
+    step_keeps call answer new fits may (inl is) = step_by (is_lending call) call answer new refl fits may is
+    step_keeps call answer new fits may (inr (inl memory)) = subst P (sym memory.2) h
+    step_keeps call answer new fits may (inr (inr fault)) = subst P (sym fault.2) h

@@ -47,7 +47,7 @@ no_answer kind a e = absurd cc
 
 module _ (k : PackageType) (n : ℕ) (t : State) where
   step_done : Step n (unwritten k) calls.flush (Ok calls.done) t → IsDone (unwritten k) (written_for (unwritten k) n) t
-  step_done (inl e) = flushed_done (unwritten k) t (written_for (unwritten k) n) calls.done e
+  step_done (inl e) = flushed_done (unwritten k) t (written_for (unwritten k) n) calls.done e.0
   step_done (inr (inl memory)) = no_answer OutOfMemory calls.done memory.1
   step_done (inr (inr fault)) = no_answer Io calls.done fault.1
 
@@ -57,7 +57,7 @@ module _ (k : PackageType) (n : ℕ) (t : State) where
 
   step_failed : (error : ErrorKind) (o : Option (List ℕ)) (failed : Bool) → AreSoMany n (record { bytes = o; failed = failed })
       → Step n (unwritten k) calls.flush (Err error) t → IsCreateRefused k (record { bytes = o; failed = failed }) error
-  step_failed error o failed many (inl e) = inr (inr (n, many, flushed_failed (unwritten k) t (written_for (unwritten k) n) error e))
+  step_failed error o failed many (inl e) = inr (inr (n, many, flushed_failed (unwritten k) t (written_for (unwritten k) n) error e.0))
   step_failed error o failed many (inr (inl memory)) = let e = memory.1 in inl cc
   step_failed error o failed many (inr (inr fault)) = let e = fault.1 in inr (inl cc)
 

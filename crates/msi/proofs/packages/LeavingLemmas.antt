@@ -16,7 +16,10 @@ use Rattle.msi_database.specs.AddColumn.{add_column}
 use Rattle.msi_summary.specs.declared.property.SummaryProperty.{SummaryProperty}
 use Rattle.msi.specs.Calls.{Call, Answer}
 use Rattle.msi.specs.Calls as calls
-use Rattle.msi.specs.Steps.{Step, outcome, changed, changing, recounted, recounting, leaving_or, is_lending, with_streams, Lends, LendsOrRefuses}
+use Rattle.msi_database_storage.specs.Kept.{Kept}
+use Rattle.msi_transform_rows.specs.RecordRefusals.{Refusal}
+use Rattle.msi.specs.Transforming.{transforming}
+use Rattle.msi.specs.Steps.{Step, outcome, changed, changing, recounted, recounting, transformed, leaving_or, is_lending, with_streams, LeavesKept, Lends, LendsOrRefuses}
 
 -- the same state, or one that is unwritten; or it is a flush that writes
 
@@ -30,6 +33,10 @@ changed_leaves s (Err kind) = inl refl
 recounted_leaves : (s : State) (r : Result ℕ ErrorKind) → Leaves s (recounted s r).1
 recounted_leaves s (Ok n) = inr refl
 recounted_leaves s (Err kind) = inl refl
+
+transformed_leaves : (s : State) (r : Result Kept Refusal) → Leaves s (transformed s r).1
+transformed_leaves s (Ok k) = inr refl
+transformed_leaves s (Err refusal) = inl refl
 
 leaving_leaves : (o : Option ErrorKind) (s new : State) → new.is_unwritten ≡ true → Leaves s (leaving_or o s new).1
 leaving_leaves None s new e = inr e
@@ -46,6 +53,7 @@ outcome_leaves n s (calls.delete_rows query) f e = changed_leaves s (changing (p
 outcome_leaves n s (calls.create_table name columns) f e = changed_leaves s (changing (parts_of s) (λ d. create_table d name columns))
 outcome_leaves n s (calls.drop_table name) f e = changed_leaves s (changing (parts_of s) (λ d. drop_table d name))
 outcome_leaves n s (calls.add_column name column) f e = changed_leaves s (changing (parts_of s) (λ d. add_column d name column))
+outcome_leaves n s (calls.apply_transform t passing) f e = transformed_leaves s (transforming s t passing)
 outcome_leaves n s (calls.set_database_codepage page) f e = leaving_leaves _ s _ refl
 outcome_leaves n s (calls.remove_stream name) f e = leaving_leaves _ s _ refl
 outcome_leaves n s calls.remove_digital_signature f e = leaving_leaves _ s _ refl
@@ -87,9 +95,9 @@ lent_leaves n s (calls.read_stream name cs) answer new e l = lending_leaves s (c
 lent_leaves n s _ answer new e l = absurd (true≢false (sym e))
 
 step_leaves_by : (b : Bool) (n : ℕ) (s : State) (call : Call) (answer : Result Answer ErrorKind) (new : State) → is_flush call ≡ false → is_lending call ≡ b
-    → MatchBool b (LendsOrRefuses s call (outcome n s call) answer new) (outcome n s call ≡ (answer, new)) → Leaves s new
+    → MatchBool b (LendsOrRefuses s call (outcome n s call) answer new) ((outcome n s call ≡ (answer, new)) × LeavesKept call answer new) → Leaves s new
 step_leaves_by true n s call answer new f e l = lent_leaves n s call answer new e l
-step_leaves_by false n s call answer new f e is = subst (Leaves s) (ap (λ r. r.1) is) (outcome_leaves n s call f e)
+step_leaves_by false n s call answer new f e is = subst (Leaves s) (ap (λ r. r.1) is.0) (outcome_leaves n s call f e)
 
 pub step_leaves : (n : ℕ) (s : State) (call : Call) (answer : Result Answer ErrorKind) (new : State) → is_flush call ≡ false → Step n s call answer new → Leaves s new
 step_leaves n s call answer new f (inl is) = step_leaves_by (is_lending call) n s call answer new f refl is

@@ -59,7 +59,7 @@ exact_by s new answer (Ok n) e h is = subst (λ (t : State). HasExactCounts t.ke
 exact_by s new answer (Err kind) e h is = no_answer _ answer kind (sym (ap (λ p. p.0) is))
 
 pub recounts_make_exact : RecountsMakeExact
-recounts_make_exact n old new answer h (inl is) = exact_by old new answer (recounting (parts_of old)) refl h is
+recounts_make_exact n old new answer h (inl is) = exact_by old new answer (recounting (parts_of old)) refl h is.0
 recounts_make_exact n old new answer h (inr (inl memory)) = no_answer _ answer OutOfMemory memory.1
 recounts_make_exact n old new answer h (inr (inr fault)) = no_answer _ answer Io fault.1
 

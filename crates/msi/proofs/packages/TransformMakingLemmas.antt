@@ -1,10 +1,12 @@
 -- A transform made of two packages: of their databases, with the open stream in its place.
-use Rattle.std.proofs.Common.{◌≡◌, ℕ, Result, Ok, sym, ap, ◌∙◌}
+use Rattle.std.proofs.Common.{◌≡◌, ℕ, Result, Ok, sym, ap, subst, ◌∙◌}
+use Rattle.std.specs.Prelude.{IfErr}
 use Rattle.msi_base.specs.declared.errors.ErrorKind.{ErrorKind}
 use Rattle.msi_base.specs.Refusals.{unless_refused, ◌>>=◌}
 use Rattle.msi_database_storage.specs.Kept.{Kept}
 use Rattle.msi_transform.specs.Transforms.{TransformDef}
-use Rattle.msi_transform_making.specs.Making.{Pair, Side, pair_of}
+use Rattle.msi_transform_making.specs.Making.{Pair, Side, pair_of, table_reasons, told_names}
+use Rattle.msi_transform_making.specs.MakingRefusals.{IsAtFault, MakingRefusal}
 use Rattle.msi_database.specs.TransformMaking.{transform_between}
 use Rattle.msi.specs.State.{State}
 use Rattle.msi.specs.Transforming.{page_of}
@@ -40,3 +42,7 @@ module _ (old new : Whole) (view : Whole) (is : view ≡ old) (new_view : Whole)
       ∙ ap (λ (w : Whole). unless_refused (kind_refusal w.state.kind) tt >>= λ u. transform_between (side_of old.state) (side_of new.state)) (sym new_is)
       ∙ ap (λ (r : Result (Unit {0}) ErrorKind). r >>= λ u. transform_between (side_of old.state) (side_of new.state)) (sym new_passes)
       ∙ ap (λ (s : Side). transform_between s (side_of new.state)) old_side ∙ ap (λ (s : Side). transform_between (side page_id k) s) new_side
+
+  pub at_fault_is : (r : Result TransformDef MakingRefusal) → IfErr r (IsAtFault (table_reasons (pair_of (side page_id k) (side new_page_id l))) (told_names l))
+      → IfErr r (IsAtFault (table_reasons (pair_of_states old.state new.state)) (told_names new.state.kept))
+  at_fault_is r h = subst (λ (p : Pair). IfErr r (IsAtFault (table_reasons p) (told_names p.new))) (sym pair_is) h

@@ -8,11 +8,12 @@ use Rattle.msi_database_storage.specs.Kept.{Kept}
 use Rattle.msi_transform.specs.Transforms.{TransformDef}
 use Rattle.msi_transform.specs.declared.conditions.ErrorConditions.{ErrorConditions}
 use Rattle.msi_transform_rows.specs.RecordRefusals.{◌>>=◌, IsRefused, Refusal, nowhere}
+use Rattle.msi_container_write.specs.LayoutLaw.{HaveNames}
+use Rattle.msi_database.specs.Keeping.{IsKeptDatabase}
 use Rattle.msi_database.specs.Transforming.{apply_transform}
-use Rattle.msi.specs.State.{parts_of}
-use Rattle.msi.specs.Steps.{storage_refusal}
-use Rattle.msi.specs.Transforming.{Becomes, after_transform, page_of, stored_page, transforming}
-use Rattle.msi.specs.Whole.{Whole, with_open, with_state}
+use Rattle.msi.specs.State.{parts_of, storage_refusal}
+use Rattle.msi.specs.Transforming.{IsLeft, after_transform, page_of, stored_page, transforming}
+use Rattle.msi.specs.Whole.{Becomes, Whole, with_open, with_state}
 
 -- a refusal that is passed on
 pub refused_on : {A B : Type 0} (r : Result B Refusal) (refusal : Refusal) (answer : Result A Refusal) → IsErrAnd r (λ e. e ≡ refusal) → IsRefused answer refusal → IfErr r (IsRefused answer)
@@ -43,3 +44,7 @@ module _ (old : Whole) (t : TransformDef) (passing : ErrorConditions) (view : Wh
       → Becomes old (transforming old.state t passing) (with_kept (with_open name bytes new) view)
   transform_left new name bytes none made = becomes_by old (with_kept (with_open name bytes new) view) (transforming old.state t passing) new (transforming_is ∙ made)
       (ap (λ (o : Option (List ℕ)). with_kept (with_open o bytes new) view) none ∙ ap (with_kept new) is)
+
+-- what is left is kept, under names of a container
+pub left_kept : (k : Kept) (name : Option (List ℕ)) (bytes : List ℕ) → name ≡ None → HaveNames k.streams → IsKeptDatabase k → IsLeft (with_open name bytes k)
+left_kept k name bytes none names kept = subst (λ (o : Option (List ℕ)). IsLeft (with_open o bytes k)) (sym none) (record { names = names; database = kept })

@@ -64,8 +64,8 @@ module _ (s : State) (streams : Streams) (n : ℕ) (written : streams_written s 
     step_is : (old new : Option Held) (before after : Bool) (r : Result (Unit {0}) ErrorKind) (k : Kept) → (r ≡ Ok tt → k.streams ≡ streams)
         → Writes (contents_of s streams) n (told old before) r (told new after) → Step n s calls.flush (flush_answer r) (left_by r s k)
     step_is old new before after (Ok done) k is w =
-        inl (outcome_is false w.0 ∙ ap (λ (all : Streams). (Ok calls.done, as_written s all)) (sym (is refl)))
-    step_is old new before after (Err InvalidInput) k is w = inl (outcome_is true w.0)
+        inl (outcome_is false w.0 ∙ ap (λ (all : Streams). (Ok calls.done, as_written s all)) (sym (is refl)), tt)
+    step_is old new before after (Err InvalidInput) k is w = inl (outcome_is true w.0, tt)
     step_is old new before after (Err OutOfMemory) k is w = inr (inl (unwritten, refl, refl, written_first s streams (Err OutOfMemory) written))
     step_is old new before after (Err Io) k is w = inr (inr (unwritten, refl, refl, written_first s streams (Err Io) written))
     step_is old new before after (Err AlreadyExists) k is w = absurd w
@@ -129,7 +129,7 @@ refused_step : (n : ℕ) (s : State) (kind : ErrorKind) → s.is_unwritten ≡ t
     → AnswersFirst {A = Answer} (text_refusals s) (Err kind) → Step n s calls.flush (Err kind) s
 refused_step n s kind unwritten (inl memory) early = inr (inl (unwritten, ap Err memory, refl, texts_of_flush s (Err kind) early))
 refused_step n s kind unwritten (inr e) early =
-    inl (ap (λ u. if u then flushed s (written_for s n) else (Ok calls.done, s)) unwritten ∙ ap (flushed s) (written_refused s n kind e))
+    inl (ap (λ u. if u then flushed s (written_for s n) else (Ok calls.done, s)) unwritten ∙ ap (flushed s) (written_refused s n kind e), tt)
 
 flush_refused : (old new : Whole) (kind : ErrorKind) → old.state.is_unwritten ≡ true → new.state ≡ old.state → LeavesCleared (told_by old) (told_by new)
     → IsRefusal (or_refused InvalidInput (streams_written old.state)) kind → AnswersFirst {A = Answer} (text_refusals old.state) (Err kind) → FlushStep old (Err kind) new
@@ -165,7 +165,7 @@ pub flush_nothing : (w : Whole) → w.state.is_unwritten ≡ false → FlushStep
 flush_nothing w clean = record {
   earlier_len = told_len (bytes_told w.held);
   are_so_many = told_len_is (told_by w);
-  step = inl (ap (λ u. if u then flushed w.state (written_for w.state (told_len (bytes_told w.held))) else (Ok calls.done, w.state)) clean);
+  step = inl (ap (λ u. if u then flushed w.state (written_for w.state (told_len (bytes_told w.held))) else (Ok calls.done, w.state)) clean, tt);
   device = when_false w.state.is_unwritten _ _ clean (refl, refl);
 }
 

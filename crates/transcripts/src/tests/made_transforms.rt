@@ -12,24 +12,44 @@ type Stream = (&'static str, bool, &'static str);
 
 /// A row is removed, one changed and one added.
 const ROWS: [Stream; 3] = [
-    ("_StringPool", true, "E9FD0000 01000100 01000100 01000100 01000100"),
+    (
+        "_StringPool",
+        true,
+        "E9FD0000 01000100 01000100 01000100 01000100",
+    ),
     ("_StringData", true, "62617A64"),
-    ("T", true, "00000100 0A0002000300FFFFFF7F 01040400 0000 0780 05000080"),
+    (
+        "T",
+        true,
+        "00000100 0A0002000300FFFFFF7F 01040400 0000 0780 05000080",
+    ),
 ];
 
 /// A key has two columns.
 const KEYS: [Stream; 3] = [
     ("_StringPool", true, "E9FD0000 01000300 03000100 01000100"),
     ("_StringData", true, "756E657777"),
-    ("P", true, "0000 0180 0100 0400 0280 0100 0200 0103 0380 0100 0300"),
+    (
+        "P",
+        true,
+        "0000 0180 0100 0400 0280 0100 0200 0103 0380 0100 0300",
+    ),
 ];
 
 /// A table is added, with its columns and a row.
 const NEW_TABLE: [Stream; 5] = [
-    ("_StringPool", true, "E9FD0000 01000300 02000100 04000100 01000100"),
+    (
+        "_StringPool",
+        true,
+        "E9FD0000 01000300 02000100 04000100 01000100",
+    ),
     ("_StringData", true, "51 4964 53697A65 6B"),
     ("_Tables", true, "0101 0100"),
-    ("_Columns", true, "0104 0100 0000 0200 48AD 0104 0100 0000 0300 0491"),
+    (
+        "_Columns",
+        true,
+        "0104 0100 0000 0200 48AD 0104 0100 0000 0300 0491",
+    ),
     ("Q", true, "0102 0400 09000080"),
 ];
 

@@ -83,6 +83,9 @@ returns-in-AddColumn c =
     c.add_column.ensures.ok c.add_column.ensures.same c.add_column.ensures.kind
     (subst (λ (x : List ℕ). AnswersWith (refused_early s (calls.add_column x column)) c.add_column.result) (sym name) c.add_column.ensures.early))
 
+pub returns-in-ApplyTransform : goal.returns-in-ApplyTransform
+returns-in-ApplyTransform c = rw c.in-ApplyTransform.is c.transformed.ensures
+
 pub returns-in-SetDatabaseCodepage : goal.returns-in-SetDatabaseCodepage
 returns-in-SetDatabaseCodepage c =
     let s = c.args.target.now.state in

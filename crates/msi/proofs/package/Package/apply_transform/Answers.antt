@@ -1,5 +1,7 @@
+use Rattle.std.proofs.Common.{subst}
+use Rattle.msi_container_write.specs.LayoutLaw.{HaveNames}
 use Rattle.msi.proofs.packages.ChangeLemmas.{held_sound}
-use Rattle.msi.proofs.packages.TransformingLemmas.{refused_on, transform_left, transform_refused}
+use Rattle.msi.proofs.packages.TransformingLemmas.{left_kept, refused_on, transform_left, transform_refused}
 use Rattle.msi.proofs.package.Package.apply_transform.Goals as goal
 
 pub invariant_of-self-2 : goal.invariant_of-self-2
@@ -16,3 +18,8 @@ returns-clause-ok g c =
     transform_left c.args.self.now c.args.transform.now c.args.passing _ c.self.view_is c.in_ok-check_storages.ensures
     c.settle.new.database c.settle.ensures.database c.stored_page-page_id.result c.stored_page-page_id.ensures
     c.in_ok-database.database c.settle.new.name c.settle.new.current.bytes c.settle.ensures.taken c.in_ok-database.ensures.ok
+
+pub returns-clause-kept : goal.returns-clause-kept
+returns-clause-kept g c =
+    left_kept c.in_ok-database.database c.settle.new.name c.settle.new.current.bytes c.settle.ensures.taken
+    (subst HaveNames c.streams.ensures c.look_at_names.ensures) c.kept.ensures
