@@ -8,7 +8,6 @@ pub mod MakingRows
 pub mod MaskLemmas
 pub mod PageLemmas
 pub mod SchemaLemmas
-pub mod SharedStreamRows
 pub mod SideLemmas
 pub mod StoredRecordsLemmas
 pub mod StoringLemmas

@@ -27,10 +27,10 @@ use Rattle.msi_transform.specs.Transforms.{TransformDef, records_for, shapes_of,
 use Rattle.msi_transform_schema.specs.SchemaApplying.{system_rows}
 use Rattle.msi_transform_rows.specs.KeyOfRows.{key_cmp}
 use Rattle.msi_transform_rows.specs.RowStreams.{is_of_streams}
-use Rattle.msi_transform_making.specs.Making.{Pair, ToldRecord, ToldRow, ToldRows, ToldTable, by_keys, columns_before, made}
-use Rattle.msi_transform_making.specs.Making.{columns_in_table, differences, records_of_table, records_of_tables}
-use Rattle.msi_transform_making.specs.Making.{stored_tables, tells_stream, told_names, told_rows, told_tables, told_values}
-use Rattle.msi_transform_making.specs.Making.{transform_with}
+use Rattle.msi_transform_making.specs.Making.{Pair, ToldRecord, ToldRow, ToldRows, ToldTable, by_keys, columns_before}
+use Rattle.msi_transform_making.specs.Making.{columns_in_table, differences, made, records_of_table, records_of_tables}
+use Rattle.msi_transform_making.specs.Making.{stored_tables, tells_stream, told_names, told_rows, told_tables}
+use Rattle.msi_transform_making.specs.Making.{told_values, transform_with}
 
 -- RECORDS CARRIED OUT ON ROWS, AS VALUES
 
