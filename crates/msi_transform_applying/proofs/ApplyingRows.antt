@@ -20,7 +20,8 @@ use Rattle.msi_transform_records.specs.Records.{head_at, record_at}
 use Rattle.msi_transform.specs.declared.conditions.ErrorConditions.{ErrorConditions}
 use Rattle.msi_transform.specs.Transforms.{TransformDef}
 use Rattle.msi_transform_schema.specs.SchemaChanges.{SchemaChange}
-use Rattle.msi_transform_applying.specs.Applying.{◌>>=◌, RecordPlace, Refusal, TableAnew, TablesInHand, cells_anew}
+use Rattle.msi_transform_rows.specs.declared.refusal.RecordPlace.{RecordPlace}
+use Rattle.msi_transform_applying.specs.Applying.{◌>>=◌, Refusal, TableAnew, TablesInHand, cells_anew}
 use Rattle.msi_transform_applying.specs.Applying.{rows_applied}
 use Rattle.msi_transform_schema.specs.SchemaApplying.{schema_applied}
 

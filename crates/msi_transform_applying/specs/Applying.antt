@@ -28,7 +28,7 @@ use Rattle.msi_database_storage.specs.Kept.{Kept}
 use Rattle.msi_database_storage.specs.Storing.{stored_in}
 use Rattle.msi_database_storage.specs.Streams.{Streams, stream_at, stream_of_rows}
 use Rattle.msi_database_storage.specs.Widening.{streams_widened}
-pub use Rattle.msi_transform_rows.specs.RecordRefusals.{◌>>=◌, Refusal, RecordPlace, at_record, in_turn_from, nowhere}
+pub use Rattle.msi_transform_rows.specs.RecordRefusals.{◌>>=◌, Refusal, at_record, in_turn_from, nowhere}
 use Rattle.msi_transform.specs.Transforms.{TransformDef, records_for, shapes_of}
 use Rattle.msi_transform_rows.specs.RowStreams.{brought, has_streams, is_of_streams, row_stream, row_stream_gone}
 use Rattle.msi_transform_rows.specs.RowChanges.{Rows, RowsInHand, TableChange, by_key, keyed, record_applied}
