@@ -236,7 +236,8 @@ module _ (columns : List ColumnDef) where
         let three : find key_cmp q (carried_out columns second (additions old new)) ≡ done_at columns (tell_added (find key_cmp q old)) q (find key_cmp q new) (find key_cmp q second) =
           ap (λ (rs : List ToldRecord). find key_cmp q (carried_out columns second rs)) (told_if (is_replaced old) addition new)
           ∙ each_done columns (tell_if (is_replaced old) addition) (own_if (is_replaced old) addition (λ e. refl)) q new second h in
-        ap (find key_cmp q) (joined columns old (removals old new) (changes columns old new ++ additions old new) ∙ joined columns first (changes columns old new) (additions old new))
+        ap (find key_cmp q) (joined columns old (removals old new ++ changes columns old new) (additions old new)
+        ∙ ap (λ (rows : ToldRows). carried_out columns rows (additions old new)) (joined columns old (removals old new) (changes columns old new)))
         ∙ three
         ∙ ap (done_at columns (tell_added (find key_cmp q old)) q (find key_cmp q new)) (two ∙ ap (done_at columns (change_by (find key_cmp q old)) q (find key_cmp q new)) one)
 

@@ -54,25 +54,27 @@ each_as P Q f [] (y ∷ ys) h = absurd h
 each_as P Q f (x ∷ xs) [] h = absurd h
 each_as P Q f (x ∷ xs) (y ∷ ys) h = (f x y h.0, each_as P Q f xs ys h.1)
 
--- the steps of each, and what then holds of it and stays so
-turn_parts : {S X Y : Type 0} (step : S → X → Option (Y × S)) (s t : S) (x : X) (xs : List X) (ys : List Y) → in_turn step s (x ∷ xs) ≡ Some (ys, t)
-    → (r : Y × S) × (step s x ≡ Some r) × (rs : List Y × S) × (in_turn step r.1 xs ≡ Some rs) × ((r.0 ∷ rs.0, rs.1) ≡ (ys, t))
-turn_parts {S} {X} {Y} step s t x xs ys h =
-    elim (step s x) as (λ o. option_and_then (λ (r : Y × S). option_map (λ (rs : List Y × S). (r.0 ∷ rs.0, rs.1)) (in_turn step r.1 xs)) o ≡ Some (ys, t)
-        → (r : Y × S) × (o ≡ Some r) × (rs : List Y × S) × (in_turn step r.1 xs ≡ Some rs) × ((r.0 ∷ rs.0, rs.1) ≡ (ys, t))) [
-      | None ↦ λ e. none_is e
-      | Some r ↦ λ e. let m = map_some (in_turn step r.1 xs) (λ (rs : List Y × S). (r.0 ∷ rs.0, rs.1)) (ys, t) e in (r, refl, m.0, m.1, m.2)
-    ] h
+-- the first step and the others
+abbrev joined : {S Y : Type 0} → Y × S → List Y × S → List Y × S
+joined r rs = (r.0 ∷ rs.0, rs.1)
 
+turn_parts : {S X Y : Type 0} (step : S → X → Option (Y × S)) (first : Option (Y × S)) (xs : List X) (whole : List Y × S)
+    → option_and_then (λ (r : Y × S). option_map (λ (rs : List Y × S). joined r rs) (in_turn step r.1 xs)) first ≡ Some whole
+    → (r : Y × S) × (first ≡ Some r) × (rs : List Y × S) × (in_turn step r.1 xs ≡ Some rs) × (joined r rs ≡ whole)
+turn_parts step None xs whole e = none_is e
+turn_parts {S} {X} {Y} step (Some r) xs whole e =
+    let m = map_some (in_turn step r.1 xs) (λ (rs : List Y × S). joined r rs) whole e in (r, refl, m.0, m.1, m.2)
+
+-- each step in turn, and what then holds of it and stays so
 module _ {S X Y : Type 0} (step : S → X → Option (Y × S)) (Later : S → S → Type 0) (P : S → X → Y → Type 0) (now : (s : S) → Later s s)
     (further : (s t u : S) → Later s t → Later t u → Later s u) (kept : (s t : S) (x : X) (y : Y) → Later s t → P s x y → P t x y)
     (one : (s t : S) (x : X) (y : Y) → step s x ≡ Some (y, t) → Later s t × P t x y) where
   all_steps : (s t : S) (xs : List X) (ys : List Y) → in_turn step s xs ≡ Some (ys, t) → Later s t × Each (P t) xs ys
   all_steps s t [] ys h =
-      let parts = some_is ([], s) (ys, t) h in
+      let parts = some_is {A = List Y × S} ([], s) (ys, t) h in
       subst (λ (r : List Y × S). Later s r.1 × Each (P r.1) [] r.0) parts (now s, tt)
   all_steps s t (x ∷ xs) ys h =
-      let parts = turn_parts step s t x xs ys h in
+      let parts = turn_parts step (step s x) xs (ys, t) h in
       let r = parts.0 in
       let first = one s r.1 x r.0 parts.1 in
       let rs = parts.2 in
@@ -164,11 +166,11 @@ abbrev Later : PoolInUse → PoolInUse → Type 0
 Later s t = Stay s.places t.places
 
 put_stands : (s t : PoolInUse) (v : Value) (c : ValueRef) → cell_put true s v ≡ Some (c, t) → Later s t × Stands t.places v c
-put_stands s t Null c h = subst (λ (r : ValueRef × PoolInUse). Later s r.1 × (r.0 ≡ cell.Null)) (some_is (cell.Null, s) (c, t) h) (stay_now s.places, refl)
-put_stands s t (Int n) c h = subst (λ (r : ValueRef × PoolInUse). Later s r.1 × (r.0 ≡ cell.Int n)) (some_is (cell.Int n, s) (c, t) h) (stay_now s.places, refl)
-put_stands s t Binary c h = subst (λ (r : ValueRef × PoolInUse). Later s r.1 × (r.0 ≡ cell.Binary)) (some_is (cell.Binary, s) (c, t) h) (stay_now s.places, refl)
+put_stands s t Null c h = subst (λ (r : ValueRef × PoolInUse). Later s r.1 × (r.0 ≡ cell.Null)) (some_is {A = ValueRef × PoolInUse} (cell.Null, s) (c, t) h) (stay_now s.places, refl)
+put_stands s t (Int n) c h = subst (λ (r : ValueRef × PoolInUse). Later s r.1 × (r.0 ≡ cell.Int n)) (some_is {A = ValueRef × PoolInUse} (cell.Int n, s) (c, t) h) (stay_now s.places, refl)
+put_stands s t Binary c h = subst (λ (r : ValueRef × PoolInUse). Later s r.1 × (r.0 ≡ cell.Binary)) (some_is {A = ValueRef × PoolInUse} (cell.Binary, s) (c, t) h) (stay_now s.places, refl)
 put_stands s t (Str text) c h =
-    let m = map_some (taken true s.places text) (λ (r : ℕ × List Place). (cell.Str r.0, record { places = r.1; is_used = true })) (c, t) h in
+    let m = map_some {B = ValueRef × PoolInUse} (taken true s.places text) (λ (r : ℕ × List Place). (cell.Str r.0, record { places = r.1; is_used = true })) (c, t) h in
     let takes = taken_takes true s.places m.0.1 text m.0.0 m.1 in
     let range = taken_in_range s.places m.0.1 text m.0.0 m.1 in
     subst (λ (r : ValueRef × PoolInUse). Later s r.1 × Stands r.1.places (Str text) r.0) m.2
@@ -258,7 +260,7 @@ record_stored s t r stored h =
     elim (stored_action r.action) as (λ o. stored_action r.action ≡ o → option_and_then (stored_record_with s r.values) o ≡ Some (stored, t) → Later s t × IsStored t.places r stored) [
       | None ↦ λ a e. none_is e
       | Some action ↦ λ a e.
-          let m = map_some (in_turn (cell_put true) s r.values) (λ (p : List ValueRef × PoolInUse). (record_with action p.0, p.1)) (stored, t) e in
+          let m = map_some {B = Record × PoolInUse} (in_turn (cell_put true) s r.values) (λ (p : List ValueRef × PoolInUse). (record_with action p.0, p.1)) (stored, t) e in
           let v = values_stored s m.0.1 r.values m.0.0 m.1 in
           subst (λ (p : Record × PoolInUse). Later s p.1 × IsStored p.1.places r p.0) m.2 (v.0, (same_action r.action action a, v.1))
     ] refl h
@@ -272,7 +274,7 @@ records_stored = all_steps stored_record Later (λ s r stored. IsStored s.places
 
 table_stored : (s t : PoolInUse) (table : ToldTable) (e : ToldTable × List Record) → stored_table s table ≡ Some (e, t) → Later s t × AreStored t.places table e
 table_stored s t table e h =
-    let m = map_some (in_turn stored_record s table.records) (λ (p : List Record × PoolInUse). ((table, p.0), p.1)) (e, t) h in
+    let m = map_some {B = (ToldTable × List Record) × PoolInUse} (in_turn stored_record s table.records) (λ (p : List Record × PoolInUse). ((table, p.0), p.1)) (e, t) h in
     let v = records_stored s m.0.1 table.records m.0.0 m.1 in
     subst (λ (p : (ToldTable × List Record) × PoolInUse). Later s p.1 × AreStored p.1.places table p.0) m.2 (v.0, (refl, v.1))
 
@@ -356,12 +358,12 @@ module _ (t : TransformDef) (few : length t.pool.places ≤ 16777215) (wide : t.
         tables_read tables es h.1 f.1 at.1,
       )
 
-names_stored : (places : List Place) (long : Bool) (tables : List ToldTable) (es : List (ToldTable × List Record)) → Each (AreStored places) tables es
-    → map (λ (table : ToldTable). table.name) tables ≡ map (λ (e : List ℕ × List ℕ). e.0) (map (table_records long) es)
-names_stored places long [] [] h = refl
-names_stored places long [] (e ∷ es) h = absurd h
-names_stored places long (table ∷ tables) [] h = absurd h
-names_stored places long (table ∷ tables) (e ∷ es) h = λ i. (sym h.0.0 i).name ∷ names_stored places long tables es h.1 i
+names_stored : (places : List Place) (wide : Bool) (tables : List ToldTable) (es : List (ToldTable × List Record)) → Each (AreStored places) tables es
+    → map (λ (table : ToldTable). table.name) tables ≡ map (λ (e : List ℕ × List ℕ). e.0) (map (table_records wide) es)
+names_stored places wide [] [] h = refl
+names_stored places wide [] (e ∷ es) h = absurd h
+names_stored places wide (table ∷ tables) [] h = absurd h
+names_stored places wide (table ∷ tables) (e ∷ es) h = λ i. (sym h.0.0 i).name ∷ names_stored places wide tables es h.1 i
 
 all_in_order : (es fs : List (List ℕ × List ℕ)) → AllByRecursion (λ e. find list_cmp e.0 fs ≡ Some e.1) es → AllByRecursion (λ e. find list_cmp e.0 (by_names fs) ≡ Some e.1) es
 all_in_order [] fs h = tt

@@ -96,7 +96,7 @@ module _ (b : Bool) where
   stream_told (c ∷ cs) (v ∷ vs) h =
       let rest : tells_stream (zip cs (told_values b cs vs)) ≡ (b && has_streams cs) = stream_told cs vs (omega arith) in
       by_test (is_of_streams c.coltype)
-      (λ s. by_test b (λ t. rw (s, t) refl) (λ t. rw (s, t) (rw t at rest)))
+      (λ s. by_test b (λ t. rw (s, t) refl) (λ t. rw (s, t) (rest ∙ ap (λ x. x && has_streams cs) t)))
       (λ s. rw s rest)
 
 -- COLUMNS THAT ARE ADDED
