@@ -1,10 +1,10 @@
 -- Records carried out on rows: what is there at each key.
-use Rattle.std.proofs.Common.{◌≡◌, ℕ, ◌-◌, ◌<◌, ◌≤◌, Bool, true, false, cond, not, ◌&&◌, T, List, [], ◌∷◌, ◌++◌, length, map, filter, fold, replicate, refl, sym, ap, subst, ◌∙◌, arith, append-nil}
+use Rattle.std.proofs.Common.{◌≡◌, ℕ, ◌-◌, ◌≤◌, Bool, true, false, cond, not, ◌&&◌, T, List, [], ◌∷◌, ◌++◌, length, map, filter, replicate, refl, sym, ap, subst, ◌∙◌, arith, append-nil}
 use Rattle.std.specs.Prelude.{Option, Some, None, is_some, IfSome, option_map, option_and_then, if◌then◌else◌, filter_map, nat_lt}
 use Rattle.std.specs.Cmp.{IsTotalOrder, eq_by_cmp_equiv}
 use Rattle.std.specs.Cmp.Lexicographic.{lists_total}
 use Rattle.std.specs.FinMap.{IsAntisymmetric, find, is_sorted, put, slice_cmp-IsAntisymmetric}
-use Rattle.std.specs.FinMap.Entries.{below_all, find-put, find-where_key, find_tied, is_sorted-put, is_sorted-where_key, same_entries}
+use Rattle.std.specs.FinMap.Entries.{below_all, find-put, find-where_key, is_sorted-put, is_sorted-where_key, same_entries}
 use Rattle.std.specs.List.{AllByRecursion, cons_option, list_any}
 use Rattle.std.specs.Option.{option_map_or}
 use Rattle.std.specs.Ordering.{eq_by_cmp, is_eq, is_lt}
@@ -20,7 +20,7 @@ use Rattle.msi_transform_records.specs.declared.action.Action.{Action}
 use Rattle.msi_transform_records.specs.declared.action.Action.TheVariants.{Add, Remove, Change}
 use Rattle.msi_transform_rows.specs.KeyOfRows.{key_cmp}
 use Rattle.msi_transform_making.specs.Making.{ToldRecord, ToldRow, ToldRows, addition, additions, can_be_marked, change_of_row, changes, changing, differences, differing, is_replaced, removal, removals}
-use Rattle.msi_transform_making.specs.MakingLaws.{AreNewRows, AreOldRows, DifferencesGiveNewRows, IsRow, IsWholeRow, added_row, carried_out, changed_row, done_by, is_key_of_streams, record_done}
+use Rattle.msi_transform_making.specs.MakingLaws.{DifferencesGiveNewRows, IsRow, IsWholeRow, added_row, carried_out, changed_row, done_by, is_key_of_streams, record_done}
 use Rattle.msi_transform_making.proofs.ChangedRowsLemmas.{differing_turned, row_becomes, rows_alike}
 
 pub keys_total : IsTotalOrder key_cmp
@@ -85,7 +85,7 @@ module _ (columns : List ColumnDef) where
       let change = changed_row columns r in
       let at : eq_by_cmp key_cmp q r.key ≡ true → find key_cmp q rows ≡ find key_cmp r.key rows = λ t. ap (λ (k : List Value). find key_cmp k rows) (same q r.key t) in
       elim (find key_cmp r.key rows) as (λ o. find key_cmp r.key rows ≡ o → find key_cmp q (option_map_or (λ row. put key_cmp r.key (change row) rows) o rows)
-        ≡ cond (eq_by_cmp key_cmp q r.key) (option_map change (find key_cmp q rows)) (find key_cmp q rows)) [
+      ≡ cond (eq_by_cmp key_cmp q r.key) (option_map change (find key_cmp q rows)) (find key_cmp q rows)) [
         | None ↦ λ f. by_test (eq_by_cmp key_cmp q r.key) (λ t. rw (t, at t, f) refl) (λ t. rw t refl)
         | Some row ↦ λ f. find-put key_cmp keys_total q r.key (change row) rows ∙ by_test (eq_by_cmp key_cmp q r.key) (λ t. rw (t, at t, f) refl) (λ t. rw t refl)
       ] refl
@@ -123,12 +123,12 @@ module _ (columns : List ColumnDef) where
     untouched q (e ∷ es) rows h = by_test (eq_by_cmp key_cmp q e.0)
         (λ t. not_some e.1 (rw t at h))
         (λ t. let rest : find key_cmp q es ≡ None = rw t at h in
-          elim (tell e) as (λ o. tell e ≡ o → find key_cmp q (carried_out columns rows (cons_option o (filter_map tell es))) ≡ find key_cmp q rows) [
-            | None ↦ λ is. untouched q es rows rest
-            | Some r ↦ λ is. untouched q es (record_done columns rows r) rest ∙ found_by q rows r r.action
-                ∙ ap (λ (k : List Value). cond (eq_by_cmp key_cmp q k) (row_done r (find key_cmp q rows)) (find key_cmp q rows)) (own e r is)
-                ∙ ap (λ b. cond b (row_done r (find key_cmp q rows)) (find key_cmp q rows)) t
-          ] refl)
+        elim (tell e) as (λ o. tell e ≡ o → find key_cmp q (carried_out columns rows (cons_option o (filter_map tell es))) ≡ find key_cmp q rows) [
+          | None ↦ λ is. untouched q es rows rest
+          | Some r ↦ λ is. untouched q es (record_done columns rows r) rest ∙ found_by q rows r r.action
+              ∙ ap (λ (k : List Value). cond (eq_by_cmp key_cmp q k) (row_done r (find key_cmp q rows)) (find key_cmp q rows)) (own e r is)
+              ∙ ap (λ b. cond b (row_done r (find key_cmp q rows)) (find key_cmp q rows)) t
+        ] refl)
 
     pub each_done : (q : List Value) (es rows : ToldRows) → T (is_sorted key_cmp es)
         → find key_cmp q (carried_out columns rows (filter_map tell es)) ≡ done_at tell q (find key_cmp q es) (find key_cmp q rows)
@@ -137,21 +137,21 @@ module _ (columns : List ColumnDef) where
         let p = T_parts (below_all key_cmp e.0 es) (is_sorted key_cmp es) h in
         by_test (eq_by_cmp key_cmp q e.0)
         (λ t. let key : q ≡ e.0 = same q e.0 t in
-          let none : find key_cmp q es ≡ None = ap (λ (k : List Value). find key_cmp k es) key ∙ below_none e.0 es p.0 in
-          let told : tell (q, e.1) ≡ tell e = ap (λ (k : List Value). tell (k, e.1)) key in
-          rw (t, told) (elim (tell e) as (λ o. tell e ≡ o → find key_cmp q (carried_out columns rows (cons_option o (filter_map tell es))) ≡ option_map_or (λ r. row_done r (find key_cmp q rows)) o (find key_cmp q rows)) [
-            | None ↦ λ is. untouched q es rows none
-            | Some r ↦ λ is. untouched q es (record_done columns rows r) none ∙ found_by q rows r r.action
-                ∙ ap (λ (k : List Value). cond (eq_by_cmp key_cmp q k) (row_done r (find key_cmp q rows)) (find key_cmp q rows)) (own e r is)
-                ∙ ap (λ b. cond b (row_done r (find key_cmp q rows)) (find key_cmp q rows)) t
-          ] refl))
+        let none : find key_cmp q es ≡ None = ap (λ (k : List Value). find key_cmp k es) key ∙ below_none e.0 es p.0 in
+        let told : tell (q, e.1) ≡ tell e = ap (λ (k : List Value). tell (k, e.1)) key in
+        rw (t, told) (elim (tell e) as (λ o. tell e ≡ o → find key_cmp q (carried_out columns rows (cons_option o (filter_map tell es))) ≡ option_map_or (λ r. row_done r (find key_cmp q rows)) o (find key_cmp q rows)) [
+          | None ↦ λ is. untouched q es rows none
+          | Some r ↦ λ is. untouched q es (record_done columns rows r) none ∙ found_by q rows r r.action
+              ∙ ap (λ (k : List Value). cond (eq_by_cmp key_cmp q k) (row_done r (find key_cmp q rows)) (find key_cmp q rows)) (own e r is)
+              ∙ ap (λ b. cond b (row_done r (find key_cmp q rows)) (find key_cmp q rows)) t
+        ] refl))
         (λ t. rw t (elim (tell e) as (λ o. tell e ≡ o → find key_cmp q (carried_out columns rows (cons_option o (filter_map tell es))) ≡ done_at tell q (find key_cmp q es) (find key_cmp q rows)) [
-            | None ↦ λ is. each_done q es rows p.1
-            | Some r ↦ λ is. each_done q es (record_done columns rows r) p.1
-                ∙ ap (done_at tell q (find key_cmp q es)) (found_by q rows r r.action
-                  ∙ ap (λ (k : List Value). cond (eq_by_cmp key_cmp q k) (row_done r (find key_cmp q rows)) (find key_cmp q rows)) (own e r is)
-                  ∙ ap (λ b. cond b (row_done r (find key_cmp q rows)) (find key_cmp q rows)) t)
-          ] refl))
+          | None ↦ λ is. each_done q es rows p.1
+          | Some r ↦ λ is. each_done q es (record_done columns rows r) p.1
+              ∙ ap (done_at tell q (find key_cmp q es)) (found_by q rows r r.action
+              ∙ ap (λ (k : List Value). cond (eq_by_cmp key_cmp q k) (row_done r (find key_cmp q rows)) (find key_cmp q rows)) (own e r is)
+              ∙ ap (λ b. cond b (row_done r (find key_cmp q rows)) (find key_cmp q rows)) t)
+        ] refl))
 
 -- THE RECORDS OF WHAT DIFFERS
 
@@ -212,8 +212,8 @@ module _ (columns : List ColumnDef) where
         let turned : differing new old ≡ differing old new = differing_turned new old in
         by_test (can_be_marked (differing old new))
         (λ t. by_test (nat_lt 0 (length (differing old new)))
-          (λ m. rw (turned, t, m) (ap Some (row_becomes columns q old new plain was is)))
-          (λ m. rw (turned, t, m) (ap Some (rows_alike columns q old new plain was is (let none : length (differing old new) ≤ 0 = ltb-false 0 (length (differing old new)) m in omega arith)))))
+        (λ m. rw (turned, t, m) (ap Some (row_becomes columns q old new plain was is)))
+        (λ m. rw (turned, t, m) (ap Some (rows_alike columns q old new plain was is (let none : length (differing old new) ≤ 0 = ltb-false 0 (length (differing old new)) m in omega arith)))))
         (λ t. rw (turned, t) (ap Some (row_again q new is)))
 
     becomes_new : (old new : Option ToldRow) → IfSome old (λ row. IsRow columns (q, row)) → IfSome new (λ row. IsWholeRow columns (q, row)) → becomes q old new ≡ new
@@ -229,13 +229,13 @@ module _ (columns : List ColumnDef) where
         let first = carried_out columns old (removals old new) in
         let second = carried_out columns first (changes columns old new) in
         let one : find key_cmp q first ≡ done_at columns (tell_removed (find key_cmp q new)) q (find key_cmp q old) (find key_cmp q old) =
-          ap (λ (rs : List ToldRecord). find key_cmp q (carried_out columns old rs)) (told_if (is_replaced new) (λ e. removal e.0) old)
-          ∙ each_done columns (tell_if (is_replaced new) (λ e. removal e.0)) (own_if (is_replaced new) (λ e. removal e.0) (λ e. refl)) q old old g in
+        ap (λ (rs : List ToldRecord). find key_cmp q (carried_out columns old rs)) (told_if (is_replaced new) (λ e. removal e.0) old)
+        ∙ each_done columns (tell_if (is_replaced new) (λ e. removal e.0)) (own_if (is_replaced new) (λ e. removal e.0) (λ e. refl)) q old old g in
         let two : find key_cmp q second ≡ done_at columns (change_by (find key_cmp q old)) q (find key_cmp q new) (find key_cmp q first) =
-          each_done columns (change_of_row columns old) (λ e. own_change (find key_cmp e.0 old) e) q new first h in
+        each_done columns (change_of_row columns old) (λ e. own_change (find key_cmp e.0 old) e) q new first h in
         let three : find key_cmp q (carried_out columns second (additions old new)) ≡ done_at columns (tell_added (find key_cmp q old)) q (find key_cmp q new) (find key_cmp q second) =
-          ap (λ (rs : List ToldRecord). find key_cmp q (carried_out columns second rs)) (told_if (is_replaced old) addition new)
-          ∙ each_done columns (tell_if (is_replaced old) addition) (own_if (is_replaced old) addition (λ e. refl)) q new second h in
+        ap (λ (rs : List ToldRecord). find key_cmp q (carried_out columns second rs)) (told_if (is_replaced old) addition new)
+        ∙ each_done columns (tell_if (is_replaced old) addition) (own_if (is_replaced old) addition (λ e. refl)) q new second h in
         ap (find key_cmp q) (joined columns old (removals old new ++ changes columns old new) (additions old new)
         ∙ ap (λ (rows : ToldRows). carried_out columns rows (additions old new)) (joined columns old (removals old new) (changes columns old new)))
         ∙ three
@@ -246,4 +246,4 @@ differences_give_new_rows columns old new plain was is =
     same_entries key_cmp keys_total exact_keys (carried_out columns old (differences columns old new)) new
     (sorted columns old (differences columns old new) was.sorted) is.sorted
     (λ q. at_each_key columns old new q was.sorted is.sorted
-      ∙ becomes_new columns q plain (find key_cmp q old) (find key_cmp q new) (found_row (IsRow columns) q old was.each) (found_row (IsWholeRow columns) q new is.each))
+    ∙ becomes_new columns q plain (find key_cmp q old) (find key_cmp q new) (found_row (IsRow columns) q old was.each) (found_row (IsWholeRow columns) q new is.each))

@@ -1,8 +1,7 @@
 -- A row that is changed in the columns in which it differs from another becomes that one.
-use Rattle.std.proofs.Common.{◌≡◌, ℕ, ◌+◌, ◌-◌, ◌^◌, ◌<◌, ◌≤◌, Bool, true, false, cond, not, ◌&&◌, ◌||◌, List, [], ◌∷◌, ◌++◌, length, map, filter, fold, set, zip, refl, sym, ap, subst, ◌∙◌, arith, append_assoc}
+use Rattle.std.proofs.Common.{◌≡◌, ℕ, ◌+◌, ◌-◌, ◌^◌, ◌≤◌, Bool, true, false, not, ◌&&◌, ◌||◌, List, [], ◌∷◌, ◌++◌, length, map, filter, fold, set, zip, refl, sym, ap, subst, ◌∙◌, arith, append_assoc}
 use Rattle.std.specs.Prelude.{⊤, ◌==◌, Option, Some, None, is_some, if◌then◌else◌, bytes_eq}
 use Rattle.std.specs.List.{enumerate_from, list_any}
-use Rattle.std.specs.Ordering.{eq_by_cmp}
 use Rattle.std.specs.Cmp.{eq_by_cmp_equiv}
 use Rattle.std.proofs.lemmas.Bool.{and_parts, eq-eqb, ne_eqb}
 use Rattle.std.proofs.lemmas.List.{length-append, set-append_right}
@@ -13,14 +12,14 @@ use Rattle.msi_table_values.specs.declared.value.Value.{Value}
 use Rattle.msi_table_values.specs.declared.value.Value.TheVariants.{Null, Int, Str, Binary}
 use Rattle.msi_table_values.specs.Columns.{ColumnDef, has_bit}
 use Rattle.msi_table_values.specs.OrderLaws.{value_cmp-total, value_eq-Decides}
-use Rattle.msi_table_values.specs.Values.{is_null, value_cmp}
+use Rattle.msi_table_values.specs.Values.{is_null}
 use Rattle.msi_transform_records.specs.declared.action.Action.TheVariants.{Change}
 use Rattle.msi_transform_records.specs.declared.shape.Shape.{Shape}
 use Rattle.msi_transform_records.specs.Actions.{told_from}
 use Rattle.msi_transform.specs.Transforms.{shapes_of}
 use Rattle.msi_transform_applying.specs.Applying.{same_stream}
 use Rattle.msi_transform_rows.specs.RowStreams.{is_of_streams}
-use Rattle.msi_transform_making.specs.Making.{ToldRow, can_be_marked, changing, differing, differing_values, is_marked, is_marked_in, is_stream, mask_for, same_value, tells_stream, told_value, told_values}
+use Rattle.msi_transform_making.specs.Making.{ToldRow, changing, differing, is_marked, is_marked_in, is_stream, mask_for, same_value, tells_stream, told_value, told_values}
 use Rattle.msi_transform_making.specs.MakingLaws.{IsRow, IsWholeRow, changed_row, is_key_of_streams, is_of_key, is_told_of_streams, told_changes, with_value}
 use Rattle.msi_transform_making.proofs.MaskLemmas.{Above, bit_marked, numbers_rise}
 
@@ -190,14 +189,14 @@ module _ (marked : List ℕ) (same : Bool) where
       let longer : length (before ++ w ∷ []) ≡ n + 1 = omega (arith, length-append before (w ∷ [])) in
       let rest : fold with_value ((before ++ w ∷ []) ++ os) (changes_from (n + 1) cs ws) ≡ (before ++ w ∷ []) ++ ws = put_in (n + 1) cs (before ++ w ∷ []) os ws longer m.2 in
       let further : fold with_value (before ++ w ∷ os) (changes_from (n + 1) cs ws) ≡ before ++ w ∷ ws =
-        ap (λ (vs : List Value). fold with_value vs (changes_from (n + 1) cs ws)) (sym (append_assoc before (w ∷ []) os)) ∙ rest ∙ append_assoc before (w ∷ []) ws in
+      ap (λ (vs : List Value). fold with_value vs (changes_from (n + 1) cs ws)) (sym (append_assoc before (w ∷ []) os)) ∙ rest ∙ append_assoc before (w ∷ []) ws in
       let stays : o ≡ w → fold with_value (before ++ o ∷ os) (changes_from (n + 1) cs ws) ≡ before ++ w ∷ ws =
-        λ e. ap (λ (v : Value). fold with_value (before ++ v ∷ os) (changes_from (n + 1) cs ws)) e ∙ further in
+      λ e. ap (λ (v : Value). fold with_value (before ++ v ∷ os) (changes_from (n + 1) cs ws)) e ∙ further in
       by_test c.is_primary_key
       (λ k. rw k (stays (m.0 k)))
       (λ k. by_test (is_in marked n)
-        (λ t. rw (k, t) (ap (λ (vs : List Value). fold with_value vs (changes_from (n + 1) cs ws)) (set_after before o w os n l) ∙ further))
-        (λ t. rw (k, t) (stays (value_same same o w (m.1 t)))))
+      (λ t. rw (k, t) (ap (λ (vs : List Value). fold with_value vs (changes_from (n + 1) cs ws)) (set_after before o w os n l) ∙ further))
+      (λ t. rw (k, t) (stays (value_same same o w (m.1 t)))))
 
   -- where a column of streams changes, and the row has a stream, the record tells it
   told_there : (n : ℕ) (columns : List ColumnDef) (news : List Value) → told_values true columns news ≡ news
@@ -210,10 +209,10 @@ module _ (marked : List ℕ) (same : Bool) where
       let rest = told_there (n + 1) cs ws others in
       by_test (is_marked marked n c)
       (λ t. by_test (is_of_streams c.coltype)
-        (λ b. let binary : Binary ≡ w = (rw b refl) ∙ first in rw (t, b, ← binary) refl)
-        (λ b. rw (t, b) (by_test c.is_primary_key
-          (λ k. rest (rw (t, k) at h))
-          (λ k. rest (rw (t, k, b) at h)))))
+      (λ b. let binary : Binary ≡ w = (rw b refl) ∙ first in rw (t, b, ← binary) refl)
+      (λ b. rw (t, b) (by_test c.is_primary_key
+      (λ k. rest (rw (t, k) at h))
+      (λ k. rest (rw (t, k, b) at h)))))
       (λ t. rw t (rest (rw t at h)))
 
   told_first : (n : ℕ) (c : ColumnDef) (cs : List ColumnDef) (w : Value) (ws : List Value) → list_any is_told_of_streams (changes_from n (c ∷ cs) (w ∷ ws))
@@ -244,8 +243,8 @@ module _ (marked : List ℕ) (same : Bool) where
   none_told n (c ∷ cs) (o ∷ os) (w ∷ ws) plain m h =
       let rest = none_told (n + 1) cs os ws (others_plain n c cs w ws plain h) m.2 (none_of_others n c cs w ws plain h) in
       let first : is_stream (c, o) ≡ is_stream (c, w) = by_test (is_of_streams c.coltype)
-        (λ s. ap (λ (v : Value). is_stream (c, v)) (value_same same o w (m.1 (unmarked n c cs w ws plain h s))))
-        (λ s. rw s refl) in
+      (λ s. ap (λ (v : Value). is_stream (c, v)) (value_same same o w (m.1 (unmarked n c cs w ws plain h s))))
+      (λ s. rw s refl) in
       λ i. first i || rest i
 
   -- and then the stream is one, if there is one
@@ -261,10 +260,10 @@ module _ (marked : List ℕ) (same : Bool) where
       let others : told_values true cs ws ≡ ws = cc in
       by_test (is_stream (c, w))
       (λ s. let streams : is_of_streams c.coltype ≡ true = (and_parts (is_of_streams c.coltype) (not (is_null w)) s).0 in
-        let binary : Binary ≡ w = (rw streams refl) ∙ first in
-        let alike : same_value same (o, w) ≡ true = m.1 (unmarked n c cs w ws plain h streams) in
-        let both : o ≡ Binary = value_same same o w alike ∙ sym binary in
-        subst (λ (v : Value). same_value same (v, Binary) ≡ true) both (subst (λ (v : Value). same_value same (o, v) ≡ true) (sym binary) alike))
+      let binary : Binary ≡ w = (rw streams refl) ∙ first in
+      let alike : same_value same (o, w) ≡ true = m.1 (unmarked n c cs w ws plain h streams) in
+      let both : o ≡ Binary = value_same same o w alike ∙ sym binary in
+      subst (λ (v : Value). same_value same (v, Binary) ≡ true) both (subst (λ (v : Value). same_value same (o, v) ≡ true) (sym binary) alike))
       (λ s. one_stream (n + 1) cs os ws (others_plain n c cs w ws plain h) m.2 others (none_of_others n c cs w ws plain h) (rw s at t))
 
   -- where nothing is marked, nothing changes
@@ -284,14 +283,13 @@ module _ (marked : List ℕ) (same : Bool) where
   meets n (c ∷ cs) [] ws l r keys at = absurd (omega arith)
   meets n (c ∷ cs) (o ∷ os) [] l r keys at = absurd (omega arith)
   meets n (c ∷ cs) (o ∷ os) (w ∷ ws) l r keys at =
-      let others : key_of cs os ≡ key_of cs ws = by_test c.is_primary_key (λ k. let h = rw k at keys in cc) (λ k. rw k at keys) in
-      (
+      let others : key_of cs os ≡ key_of cs ws = by_test c.is_primary_key (λ k. let h = rw k at keys in cc) (λ k. rw k at keys) in (
         λ k. let h = rw k at keys in cc,
         λ t. by_test (same_value same (o, w)) (λ s. s)
-          (λ s. yes_is_no (is_in marked n) (at n (omega arith) ∙ rw (s, eq-eqb n n refl) refl) t),
+            (λ s. yes_is_no (is_in marked n) (at n (omega arith) ∙ rw (s, eq-eqb n n refl) refl) t),
         meets (n + 1) cs os ws (omega arith) (omega arith) others (λ i h. at i (omega arith) ∙ by_test (same_value same (o, w))
-          (λ s. rw s refl)
-          (λ s. rw (s, ne_eqb n i (λ e. omega arith)) refl)),
+            (λ s. rw s refl)
+            (λ s. rw (s, ne_eqb n i (λ e. omega arith)) refl)),
       )
 
   meets_itself : (n : ℕ) (columns : List ColumnDef) (values : List Value) → same ≡ true → length values ≡ length columns → Meets n columns values values
@@ -312,7 +310,7 @@ module _ (marked : List ℕ) (same : Bool) (columns : List ColumnDef) (key : Lis
       let alike : is_some old.stream ≡ is_some new.stream = was.stream ∙ none_told marked same 0 columns old.values new.values plain met none ∙ sym is.row.stream in
       by_test (is_some new.stream)
       (λ t. one (one_stream marked same 0 columns old.values new.values plain met
-        (ap (λ (b : Bool). told_values b columns new.values) (sym t) ∙ is.shared) none (sym is.row.stream ∙ t)))
+      (ap (λ (b : Bool). told_values b columns new.values) (sym t) ∙ is.shared) none (sym is.row.stream ∙ t)))
       (λ t. nothing old.stream (alike ∙ t) ∙ sym (nothing new.stream t))
 
   new_stream : list_any is_told_of_streams changes ≡ true → (if tells_stream (map (λ e. e.1) (marked_from marked same 0 columns new.values)) then new.stream else None) ≡ new.stream
@@ -324,13 +322,13 @@ module _ (marked : List ℕ) (same : Bool) (columns : List ColumnDef) (key : Lis
   becomes rises =
       let bits : (i : ℕ) → has_bit (mask_for marked) (2 ^ i) ≡ is_in marked i = λ i. bit_marked i 0 marked rises in
       let told : told_changes columns (changing columns marked (key, new)) ≡ changes =
-        ap (λ (l : List Told). filter (λ e. not (is_of_key e)) l) (pairs marked same (mask_for marked) bits 0 columns new.values is.row.long) in
+      ap (λ (l : List Told). filter (λ e. not (is_of_key e)) l) (pairs marked same (mask_for marked) bits 0 columns new.values is.row.long) in
       let values : fold with_value old.values (told_changes columns (changing columns marked (key, new))) ≡ new.values =
-        ap (λ (l : List Told). fold with_value old.values l) told ∙ put_in marked same 0 columns [] old.values new.values refl met in
+      ap (λ (l : List Told). fold with_value old.values l) told ∙ put_in marked same 0 columns [] old.values new.values refl met in
       let brought = (changing columns marked (key, new)).stream in
       let stream : (if list_any is_told_of_streams (told_changes columns (changing columns marked (key, new))) then brought else old.stream) ≡ new.stream =
-        ap (λ (l : List Told). if list_any is_told_of_streams l then brought else old.stream) told
-        ∙ by_test (list_any is_told_of_streams changes) (λ t. rw t (new_stream t)) (λ t. rw t (streams_alike t)) in
+      ap (λ (l : List Told). if list_any is_told_of_streams l then brought else old.stream) told
+      ∙ by_test (list_any is_told_of_streams changes) (λ t. rw t (new_stream t)) (λ t. rw t (streams_alike t)) in
       λ i. record { values = values i; stream = stream i }
 
   alike : length marked ≡ 0 → old ≡ new
@@ -338,7 +336,7 @@ module _ (marked : List ℕ) (same : Bool) (columns : List ColumnDef) (key : Lis
       let unmarked : (i : ℕ) → is_in marked i ≡ false = λ i. ap (λ (is : List ℕ). is_in is i) (no_numbers marked none) in
       let nothing : changes ≡ [] = no_changes marked same unmarked 0 columns new.values in
       let values : old.values ≡ new.values =
-        ap (λ (l : List Told). fold with_value old.values l) (sym nothing) ∙ put_in marked same 0 columns [] old.values new.values refl met in
+      ap (λ (l : List Told). fold with_value old.values l) (sym nothing) ∙ put_in marked same 0 columns [] old.values new.values refl met in
       let stream : old.stream ≡ new.stream = streams_alike (ap (λ (l : List Told). list_any is_told_of_streams l) nothing) in
       λ i. record { values = values i; stream = stream i }
 

@@ -1,6 +1,6 @@
 -- The list of tables as it is told, and what the records of `_Tables` give.
-use Rattle.std.proofs.Common.{◌≡◌, ℕ, Bool, true, false, cond, not, ◌&&◌, ◌||◌, ◌⊎◌, T, List, [], ◌∷◌, length, map, filter, refl, sym, ap, subst, ◌∙◌, inl, inr}
-use Rattle.std.specs.Prelude.{Option, Some, None, is_some, bytes_eq}
+use Rattle.std.proofs.Common.{◌≡◌, ℕ, Bool, true, false, cond, not, ◌&&◌, ◌||◌, ◌⊎◌, List, [], ◌∷◌, map, filter, refl, sym, ap, subst, ◌∙◌, inl, inr}
+use Rattle.std.specs.Prelude.{Option, Some, None, bytes_eq}
 use Rattle.std.specs.Cmp.Lexicographic.{bytes_decides}
 use Rattle.std.specs.FinMap.{find}
 use Rattle.std.specs.FinMap.Entries.{find-put, is_some-find, same_entries}
@@ -60,7 +60,7 @@ find_added : (q : List Value) (names : List (List ℕ)) (rows : ToldRows) → fi
 find_added q [] rows = refl
 find_added q (n ∷ ns) rows =
     let first : cond (is_named q n) (Some (row_of (Str n ∷ []))) (find key_cmp q rows) ≡ cond (is_named q n) (Some (row_of q)) (find key_cmp q rows) =
-      by_test (is_named q n) (λ t. rw t (ap (λ (k : List Value). Some (row_of k)) (sym (same q (Str n ∷ []) t)))) (λ t. rw t refl) in
+    by_test (is_named q n) (λ t. rw t (ap (λ (k : List Value). Some (row_of k)) (sym (same q (Str n ∷ []) t)))) (λ t. rw t refl) in
     find_added q ns (record_done tables_columns rows (listing_record (Add 1) n))
     ∙ ap (cond (is_among q ns) (Some (row_of q))) (found_by tables_columns q rows (listing_record (Add 1) n) (Add 1) ∙ first)
     ∙ choices (is_named q n) (is_among q ns) (Some (row_of q)) (find key_cmp q rows)
@@ -99,12 +99,12 @@ module _ (m : List ℕ) where
       let rest = among_passing test ns in
       by_test (is_name n)
       (λ t. let passes : test n ≡ test m = ap test (sym (exact_names m n t)) in
-        by_test (test n)
-        (λ p. let q : test m ≡ true = sym passes ∙ p in rw (p, named_by n, t, q) refl)
-        (λ p. let q : test m ≡ false = sym passes ∙ p in rw (p, t) (rest ∙ and_right (list_any is_name ns) (test m) q ∙ sym q)))
+      by_test (test n)
+      (λ p. let q : test m ≡ true = sym passes ∙ p in rw (p, named_by n, t, q) refl)
+      (λ p. let q : test m ≡ false = sym passes ∙ p in rw (p, t) (rest ∙ and_right (list_any is_name ns) (test m) q ∙ sym q)))
       (λ t. by_test (test n)
-        (λ p. rw (p, named_by n, t) rest)
-        (λ p. rw (p, t) rest))
+      (λ p. rw (p, named_by n, t) rest)
+      (λ p. rw (p, t) rest))
 
 -- what becomes of a table: it comes, goes, or stays; the two that list tables are in both lists
 settled : (before after system : Bool) (row : ToldRow) → (system ≡ true → before ≡ true)
@@ -133,16 +133,16 @@ module _ (old new : Kept) (was : ListsItsTables old) (is : ListsItsTables new) w
   there q = elim (one_name q) [
     | inr none ↦ rw (none_among q come none, none_among q gone none, none_among q (told_names old) none, none_among q (told_names new) none) refl
     | inl one ↦ (let m = one.0 in
-            let before : list_any (is_name m) (map (λ t. t.0) old.database.tables) ≡ has_table m old.database = sym (is_some-find list_cmp m old.database.tables) in
+        let before : list_any (is_name m) (map (λ t. t.0) old.database.tables) ≡ has_table m old.database = sym (is_some-find list_cmp m old.database.tables) in
         let after : list_any (is_name m) (map (λ t. t.0) new.database.tables) ≡ has_table m new.database = sym (is_some-find list_cmp m new.database.tables) in
         let a : is_among (Str m ∷ []) come ≡ (has_table m new.database && not (has_table m old.database)) =
-          among_passing m (λ name. not (has_table name old.database)) (map (λ t. t.0) new.database.tables) ∙ ap (λ b. b && not (has_table m old.database)) after in
+        among_passing m (λ name. not (has_table name old.database)) (map (λ t. t.0) new.database.tables) ∙ ap (λ b. b && not (has_table m old.database)) after in
         let g : is_among (Str m ∷ []) gone ≡ (has_table m old.database && not (has_table m new.database)) =
-          among_passing m (λ name. not (has_table name new.database)) (map (λ t. t.0) old.database.tables) ∙ ap (λ b. b && not (has_table m new.database)) before in
+        among_passing m (λ name. not (has_table name new.database)) (map (λ t. t.0) old.database.tables) ∙ ap (λ b. b && not (has_table m new.database)) before in
         let c : is_among (Str m ∷ []) (told_names old) ≡ (has_table m old.database && not (is_schema_table m)) =
-          among_passing m (λ name. not (is_schema_table name)) (map (λ t. t.0) old.database.tables) ∙ ap (λ b. b && not (is_schema_table m)) before in
+        among_passing m (λ name. not (is_schema_table name)) (map (λ t. t.0) old.database.tables) ∙ ap (λ b. b && not (is_schema_table m)) before in
         let d : is_among (Str m ∷ []) (told_names new) ≡ (has_table m new.database && not (is_schema_table m)) =
-          among_passing m (λ name. not (is_schema_table name)) (map (λ t. t.0) new.database.tables) ∙ ap (λ b. b && not (is_schema_table m)) after in
+        among_passing m (λ name. not (is_schema_table name)) (map (λ t. t.0) new.database.tables) ∙ ap (λ b. b && not (is_schema_table m)) after in
         let row = row_of (Str m ∷ []) in
         subst (λ (k : List Value). cond (is_among k come) (Some (row_of k)) (cond (is_among k gone) None (cond (is_among k (told_names old)) (Some (row_of k)) None)) ≡ cond (is_among k (told_names new)) (Some (row_of k)) None) (sym one.1)
         ((λ i. cond (a i) (Some row) (cond (g i) None (cond (c i) (Some row) None)))

@@ -1,19 +1,19 @@
 -- The records of a transform that is made are read as they were told.
-use Rattle.std.proofs.Common.{◌≡◌, ℕ, Bool, true, false, cond, not, ◌&&◌, ◌||◌, List, [], ◌∷◌, ◌++◌, map, filter, Some, refl, sym, ap, subst, ◌∙◌}
+use Rattle.std.proofs.Common.{◌≡◌, ℕ, Bool, false, not, List, [], ◌∷◌, ◌++◌, map, filter, Some, refl, sym, ap, subst, ◌∙◌}
 use Rattle.std.specs.Prelude.{Option, None, Result, Ok, Err, bytes_eq}
 use Rattle.std.specs.Cmp.Lexicographic.{bytes_decides}
 use Rattle.std.specs.List.{AllByRecursion, flat_map, list_any}
 use Rattle.msi_base.specs.Lists.{has_pair}
 use Rattle.msi_base.specs.declared.errors.ErrorKind.{ErrorKind}
 use Rattle.msi_base.specs.declared.errors.ErrorKind.TheVariants.{InvalidInput}
-use Rattle.msi_base.specs.Refusals.{first_refusal, or_refused, unless, unless_refused, ◌>>=◌}
+use Rattle.msi_base.specs.Refusals.{first_refusal, or_refused, unless, ◌>>=◌}
 use Rattle.msi_base.proofs.BoolLemmas.{by_test, yes_is_no}
 use Rattle.msi_database_schema.specs.System.{columns_columns, columns_name, is_schema_table, tables_columns, tables_name}
 use Rattle.msi_database_changes.specs.Texts.{PoolInUse}
 use Rattle.msi_database_storage.specs.Kept.{Kept}
 use Rattle.msi_transform_records.specs.declared.records.Record.{Record}
 use Rattle.msi_transform.specs.Transforms.{TransformDef, shapes_of}
-use Rattle.msi_transform_making.specs.Making.{Pair, ToldTable, is_told, made, reasons, records_of_columns, records_of_tables, stored_tables, told_names, told_table, told_tables, transform_of, transform_with}
+use Rattle.msi_transform_making.specs.Making.{ToldTable, is_told, made, reasons, records_of_columns, records_of_tables, stored_tables, told_names, told_table, told_tables, transform_of, transform_with}
 use Rattle.msi_transform_making.specs.MakingLaws.{MadeRecordsAreRead, as_told, values_read}
 use Rattle.msi_transform_making.proofs.StoredRecordsLemmas.{neither, told_records_are_read}
 

@@ -73,7 +73,7 @@ multiple n (i ∷ is) a =
     let p : n ≤ i = a.0 in
     let here : 2 ^ i ≡ 2 ^ (i - n) * 2 ^ n = scaled n i p in
     let there : mask_for is ≡ r.0 * 2 ^ (i + 1 - n) * 2 ^ n =
-      r.1 ∙ ap (λ (m : ℕ). r.0 * m) (scaled n (i + 1) (omega arith)) ∙ sym (mul_assoc r.0 (2 ^ (i + 1 - n)) (2 ^ n)) in
+    r.1 ∙ ap (λ (m : ℕ). r.0 * m) (scaled n (i + 1) (omega arith)) ∙ sym (mul_assoc r.0 (2 ^ (i + 1 - n)) (2 ^ n)) in
     (2 ^ (i - n) + r.0 * 2 ^ (i + 1 - n), (λ t. here t + there t) ∙ sym (add-mul (2 ^ (i - n)) (r.0 * 2 ^ (i + 1 - n)) (2 ^ n)))
 
 pub bit_marked : (j n : ℕ) (is : List ℕ) → Above n is → (bit_at (mask_for is) j == 1) ≡ list_any (λ i. i == j) is

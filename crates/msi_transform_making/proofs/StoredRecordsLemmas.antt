@@ -3,7 +3,7 @@ use Rattle.std.proofs.Common.{◌≡◌, ℕ, ◌+◌, ◌-◌, ◌<◌, ◌≤�
 use Rattle.std.specs.Prelude.{⊤, option_map, option_and_then, flat_map, nat_lt, bytes_eq, slice_get}
 use Rattle.std.specs.Cmp.{IsTotalOrder, nat_cmp_total, tied_itself}
 use Rattle.std.specs.Cmp.Lexicographic.{bytes_decides, lists_total}
-use Rattle.std.specs.FinMap.{find, put}
+use Rattle.std.specs.FinMap.{find}
 use Rattle.std.specs.FinMap.Entries.{find-put}
 use Rattle.std.specs.List.{AllByRecursion, list_any}
 use Rattle.std.specs.Option.{option_map_or}
@@ -350,11 +350,10 @@ module _ (t : TransformDef) (few : length t.pool.places ≤ 16777215) (wide : t.
   tables_read (table ∷ tables) [] h f at = absurd h
   tables_read (table ∷ tables) (e ∷ es) h f at =
       let found : records_for table.name t ≡ Some (flat_map (record_bytes t.pool.long table.shapes) e.1) =
-        subst (λ (u : ToldTable). find list_cmp u.name t.tables ≡ Some (flat_map (record_bytes t.pool.long u.shapes) e.1)) h.0.0 at.0 in
-      let again = read_again table.shapes t.pool few wide table.records e.1 f.0 h.0.1 in
-      (
+      subst (λ (u : ToldTable). find list_cmp u.name t.tables ≡ Some (flat_map (record_bytes t.pool.long u.shapes) e.1)) h.0.0 at.0 in
+      let again = read_again table.shapes t.pool few wide table.records e.1 f.0 h.0.1 in (
         ap (λ (o : Option (List ℕ)). option_map (map (as_values t)) (option_and_then (records_in table.shapes t.pool) o)) found
-        ∙ ap (option_map (map (as_values t))) again ∙ ap Some (same_values t table.records e.1 h.0.1),
+            ∙ ap (option_map (map (as_values t))) again ∙ ap Some (same_values t table.records e.1 h.0.1),
         tables_read tables es h.1 f.1 at.1,
       )
 
@@ -377,4 +376,4 @@ told_records_are_read page_id new tables stored is fits apart =
     let names = names_stored t.pool.places t.pool.long tables stored.0 all.1 in
     tables_read t few refl tables stored.0 all.1 fits
     (all_in_order (map (table_records t.pool.long) stored.0) (map (table_records t.pool.long) stored.0)
-      (each_found (map (table_records t.pool.long) stored.0) (ap (has_pair bytes_eq) (sym names) ∙ apart)))
+    (each_found (map (table_records t.pool.long) stored.0) (ap (has_pair bytes_eq) (sym names) ∙ apart)))

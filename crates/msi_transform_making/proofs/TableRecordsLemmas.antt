@@ -1,11 +1,11 @@
 -- The rows of a table as they are told, and what its records give.
-use Rattle.std.proofs.Common.{◌≡◌, ℕ, zero, suc, ◌+◌, ◌-◌, ◌<◌, ◌≤◌, Bool, true, false, cond, not, ◌&&◌, ◌||◌, T, List, [], ◌∷◌, ◌++◌, length, map, filter, take, drop, replicate, zip, refl, sym, ap, subst, ◌∙◌, arith, append-nil, add-zero, length-append}
+use Rattle.std.proofs.Common.{◌≡◌, ℕ, zero, suc, ◌+◌, ◌-◌, Bool, true, false, not, ◌&&◌, ◌||◌, T, List, [], ◌∷◌, ◌++◌, length, map, filter, replicate, zip, refl, sym, ap, subst, ◌∙◌, arith, append-nil, length-append}
 use Rattle.std.specs.Prelude.{Option, Some, None, is_some, IfSome, if◌then◌else◌, filter_map, nat_lt, ◌==◌}
 use Rattle.std.specs.Cmp.{tied_itself}
 use Rattle.std.specs.FinMap.{find, is_sorted, put}
 use Rattle.std.specs.FinMap.Entries.{below_all, by_order, is_sorted-put, same_entries}
 use Rattle.std.specs.List.{AllByRecursion, list_any}
-use Rattle.std.specs.Ordering.{eq_by_cmp, is_eq, is_lt}
+use Rattle.std.specs.Ordering.{eq_by_cmp, is_lt}
 use Rattle.std.specs.declared.cmp.Ordering.{Ordering}
 use Rattle.std.specs.declared.cmp.Ordering.TheVariants.{Less, Equal, Greater}
 use Rattle.std.proofs.lemmas.Bool.{and_parts, ne_eqb}
@@ -21,12 +21,11 @@ use Rattle.msi_table_values.specs.Columns.{ColumnDef}
 use Rattle.msi_database_changes.specs.Database.{has_table}
 use Rattle.msi_database_storage.specs.Kept.{Kept}
 use Rattle.msi_transform_records.specs.declared.shape.Shape.{Shape}
-use Rattle.msi_transform.specs.Transforms.{shapes_of}
 use Rattle.msi_transform_schema.specs.SchemaApplying.{system_rows}
 use Rattle.msi_transform_rows.specs.KeyOfRows.{key_cmp}
 use Rattle.msi_transform_rows.specs.RowStreams.{has_streams, is_of_streams}
-use Rattle.msi_transform_making.specs.Making.{ToldRecord, ToldRow, ToldRows, addition, by_keys, changing, columns_before, columns_in_table, differences, first_told, has_bit_for, is_stream, or_first_told, records_beside, removal, stream_of_row, tells_stream, told_row, told_row_with, told_rows, told_stream, told_value, told_values, values_in_table}
-use Rattle.msi_transform_making.specs.MakingLaws.{AreNewRows, AreOldRows, GainsPlainColumns, HasWholeRows, IsRow, IsTellable, IsWholeRow, RecordsGiveNewTable, added_row, carried_out, is_key_of_streams, record_done, rows_before}
+use Rattle.msi_transform_making.specs.Making.{ToldRecord, ToldRow, ToldRows, addition, by_keys, columns_before, columns_in_table, differences, first_told, has_bit_for, is_stream, or_first_told, stream_of_row, tells_stream, told_row, told_rows, told_stream, told_values, values_in_table}
+use Rattle.msi_transform_making.specs.MakingLaws.{AreNewRows, AreOldRows, GainsPlainColumns, HasWholeRows, IsRow, IsWholeRow, RecordsGiveNewTable, added_row, carried_out, is_key_of_streams}
 use Rattle.msi_transform_making.proofs.ChangedRowsLemmas.{row_stays}
 use Rattle.msi_transform_making.proofs.CarriedOutLemmas.{differences_give_new_rows, done_at, each_done, exact_keys, found_row, is_less, keys_total, less, row_again, sorted}
 
@@ -268,9 +267,9 @@ first_stays columns n (e ∷ es) plain are =
     by_test (has_bit_for n)
     (λ t. rw (t, tied) (ap (λ (row : ToldRow). (e.0, row) ∷ es) (row_stays columns e.0 e.1 n plain are.each.0)))
     (λ t. rw (t, tied)
-      (ap (put key_cmp e.0 (added_row columns (addition e))) (none_dropped e.0 es p.0)
-      ∙ put_first e.0 (added_row columns (addition e)) es p.0
-      ∙ ap (λ (row : ToldRow). (e.0, row) ∷ es) (row_again columns e.0 e.1 are.each.0)))
+    (ap (put key_cmp e.0 (added_row columns (addition e))) (none_dropped e.0 es p.0)
+    ∙ put_first e.0 (added_row columns (addition e)) es p.0
+    ∙ ap (λ (row : ToldRow). (e.0, row) ∷ es) (row_again columns e.0 e.1 are.each.0)))
 
 -- ROWS OF A TABLE THAT COMES
 
@@ -289,7 +288,7 @@ module _ (columns : List ColumnDef) (rows : ToldRows) (are : AreNewRows columns 
       ∙ same_entries key_cmp keys_total exact_keys (carried_out columns [] (filter_map (λ e. Some (addition e)) rows)) rows
       (sorted columns [] (filter_map (λ e. Some (addition e)) rows) tt) are.sorted
       (λ q. each_done columns (λ e. Some (addition e)) (λ e r is. let this : addition e ≡ r = cc in ap (λ (s : ToldRecord). s.key) (sym this)) q rows [] are.sorted
-        ∙ added_at q (find key_cmp q rows) (found_row (IsWholeRow columns) q rows are.each))
+      ∙ added_at q (find key_cmp q rows) (found_row (IsWholeRow columns) q rows are.each))
 
 -- THE RECORDS OF A TABLE
 
@@ -300,8 +299,8 @@ module _ (columns : List ColumnDef) (before added : ℕ) (old new : ToldRows) (p
   told_or_first : carried_out columns old (or_first_told columns before added old (differences columns old new)) ≡ new
   told_or_first = by_test ((length (differences columns old new) == 0) && nat_lt 0 added)
       (λ t. let none : differences columns old new ≡ [] = no_records (differences columns old new) (and_parts (length (differences columns old new) == 0) (nat_lt 0 added) t).0 in
-        let same : old ≡ new = ap (carried_out columns old) (sym none) ∙ given in
-        rw t (first_stays columns before old plain (subst (AreNewRows columns) (sym same) is) ∙ same))
+      let same : old ≡ new = ap (carried_out columns old) (sym none) ∙ given in
+      rw t (first_stays columns before old plain (subst (AreNewRows columns) (sym same) is) ∙ same))
       (λ t. rw t given)
 
 pub records_give_new_table : RecordsGiveNewTable
@@ -310,7 +309,7 @@ records_give_new_table old new name is =
     let whole = new_rows new name is.key is.whole in
     by_test (has_table name old.database)
     (λ t. let kept = is.before t in
-      rw t (told_or_first columns (columns_before old.database name) (length columns - columns_before old.database name)
-      (told_rows old name (length columns - columns_before old.database name)) (told_rows new name 0) is.key
-      (old_rows old name columns kept.1 is.key kept.0) whole))
+    rw t (told_or_first columns (columns_before old.database name) (length columns - columns_before old.database name)
+    (told_rows old name (length columns - columns_before old.database name)) (told_rows new name 0) is.key
+    (old_rows old name columns kept.1 is.key kept.0) whole))
     (λ t. rw t (all_added columns (told_rows new name 0) whole))

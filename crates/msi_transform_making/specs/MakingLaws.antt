@@ -1,7 +1,7 @@
 -- What follows from the definition of made transforms: told records, carried out on the old rows, give the new ones.
 use Rattle.std.specs.Prelude.{◌≡◌, ℕ, ◌-◌, Bool, true, false, not, List, [], ◌∷◌, ◌++◌, filter, zip, length}
 use Rattle.std.specs.Prelude.{map, take, drop, replicate, set, Option, Some, None, option_and_then, option_map}
-use Rattle.std.specs.Prelude.{is_some, if◌then◌else◌, ◌&&◌, T, bytes_eq, Result, Ok}
+use Rattle.std.specs.Prelude.{is_some, if◌then◌else◌, ◌&&◌, T, bytes_eq, Ok}
 use Rattle.std.specs.FinMap.{find, put, is_sorted}
 use Rattle.std.specs.List.{AllByRecursion, fold, list_any}
 use Rattle.std.specs.Option.{option_map_or}
