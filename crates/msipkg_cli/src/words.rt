@@ -25,8 +25,6 @@ pub enum Verb {
     Import,
     Diff,
     ShowTransform,
-    ApplyTransform,
-    MakeTransform,
     Batch,
 }
 
@@ -73,8 +71,6 @@ enum Form {
     Lettered(char, &'static str),
     /// `--ID`, or a letter, with a value of this name, which has to be there.
     Needed(char, &'static str),
-    /// `--ID` with some of these values, parted by commas.
-    Choices(&'static str, &'static [&'static str]),
     /// `--ID` with one of these values.
     Choice(&'static str, &'static [&'static str]),
     /// `--ID` with one of these values, or this one by default.
@@ -562,125 +558,32 @@ static EXCHANGE_COMMANDS: [Row; 4] = [
     },
 ];
 
-/// The faults that may pass where a transform is applied, and letters for them.
-const FAULTS: &[&str] = &[
-    "add-row",
-    "delete-row",
-    "add-table",
-    "delete-table",
-    "change-row",
-    "page",
-    "a",
-    "b",
-    "c",
-    "d",
-    "e",
-    "f",
-];
-
-/// What may be validated before a transform is applied at an installation.
-const VALIDATIONS: &[&str] = &[
-    "language", "product", "platform", "major", "minor", "update", "below", "at-most", "equal",
-    "at-least", "above", "upgrade",
-];
-
-/// The commands about transforms.
-static TRANSFORM_COMMANDS: [Row; 3] = [
-    Row {
-        verb: Verb::ShowTransform,
-        name: "show",
-        about: "Prints what a transform adds, removes and changes",
-        arguments: &[
-            Argument {
-                id: "FILE",
-                form: Form::Word,
-                help: "The transform: a file, or a storage of one as PATH:NAME",
-            },
-            Argument {
-                id: "BASE",
-                form: Form::Optional,
-                help: "The package that it is for, whose columns and old values are shown, too",
-            },
-            JSON,
-            PAGE,
-            ESCAPE,
-        ],
-    },
-    Row {
-        verb: Verb::ApplyTransform,
-        name: "apply",
-        about: "Changes a package by transforms, in order: by all of them, or by none",
-        arguments: &[
-            FILE,
-            Argument {
-                id: "T",
-                form: Form::Words,
-                help: "The transforms: files, or storages of one as PATH:NAME",
-            },
-            Argument {
-                id: "output",
-                form: Form::Lettered('o', "OUT"),
-                help: "The file for the result; by default the package itself is replaced",
-            },
-            FORCE,
-            Argument {
-                id: "ignore",
-                form: Form::Choices("WORDS", FAULTS),
-                help: "Passes over these faults, in place of those that the transform's summary names",
-            },
-            Argument {
-                id: "strict",
-                form: Form::Instead(&["ignore"]),
-                help: "Passes over no fault, and fails if reference counts are too low",
-            },
-            PAGE,
-            RECODE,
-            NO_VERIFY,
-        ],
-    },
-    Row {
-        verb: Verb::MakeTransform,
-        name: "make",
-        about: "Makes the transform from one package to another",
-        arguments: &[
-            Argument {
-                id: "OLD",
-                form: Form::Word,
-                help: "The package that the transform is for",
-            },
-            Argument {
-                id: "NEW",
-                form: Form::Word,
-                help: "The package that it makes of that",
-            },
-            Argument {
-                id: "OUT",
-                form: Form::Word,
-                help: "The file for the transform",
-            },
-            FORCE,
-            Argument {
-                id: "validate",
-                form: Form::Choices("WORDS", VALIDATIONS),
-                help: "What a package has to share with OLD at an installation; by default nothing",
-            },
-            Argument {
-                id: "ignore",
-                form: Form::Choices("WORDS", FAULTS),
-                help: "The faults that pass at an installation; by default what the packages need",
-            },
-            JSON,
-            PAGE,
-            ESCAPE,
-        ],
-    },
-];
+/// Returns the commands. Proofs go through all rows in each function that names a table, with a cost by their square.
+/// So there are five tables, and a function for each.
+static TRANSFORM_COMMANDS: [Row; 1] = [Row {
+    verb: Verb::ShowTransform,
+    name: "show",
+    about: "Prints what a transform adds, removes and changes",
+    arguments: &[
+        Argument {
+            id: "FILE",
+            form: Form::Word,
+            help: "The transform: a file, or a storage of one as PATH:NAME",
+        },
+        Argument {
+            id: "BASE",
+            form: Form::Optional,
+            help: "The package that it is for, whose columns and old values are shown, too",
+        },
+        JSON,
+        PAGE,
+        ESCAPE,
+    ],
+}];
 
 /// The name of the command that has those about transforms.
 const TRANSFORM: &str = "transform";
 
-/// Returns the commands. Proofs go through all rows in each function that names a table, with a cost by their square.
-/// So there are six tables, and a function for each.
 fn commands() -> [&'static [Row]; 5] {
     [
         table_commands(),
@@ -763,7 +666,7 @@ fn program<'a>(alloc: Global) -> Result<Command<'a>, AllocError> {
 
 fn transform_command<'a>(alloc: Global) -> Result<Command<'a>, AllocError> {
     let mut command = Command::new(alloc, TRANSFORM)
-        .about("Makes transforms, prints them, and applies them to packages")
+        .about("Prints transforms")
         .subcommand_required(true);
     for row in transform_commands() {
         command = command.subcommand(command_of(alloc, row)?)?;
@@ -807,12 +710,6 @@ fn arg_of<'a>(alloc: Global, argument: &Argument) -> Result<Arg<'a>, AllocError>
             .allow_hyphen_values(true),
         Form::Lettered(letter, name) => arg.long(id).short(letter).value_name(name),
         Form::Needed(letter, name) => arg.long(id).short(letter).value_name(name).required(true),
-        Form::Choices(name, values) => arg
-            .long(id)
-            .value_name(name)
-            .value_parser(values)
-            .value_delimiter(',')
-            .action(ArgAction::Append),
         Form::Choice(name, values) => arg.long(id).value_name(name).value_parser(values),
         Form::Default(name, value, values) => arg
             .long(id)
