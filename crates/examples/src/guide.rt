@@ -243,7 +243,7 @@ fn transform_file(
     }
 }
 
-/// Changes a package by the file of a transform, where no fault passes.
+/// Applies the transform in a file to a package. No error of a record is ignored.
 fn apply_file(alloc: Global, package: &mut Package<Memory>, file: Vec<u8>) -> Result<(), Error> {
     let transform = Transform::read(alloc, file)?;
     match package.apply_transform(&transform, ErrorConditions::default()) {
