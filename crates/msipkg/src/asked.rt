@@ -17,8 +17,12 @@ pub(crate) struct Asked<'a, 'b> {
 }
 
 impl<'a, 'b> Asked<'a, 'b> {
+    /// Returns the path of the file that the command is about.
     pub(crate) fn file(&self) -> &'a str {
-        self.text("FILE")
+        match self.verb {
+            Verb::MakeTransform => self.text("OLD"),
+            _ => self.text("FILE"),
+        }
     }
 
     pub(crate) fn package<'c>(&self, path: &'c str, purpose: Purpose) -> PackageFile<'c> {

@@ -1,7 +1,9 @@
 //! What a command asks for, made once from its words.
 
 use crate::asked::Asked;
-use msipkg_changes::{Change, Import, Manner, Merging, prepare_statements};
+use msipkg_changes::{
+    Change, Destination, Import, Manner, Merging, Transforms, prepare_statements,
+};
 use msipkg_checks::CheckOptions;
 use msipkg_cli::{QUERY_USAGE, Verb};
 use msipkg_export::{FileFormat, Target};
@@ -10,6 +12,7 @@ use msipkg_packages::Folder;
 use msipkg_queries::Written;
 use msipkg_search::{Referred, Search, Wanted, Way};
 use msipkg_show::{Form, Format, Look, Query, read_query};
+use msipkg_transforms::{ErrorConditions, Making, conditions_of, validation_of};
 use std::alloc::Global;
 
 /// The refusal of streams beside a storage.
@@ -33,10 +36,20 @@ pub(crate) enum Command<'a, 'b> {
         is_forced: bool,
     },
     Change(Change<'a, 'b>),
+    /// It makes a new file of a package, with a change made.
+    ChangeInto {
+        change: Change<'a, 'b>,
+        target: Destination<'a>,
+    },
     /// It prints a transform, beside the package that it is for.
     ShowTransform {
         base: Option<&'a str>,
         is_json: bool,
+    },
+    /// It makes the transform of two packages.
+    MakeTransform {
+        new: &'a str,
+        made: Making<'a>,
     },
     /// It carries out the statements of a file.
     Script(&'a str),
@@ -112,6 +125,11 @@ impl<'a, 'b> Command<'a, 'b> {
                 base: asked.option("BASE"),
                 is_json,
             },
+            Verb::ApplyTransform => apply_of(asked)?,
+            Verb::MakeTransform => Command::MakeTransform {
+                new: asked.text("NEW"),
+                made: making_of(asked)?,
+            },
             Verb::Batch => Command::Batch,
         })
     }
@@ -123,7 +141,9 @@ impl<'a, 'b> Command<'a, 'b> {
             Command::Look { task, .. } => task.failure_status(),
             Command::New { .. }
             | Command::Change(_)
+            | Command::ChangeInto { .. }
             | Command::ShowTransform { .. }
+            | Command::MakeTransform { .. }
             | Command::Script(_)
             | Command::Batch => 1,
         }
@@ -300,6 +320,45 @@ fn exec_of<'a, 'b>(alloc: Global, asked: &Asked<'a, 'b>) -> Result<Command<'a, '
     }
     let statements = prepare_statements(alloc, asked.texts("TEXT"), asked.values)?;
     Ok(Command::Change(Change::Execute(statements)))
+}
+
+/// The package itself is changed, unless a file is named for the result.
+fn apply_of<'a, 'b>(asked: &Asked<'a, 'b>) -> Result<Command<'a, 'b>, Failure> {
+    let change = Change::Transforms(Transforms {
+        words: asked.texts("T"),
+        passing: passing_of(asked)?,
+    });
+    Ok(match asked.option("output") {
+        Some(path) => Command::ChangeInto {
+            change,
+            target: Destination {
+                path,
+                is_forced: asked.has("force"),
+            },
+        },
+        None => Command::Change(change),
+    })
+}
+
+/// Returns which faults are to pass, if that is said.
+fn passing_of(asked: &Asked<'_, '_>) -> Result<Option<ErrorConditions>, Failure> {
+    if asked.has("strict") {
+        return Ok(Some(ErrorConditions::default()));
+    }
+    match asked.given.get_strs("ignore") {
+        Some(words) => Ok(Some(conditions_of(words)?)),
+        None => Ok(None),
+    }
+}
+
+fn making_of<'a>(asked: &Asked<'a, '_>) -> Result<Making<'a>, Failure> {
+    Ok(Making {
+        path: asked.text("OUT"),
+        is_forced: asked.has("force"),
+        validated: validation_of(asked.texts("validate"))?,
+        passing: conditions_of(asked.texts("ignore"))?,
+        is_json: asked.has("json"),
+    })
 }
 
 fn export_of<'a, 'b>(asked: &Asked<'a, 'b>) -> Task<'a, 'b> {

@@ -6,13 +6,15 @@ use crate::escapes::escapes_of;
 use crate::looking::look_at_each;
 use clap::ArgMatches;
 use clap::error::ErrorKind;
-use msipkg_changes::{Change, change_file, create_file, prepare_statements, read_script};
+use msipkg_changes::{
+    Change, Destination, change_file, change_into, create_file, prepare_statements, read_script,
+};
 use msipkg_cli::{given_verb, matches_of};
 use msipkg_diff::compare_files;
 use msipkg_format::{Failure, Output, Shown, Style, System};
 use msipkg_packages::Purpose;
 use msipkg_queries::{MarkValue, mark_values};
-use msipkg_transforms::show_transform;
+use msipkg_transforms::{Making, make_transform, show_transform};
 use std::alloc::{AllocError, Global};
 
 /// The exit status where the reader of the output has gone away: that of a program which the signal for it ended.
@@ -206,19 +208,12 @@ fn obey(
             Ok(0)
         }
         Command::Change(made) => change(rt, asked, made, output, errors),
+        Command::ChangeInto { change, target } => make(rt, asked, change, target, errors),
         Command::ShowTransform { base, is_json } => {
-            let base = base.map(|path| asked.package(path, Purpose::Look));
-            let transform = asked.file();
-            show_transform(
-                rt,
-                asked.style,
-                transform,
-                base.as_ref(),
-                is_json,
-                output,
-                errors,
-            )?;
-            Ok(0)
+            print_transform(rt, asked, base, is_json, output, errors)
+        }
+        Command::MakeTransform { new, made } => {
+            make_between(rt, asked, new, &made, output, errors)
         }
         Command::Script(path) => execute_script(rt, asked, path, output, errors),
         Command::Batch => Err(Failure::rule("batch is no command of a batch")),
@@ -248,6 +243,45 @@ pub(crate) fn with_input(rt: &System, files: &[&str]) -> Result<System, Failure>
     }
 }
 
+/// Prints a transform, beside a package if one is named.
+fn print_transform(
+    rt: &System,
+    asked: &Asked<'_, '_>,
+    base: Option<&str>,
+    is_json: bool,
+    output: &mut Output,
+    errors: &mut Output,
+) -> Result<u8, Failure> {
+    let base = base.map(|path| asked.package(path, Purpose::Look));
+    let transform = asked.file();
+    show_transform(
+        rt,
+        asked.style,
+        transform,
+        base.as_ref(),
+        is_json,
+        output,
+        errors,
+    )?;
+    Ok(0)
+}
+
+/// Makes the transform from the package of the command to another one.
+fn make_between(
+    rt: &System,
+    asked: &Asked<'_, '_>,
+    new: &str,
+    made: &Making<'_>,
+    output: &mut Output,
+    errors: &mut Output,
+) -> Result<u8, Failure> {
+    let rt = with_input(rt, &[asked.file(), new])?;
+    let old = asked.package(asked.file(), Purpose::Look);
+    let new = asked.package(new, Purpose::Look);
+    make_transform(&rt, asked.style, &old, &new, made, output, errors)?;
+    Ok(0)
+}
+
 fn compare(
     rt: &System,
     asked: &Asked<'_, '_>,
@@ -274,6 +308,20 @@ fn change(
     let purpose = asked.purpose_of_change(Purpose::Recode);
     let file = asked.package(asked.file(), purpose);
     change_file(rt, &file, made, manner_of(asked), output, errors)?;
+    Ok(0)
+}
+
+/// Makes a new file of a package, with a change made.
+fn make(
+    rt: &System,
+    asked: &Asked<'_, '_>,
+    change: Change<'_, '_>,
+    target: Destination<'_>,
+    errors: &mut Output,
+) -> Result<u8, Failure> {
+    let purpose = asked.purpose_of_change(Purpose::Recode);
+    let file = asked.package(asked.file(), purpose);
+    change_into(rt, &file, change, target, manner_of(asked), errors)?;
     Ok(0)
 }
 

@@ -30,6 +30,8 @@ pub(crate) fn escapes_of(verb: Verb, given: &ArgMatches<'_>, is_terminal: bool) 
         | Verb::Exec
         | Verb::Export
         | Verb::Import
+        | Verb::ApplyTransform
+        | Verb::MakeTransform
         | Verb::Batch => Escapes::Nothing,
     }
 }

@@ -4,8 +4,9 @@ use crate::outcome::Outcome;
 use crate::pages::recode;
 use crate::recounting::{mend_first, noted};
 use crate::statements::{PreparedStatement, carry_out_statements};
-use crate::storing::store;
+use crate::storing::{Destination, store, store_new};
 use crate::streams::{add_streams, remove_parts};
+use crate::transforming::{Transforms, apply_transforms};
 use msipkg_format::Style;
 use msipkg_import::{Before, Losses, Merging, import_given, note_losses};
 use msipkg_import_files::read_files;
@@ -28,6 +29,8 @@ pub enum Change<'a, 'b> {
     Execute(Vec<PreparedStatement<'b>>),
     /// It gets what files have.
     Import(Import<'a, 'b>),
+    /// Transforms are applied.
+    Transforms(Transforms<'a, 'b>),
     /// Properties of its summary are set, each given as `NAME=VALUE`, and then others are cleared.
     Properties {
         set: &'b [&'a str],
@@ -88,6 +91,28 @@ pub fn change_file(
     Ok(())
 }
 
+/// Makes a file of the package of another one, with a change made: all of the change, or no file. The other file stays
+/// as it is. `notes` gets lines that say what else the change does, and then what each statement did.
+///
+/// # Errors
+/// Fails as `open_to_change`, the change, `FileBytes::of` and `write_package` do.
+pub fn change_into(
+    rt: &System,
+    file: &PackageFile<'_>,
+    change: Change<'_, '_>,
+    target: Destination<'_>,
+    manner: Manner,
+    notes: &mut Output,
+) -> Result<(), Failure> {
+    let mut outcome = Outcome::new(rt.alloc());
+    let (package, state) = changed_package(rt, file, change, manner, &mut outcome, notes)?;
+    store_new(rt, target, package, state, manner, notes)?;
+    outcome.note_added(target.path, notes);
+    outcome.note_mended(target.path, notes);
+    outcome.note_carried(target.path, notes);
+    Ok(())
+}
+
 /// Returns the package of a file with the change made, and how the file differed from it when it was opened.
 fn changed_package(
     rt: &System,
@@ -99,8 +124,10 @@ fn changed_package(
 ) -> Result<(Package<Opened>, FileState), Failure> {
     let (mut package, state) = open_to_change(rt, file, notes)?;
     let before = Before::of(rt.alloc(), &package)?;
+    // A transform that brings `_Validation` doesn't make the package anew for it.
+    let is_transformed = matches!(change, Change::Transforms(_));
     apply(rt, file.path, &mut package, change, manner, outcome, notes)?;
-    if let Some(added) = before.added(rt, file.path, &package)? {
+    if !is_transformed && let Some(added) = before.added(rt, file.path, &package)? {
         outcome.add_validation(added);
     }
     if outcome.is_anew() {
@@ -130,6 +157,7 @@ fn apply(
             let losses = &mut Losses::new(file, notes);
             import_files(rt, package, asked, manner, outcome, losses)
         }
+        Change::Transforms(asked) => apply_transforms(rt, file, package, asked, manner, outcome),
         Change::Properties { set, cleared } => set_properties(rt.alloc(), package, set, cleared),
     }
 }

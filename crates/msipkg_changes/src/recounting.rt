@@ -6,13 +6,11 @@ use crate::outcome::{Outcome, note_mended};
 use crate::pages::recode;
 use crate::storing::store;
 use msipkg_format::Shown;
-use msipkg_packages::msi::{ErrorKind, Package};
+use msipkg_packages::msi::Package;
 use msipkg_packages::output::{Failure, Opened, Output, System};
 use msipkg_packages::{Claim, PackageFile, open_to_change};
+use msipkg_transforms::is_miscounted;
 use std::alloc::Global;
-
-/// A table that is never dropped: the package says so, unless its counts are too low, which it says first.
-const KEPT_TABLE: &str = "_Tables";
 
 /// Counts the texts of a file's package anew and makes its empty texts null, and replaces the file if that changed
 /// something. Then `notes` gets lines that say how many.
@@ -72,7 +70,7 @@ fn mend(alloc: Global, package: &mut Package<Opened>) -> Result<Mended, Failure>
 
 /// Counts the texts of a package anew if their counts are too low for a change, unless that is to be refused.
 pub(crate) fn mend_first(package: &mut Package<Opened>, manner: Manner, outcome: &mut Outcome) {
-    if manner.is_strict || !is_refused_for_counts(package) {
+    if manner.is_strict || !is_miscounted(package) {
         return;
     }
     // Where this is refused, the change is too.
@@ -84,16 +82,9 @@ pub(crate) fn mend_first(package: &mut Package<Opened>, manner: Manner, outcome:
 /// Returns the failure of a change, with the note that counting the package anew mends it, if that is so. The package
 /// is counted anew then.
 pub(crate) fn noted(package: &mut Package<Opened>, failure: Failure) -> Failure {
-    if failure.is_invalid_data() && is_refused_for_counts(package) && package.recount().is_ok() {
+    if failure.is_invalid_data() && is_miscounted(package) && package.recount().is_ok() {
         failure.mended_by_counting()
     } else {
         failure
-    }
-}
-
-fn is_refused_for_counts(package: &mut Package<Opened>) -> bool {
-    match package.drop_table(KEPT_TABLE) {
-        Err(error) => matches!(error.kind(), ErrorKind::InvalidData),
-        Ok(()) => false,
     }
 }

@@ -2,7 +2,9 @@
 #![tactic(auto)]
 
 pub mod lines;
+pub mod tables;
 pub mod words;
 
 pub use lines::words_of;
-pub use words::{QUERY_USAGE, Verb, given_verb, matches_of};
+pub use tables::{QUERY_USAGE, Verb};
+pub use words::{given_verb, matches_of};

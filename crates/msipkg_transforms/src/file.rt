@@ -23,7 +23,7 @@ pub const PRODUCTS: u32 = 9;
 /// The id of the version of the installer that is needed.
 pub const PAGE_COUNT: u32 = 14;
 
-/// The id of the flags: what is validated in the upper half, and which faults pass in the lower.
+/// The id of the flags: what is validated in the upper half, and which errors are ignored in the lower.
 pub const FLAGS: u32 = 16;
 
 /// A transform, and the properties of its summary, if it has one that can be read.
@@ -43,7 +43,7 @@ impl Drop for TransformFile {
 }
 
 impl TransformFile {
-    /// Returns which faults pass at an installation: none where there is no summary.
+    /// Returns which errors an installation ignores: none where there is no summary.
     pub fn conditions(&self) -> ErrorConditions {
         match self.number(FLAGS) {
             Some(flags) => ErrorConditions::of_bits(flags.cast_unsigned()),

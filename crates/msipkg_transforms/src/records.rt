@@ -7,6 +7,7 @@ use msi_transform::Transform;
 use msi_transform_records::parts::{added_cells, changed_cells, key_cells};
 use msi_transform_records::{Action, Record, Shape, read_records};
 use msipkg_format::{Failure, Opened, push_key, said};
+use msipkg_packages::msi::transforms::RecordPlace;
 use msipkg_packages::msi::{Column, Error, Package, ValueView};
 use std::alloc::Global;
 
@@ -138,6 +139,21 @@ pub(crate) fn key_text(alloc: Global, key: &[ValueView<'_>]) -> Result<String, E
         push_key(*value, &mut text)?;
     }
     Ok(text)
+}
+
+/// Returns the key of a record as text, where the record can be read beside the package to which the transform is to be
+/// applied.
+pub fn key_at(
+    alloc: Global,
+    base: &Package<Opened>,
+    transform: &Transform,
+    place: RecordPlace,
+) -> Option<String> {
+    let (table, _) = transform.tables().nth(place.table)?;
+    let records = records_of(alloc, Some(base), transform, table.as_str()).ok()??;
+    let record = records.records.get(place.record_number)?;
+    let key = records.key(alloc, transform, record).ok()?;
+    key_text(alloc, key.as_slice()).ok()
 }
 
 /// Returns the records of a table, or none where the transform has none, or where its columns aren't known: those of a

@@ -1,5 +1,6 @@
 //! The words for what an installation validates before it applies a transform.
 
+use msipkg_format::Failure;
 use std::alloc::{AllocError, Global};
 
 /// What is validated: its flag in the upper half of the summary's property 16, and the word for it.
@@ -76,4 +77,28 @@ pub fn validation_words(alloc: Global, flags: u32) -> Result<String, AllocError>
         }
     }
     Ok(text)
+}
+
+/// Returns the sum of the flags that words name.
+///
+/// # Errors
+/// Fails at a word that names no flag.
+pub fn validation_of(words: &[&str]) -> Result<u32, Failure> {
+    let mut flags = 0;
+    for word in words {
+        match flag_of(word) {
+            Some(flag) => flags |= flag,
+            None => return Err(Failure::rule("nothing that is validated has this name")),
+        }
+    }
+    Ok(flags)
+}
+
+fn flag_of(name: &str) -> Option<u32> {
+    for word in &WORDS {
+        if word.word == name {
+            return Some(word.flag);
+        }
+    }
+    None
 }

@@ -4,6 +4,7 @@
 mod device_calls;
 mod devices;
 mod files;
+mod made_transforms;
 mod outcome;
 mod property_set;
 mod replays;
@@ -26,6 +27,11 @@ pub(crate) fn run(rt: &HostRuntime) -> bool {
         rt,
         &"a property set",
         property_set::a_set_is_written_and_read_back(alloc),
+    );
+    pass &= passes(
+        rt,
+        &"made transforms",
+        made_transforms::transforms_are_made_as_they_were(alloc),
     );
     pass &= passes(rt, &"files", files::opening_leaves_the_file_as_it_was(rt));
     pass & replays::a_list_of_calls_is_answered(rt)
