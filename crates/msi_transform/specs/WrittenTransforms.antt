@@ -1,11 +1,12 @@
 -- The file of a transform that was made: its streams, and when it isn't written.
 use Rattle.std.specs.Prelude.{◌≡◌, ℕ, ◌%◌, ◌^◌, ◌<◌, ◌≤◌, ◌++◌, Bool, false, not, List, length, drop, Option, Some, T}
-use Rattle.std.specs.Prelude.{option_map, option_and_then, ◌||◌, ◌⊎◌, IsTrue}
+use Rattle.std.specs.Prelude.{option_map, option_and_then, if◌then◌else◌, ◌||◌, ◌⊎◌, IsTrue}
 use Rattle.std.specs.FinMap.{entries, is_sorted}
 use Rattle.std.specs.List.{AllByRecursion, fold, list_any}
 use Rattle.std.specs.Option.{option_map_or}
 use Rattle.msi_base.specs.Lists.{list_cmp}
 use Rattle.msi_base.specs.Pages.{page_with_id}
+use Rattle.msi_base.specs.declared.codepage.CodePage.{CodePage}
 use Rattle.msi_pool.specs.Pool.{AreWritable, CountsFit, PlacesWritten, Pool, data_stream, header_of, pool_stream}
 use Rattle.msi_pool.specs.PoolWriting.{is_refused}
 use Rattle.msi_container_format.specs.Names.{name_cmp, named}
@@ -14,7 +15,7 @@ use Rattle.msi_container_write.specs.Layout.{refuses}
 use Rattle.msi_database_schema.specs.Keys.{is_table_name, summary_key, table_key}
 use Rattle.msi_database_storage.specs.Streams.{Streams, with_stream}
 use Rattle.msi_transform.specs.StoredPools.{data_key, pool_key}
-use Rattle.msi_transform.specs.TransformFiles.{IsTransform, is_table_key, transform_clsid}
+use Rattle.msi_transform.specs.TransformFiles.{IsTransform, is_table_key, is_utf8, transform_clsid}
 use Rattle.msi_transform.specs.Transforms.{TransformDef}
 
 -- the pool's stream with another id of the page
@@ -50,6 +51,13 @@ pub record AreWritten (t : TransformDef) (c : Contents) : Type 0 where
 -- with this stream as its summary, in place of one that is there
 abbrev pub with_summary : List ℕ → TransformDef → TransformDef
 with_summary bytes t = record t { streams = with_stream summary_key bytes t.streams }
+
+-- with a neutral page, where its page is UTF-8
+abbrev pub neutral_id : CodePage → ℕ → ℕ
+neutral_id page id = if is_utf8 page then 0 else id
+
+abbrev pub as_neutral : TransformDef → TransformDef
+as_neutral t = record t { page_id = neutral_id t.pool.page t.page_id }
 
 -- why it has no file: its streams can't be written, or the file would be too large
 abbrev pub HasNoFile : TransformDef → Type 0

@@ -13,7 +13,8 @@ ghost use Rattle.msi_transform.specs.TransformFiles.{IsReadRefusal, IsTransform,
 ghost use Rattle.msi_transform.specs.TransformFiles.{keeps_texts as are_texts_kept, knows_clsid, pool_read_steps};
 ghost use Rattle.msi_transform.specs.TransformFiles.{read_steps, transform_clsid, transform_in};
 ghost use Rattle.msi_transform.specs.Transforms.{records_for};
-ghost use Rattle.msi_transform.specs.WrittenTransforms.{AreWritten, HasNoFile, IsMade, is_unwritable, with_summary};
+ghost use Rattle.msi_transform.specs.WrittenTransforms.{AreWritten, HasNoFile, IsMade, as_neutral, is_unwritable};
+ghost use Rattle.msi_transform.specs.WrittenTransforms.{neutral_id as id_if_neutral, with_summary};
 
 use crate::kept_texts::keeps_texts;
 use crate::reasons;
@@ -21,6 +22,7 @@ use crate::records_by_table::RecordsByTable;
 use crate::stored_pool::{page_id_in, pool_in};
 use crate::table_streams::take_records;
 use crate::written::{check_names, put_pool};
+use msi_base::codepage::CodePage;
 use msi_base::errors::{Error, ErrorKind};
 use msi_container_format::contents::{Bytes, Contents, StreamMap};
 use msi_container_read::read_shared;
@@ -60,6 +62,12 @@ impl Model for Transform {
       tables = entries t.tables;
       streams = entries t.streams;
     } };
+}
+
+fn neutral_id(page: CodePage, page_id: u32) -> u32
+    ensures { result ≡ id_if_neutral page page_id }
+{
+    if page == CodePage::Utf8 { 0 } else { page_id }
 }
 
 impl Transform {
@@ -114,6 +122,14 @@ impl Transform {
             tables,
             streams,
         }
+    }
+
+    /// Makes the page neutral if it is UTF-8: the transform then leaves the page of a package, and is for those of any.
+    pub fn make_neutral(&mut self)
+        ensures left { self.new ≡ as_neutral self.old }
+        ensures made { IsMade self.old → IsMade self.new }
+    {
+        self.page_id = neutral_id(self.pool.codepage(), self.page_id);
     }
 
     /// Puts the stream of the summary among the others, in place of one that is there.

@@ -1,7 +1,8 @@
 //! `transform make OLD NEW OUT`: the transform of two packages.
 
-ghost use Rattle.std.specs.Prelude.{◌≡◌, IfOk, Ok};
+ghost use Rattle.std.specs.Prelude.{◌≡◌, ◌&&◌, IfOk, IsErr, IsTrue, Ok, OnErr, OnOk, if◌then◌else◌, not};
 ghost use Rattle.msi.specs.TransformMaking.{transform_made};
+ghost use Rattle.msi_transform.specs.WrittenTransforms.{as_neutral};
 
 use crate::holdings::Holdings;
 use crate::left_out::LeftOut;
@@ -10,10 +11,13 @@ use crate::summary::summary_of;
 use crate::transform_bytes::{TransformBytes, write_transform};
 use msi_transform::{ErrorConditions, Transform};
 use msipkg_format::{Failure, JsonObject, Opened, Output, Shown, Style, System, at_file};
-use msipkg_packages::msi::Package;
 use msipkg_packages::msi::transforms::MakingRefusal;
+use msipkg_packages::msi::{CodePage, Package};
 use msipkg_packages::{PackageFile, check_way, file_page, is_list, open_package};
 use std::alloc::Global;
+
+/// Why no transform is made of packages in which counts were mended, as the library says it of others.
+const PAGE_LOST: &str = "a transform can't make the code page of a package neutral";
 
 /// What a flag in the upper half of the summary's property 16 is multiplied by.
 const UPPER: u32 = 0x10000;
@@ -33,10 +37,11 @@ pub struct Making<'a> {
     pub is_json: bool,
 }
 
-/// A package that was opened, and the page that its file names.
+/// A package that was opened, the page that its file names, and whether that is neutral.
 struct Side {
     package: Package<Opened>,
     page: Option<i32>,
+    is_neutral: bool,
 }
 
 /// Written out, so that a function that owns one calls one drop, and its proof doesn't go through those of the parts.
@@ -45,6 +50,7 @@ impl Drop for Side {
         let Side {
             package: _,
             page: _,
+            is_neutral: _,
         } = self;
     }
 }
@@ -75,7 +81,9 @@ pub fn make_transform(
         Ok(side) => side,
         Err(failure) => return Err(failure.at(alloc, "file", new.path)),
     };
-    let made = made_of(alloc, &mut old.package, &mut new.package)?;
+    name_pages(&mut old, &mut new);
+    let mut made = made_of(alloc, &mut old.package, &mut new.package)?;
+    keep_neutral(&old, &new, &mut made)?;
     let has_page = old.page != new.page;
     if made.tables().len() == 0 && !has_page {
         return Err(Failure::rule("nothing differs that a transform has"));
@@ -102,7 +110,22 @@ fn side_of(rt: &System, file: &PackageFile<'_>, notes: &mut Output) -> Result<Si
         // Where this is refused, the transform is too.
         let _mended = package.recount();
     }
-    Ok(Side { package, page })
+    Ok(Side {
+        package,
+        page,
+        is_neutral: page == Some(0) && file.page.is_none(),
+    })
+}
+
+/// Names the pages of neutral packages, as mending the counts of one does with its page. So both still have the same.
+fn name_pages(old: &mut Side, new: &mut Side) {
+    if old.is_neutral && new.is_neutral {
+        // Refused for storages alone: then a page that isn't named says no more than the other.
+        let named = new.package.set_database_codepage(CodePage::Utf8);
+        if named.is_ok() {
+            let _named = old.package.set_database_codepage(CodePage::Utf8);
+        }
+    }
 }
 
 /// Returns the transform from one package to another.
@@ -119,6 +142,25 @@ fn made_of(
         Ok(made) => Ok(made),
         Err(refusal) => Err(failure_of(alloc, new, refusal)),
     }
+}
+
+/// Makes the page neutral again where that of the new package is.
+///
+/// # Errors
+/// Fails if that of the old one isn't: no transform makes it so.
+fn keep_neutral(old: &Side, new: &Side, made: &mut Transform) -> Result<(), Failure>
+    ensures left { OnOk result (made.new ≡ (if new.now.is_neutral then as_neutral made.old else made.old)) }
+    ensures lost { IsTrue (new.now.is_neutral && not old.now.is_neutral) → IsErr result }
+    ensures kept { OnErr result (IsTrue (new.now.is_neutral && not old.now.is_neutral)) }
+{
+    if !new.is_neutral {
+        return Ok(());
+    }
+    if !old.is_neutral {
+        return Err(Failure::rule(PAGE_LOST));
+    }
+    made.make_neutral();
+    Ok(())
 }
 
 /// Returns the failure of packages of which no transform is made, at the table that is the reason, if one is.

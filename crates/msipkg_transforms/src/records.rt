@@ -251,11 +251,16 @@ fn add_columns(
     for record in &described.records {
         if let Some(added) = added_column(alloc, transform, &described, record)?
             && added.table == table
+            && !has_column(columns.as_slice(), added.column.name())
         {
             columns.push(added.column)?;
         }
     }
     Ok(())
+}
+
+fn has_column(columns: &[Column], name: &str) -> bool {
+    columns.iter().any(|column| column.name() == name)
 }
 
 fn records_of_columns(
