@@ -1,7 +1,10 @@
 //! `transform make OLD NEW OUT`: the transform of two packages.
 
-ghost use Rattle.std.specs.Prelude.{◌≡◌, ◌&&◌, IfOk, IsErr, IsTrue, Ok, OnErr, OnOk, if◌then◌else◌, not};
+ghost use Rattle.std.specs.Prelude.{◌≡◌, ◌&&◌, ◌⊎◌, IfOk, IsErr, IsTrue, Ok, OnErr, OnOk, if◌then◌else◌, not};
+ghost use Rattle.msi.specs.Steps.{with_page};
+ghost use Rattle.msi.specs.Text.CodePage.TheVariants.{Utf8};
 ghost use Rattle.msi.specs.TransformMaking.{transform_made};
+ghost use Rattle.msi.specs.Whole.{with_state};
 ghost use Rattle.msi_transform.specs.WrittenTransforms.{as_neutral};
 
 use crate::holdings::Holdings;
@@ -118,9 +121,14 @@ fn side_of(rt: &System, file: &PackageFile<'_>, notes: &mut Output) -> Result<Si
 }
 
 /// Names the pages of neutral packages, as mending the counts of one does with its page. So both still have the same.
-fn name_pages(old: &mut Side, new: &mut Side) {
+fn name_pages(old: &mut Side, new: &mut Side)
+    ensures old { let p = old.old.package in
+        (old.new.package ≡ p) ⊎ (old.new.package ≡ with_state (with_page Utf8 p.state) p) }
+    ensures new { let p = new.old.package in
+        (new.new.package ≡ p) ⊎ (new.new.package ≡ with_state (with_page Utf8 p.state) p) }
+{
     if old.is_neutral && new.is_neutral {
-        // Refused for storages alone: then a page that isn't named says no more than the other.
+        // Where this is refused, the page stays as it is.
         let named = new.package.set_database_codepage(CodePage::Utf8);
         if named.is_ok() {
             let _named = old.package.set_database_codepage(CodePage::Utf8);
