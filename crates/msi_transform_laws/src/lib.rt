@@ -1,0 +1,7 @@
+//! Laws of transforms: applying the transform that was made of two databases to the first gives the second.
+//!
+//! Each law is the contract of a function that does nothing.
+#![tactic(auto)]
+
+pub mod carried_out;
+pub mod records_read;
