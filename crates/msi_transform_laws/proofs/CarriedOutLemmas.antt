@@ -48,7 +48,7 @@ less Equal h = absurd h
 less Greater h = refl
 
 -- a key before all others isn't among them
-below_none : (q : List Value) (es : ToldRows) → T (below_all key_cmp q es) → find key_cmp q es ≡ None
+pub below_none : (q : List Value) (es : ToldRows) → T (below_all key_cmp q es) → find key_cmp q es ≡ None
 below_none q [] h = refl
 below_none q (e ∷ es) h =
     let p = T_parts (is_lt (key_cmp q e.0)) (below_all key_cmp q es) h in
@@ -61,14 +61,14 @@ found_row P q (e ∷ es) all = by_test (eq_by_cmp key_cmp q e.0)
     (λ t. rw t (subst (λ (k : List Value). P (k, e.1)) (sym (same q e.0 t)) all.0))
     (λ t. rw t (found_row P q es all.1))
 
-not_some : {A P : Type 0} (x : A) → Some x ≡ None → P
+pub not_some : {A P : Type 0} (x : A) → Some x ≡ None → P
 not_some x h = yes_is_no true refl (ap is_some h)
 
 module _ (columns : List ColumnDef) where
   -- ONE RECORD
 
   -- what it makes of the row at its key
-  abbrev done_with : ToldRecord → Action → Option ToldRow → Option ToldRow
+  abbrev pub done_with : ToldRecord → Action → Option ToldRow → Option ToldRow
   done_with r Remove row = None
   done_with r (Change mask) row = option_map (changed_row columns r) row
   done_with r (Add k) row = Some (added_row columns r)
@@ -90,10 +90,10 @@ module _ (columns : List ColumnDef) where
         | Some row ↦ λ f. find-put key_cmp keys_total q r.key (change row) rows ∙ by_test (eq_by_cmp key_cmp q r.key) (λ t. rw (t, at t, f) refl) (λ t. rw t refl)
       ] refl
 
-  abbrev row_done : ToldRecord → Option ToldRow → Option ToldRow
+  abbrev pub row_done : ToldRecord → Option ToldRow → Option ToldRow
   row_done r row = done_with r r.action row
 
-  sorted_by : (rows : ToldRows) (r : ToldRecord) (a : Action) → T (is_sorted key_cmp rows) → T (is_sorted key_cmp (done_by columns rows r a))
+  pub sorted_by : (rows : ToldRows) (r : ToldRecord) (a : Action) → T (is_sorted key_cmp rows) → T (is_sorted key_cmp (done_by columns rows r a))
   sorted_by rows r Remove h = is_sorted-where_key key_cmp (λ (x : List Value). not (eq_by_cmp key_cmp r.key x)) rows h
   sorted_by rows r (Add k) h = is_sorted-put key_cmp keys_total r.key (added_row columns r) rows h
   sorted_by rows r (Change mask) h =
@@ -156,16 +156,16 @@ module _ (columns : List ColumnDef) where
 -- THE RECORDS OF WHAT DIFFERS
 
 -- those of the rows that pass a test
-abbrev tell_if : (List Value × ToldRow → Bool) → (List Value × ToldRow → ToldRecord) → List Value × ToldRow → Option ToldRecord
+abbrev pub tell_if : (List Value × ToldRow → Bool) → (List Value × ToldRow → ToldRecord) → List Value × ToldRow → Option ToldRecord
 tell_if test f e = cond (test e) (Some (f e)) None
 
-told_if : (test : List Value × ToldRow → Bool) (f : List Value × ToldRow → ToldRecord) (es : ToldRows) → map f (filter test es) ≡ filter_map (tell_if test f) es
+pub told_if : (test : List Value × ToldRow → Bool) (f : List Value × ToldRow → ToldRecord) (es : ToldRows) → map f (filter test es) ≡ filter_map (tell_if test f) es
 told_if test f [] = refl
 told_if test f (e ∷ es) = by_test (test e)
     (λ t. rw t (ap (λ (rs : List ToldRecord). f e ∷ rs) (told_if test f es)))
     (λ t. rw t (told_if test f es))
 
-own_if : (test : List Value × ToldRow → Bool) (f : List Value × ToldRow → ToldRecord) → ((e : List Value × ToldRow) → (f e).key ≡ e.0)
+pub own_if : (test : List Value × ToldRow → Bool) (f : List Value × ToldRow → ToldRecord) → ((e : List Value × ToldRow) → (f e).key ≡ e.0)
     → (e : List Value × ToldRow) (r : ToldRecord) → tell_if test f e ≡ Some r → r.key ≡ e.0
 own_if test f keys e r = elim (test e) as (λ b. cond b (Some (f e)) None ≡ Some r → r.key ≡ e.0) [
   | true ↦ λ is. let this : f e ≡ r = cc in ap (λ (s : ToldRecord). s.key) (sym this) ∙ keys e
@@ -173,11 +173,11 @@ own_if test f keys e r = elim (test e) as (λ b. cond b (Some (f e)) None ≡ So
 ]
 
 module _ (columns : List ColumnDef) where
-  abbrev change_by : Option ToldRow → List Value × ToldRow → Option ToldRecord
+  abbrev pub change_by : Option ToldRow → List Value × ToldRow → Option ToldRecord
   change_by old e = option_and_then (λ other. let marked = differing other e.1 in
       if can_be_marked marked && nat_lt 0 (length marked) then Some (changing columns marked e) else None) old
 
-  own_change : (old : Option ToldRow) (e : List Value × ToldRow) (r : ToldRecord) → change_by old e ≡ Some r → r.key ≡ e.0
+  pub own_change : (old : Option ToldRow) (e : List Value × ToldRow) (r : ToldRecord) → change_by old e ≡ Some r → r.key ≡ e.0
   own_change None e r is = not_some r (sym is)
   own_change (Some other) e r is =
       elim (can_be_marked (differing other e.1) && nat_lt 0 (length (differing other e.1))) as (λ b. cond b (Some (changing columns (differing other e.1) e)) None ≡ Some r → r.key ≡ e.0) [
@@ -185,7 +185,7 @@ module _ (columns : List ColumnDef) where
         | false ↦ λ is. not_some r (sym is)
       ] is
 
-  abbrev replaced_by : Option ToldRow → List Value × ToldRow → Bool
+  abbrev pub replaced_by : Option ToldRow → List Value × ToldRow → Bool
   replaced_by others e = option_map_or (λ other. not (can_be_marked (differing other e.1))) others true
 
   no_more : (n : ℕ) (values : List Value) → length values ≡ n → values ++ replicate (n - length values) Null ≡ values
@@ -196,7 +196,7 @@ module _ (columns : List ColumnDef) where
   row_again q new is = ap (λ (vs : List Value). record { values = vs; stream = new.stream }) (no_more (length columns) new.values is.row.long)
 
   -- what becomes of the row of one key
-  abbrev tell_removed : Option ToldRow → List Value × ToldRow → Option ToldRecord
+  abbrev pub tell_removed : Option ToldRow → List Value × ToldRow → Option ToldRecord
   tell_removed new = tell_if (replaced_by new) (λ e. removal e.0)
 
   abbrev tell_added : Option ToldRow → List Value × ToldRow → Option ToldRecord

@@ -86,10 +86,10 @@ stream_same (Some x) (Some y) h = ap Some ((bytes_eq-Decides x y).0 h)
 abbrev differing_from : ℕ → Bool → List Value → List Value → List ℕ
 differing_from n same olds news = map (λ e. e.0) (filter (λ e. not (same_value same e.1)) (enumerate_from n (zip olds news)))
 
-abbrev is_in : List ℕ → ℕ → Bool
+abbrev pub is_in : List ℕ → ℕ → Bool
 is_in numbers i = list_any (λ j. j == i) numbers
 
-rising : (n : ℕ) (same : Bool) (olds news : List Value) → Above n (differing_from n same olds news)
+pub rising : (n : ℕ) (same : Bool) (olds news : List Value) → Above n (differing_from n same olds news)
 rising n same olds news = numbers_rise {X = Value × Value} (λ e. not (same_value same e.1)) n n (zip olds news) (omega arith)
 
 turned_from : (n : ℕ) (same : Bool) (olds news : List Value) → differing_from n same olds news ≡ differing_from n same news olds
@@ -149,14 +149,14 @@ abbrev has_key_of_streams : List ColumnDef → Bool
 has_key_of_streams columns = list_any is_key_of_streams columns
 
 module _ (marked : List ℕ) (same : Bool) where
-  abbrev marked_from : ℕ → List ColumnDef → List Value → List (ℕ × (ColumnDef × Value))
+  abbrev pub marked_from : ℕ → List ColumnDef → List Value → List (ℕ × (ColumnDef × Value))
   marked_from n columns values = filter (is_marked_in marked) (enumerate_from n (zip columns values))
 
   abbrev changes_from : ℕ → List ColumnDef → List Value → List Told
   changes_from n columns values = filter (λ e. not (is_of_key e)) (map told_column (marked_from n columns values))
 
   -- the told columns beside the values of a change
-  pairs : (mask : ℕ) → ((i : ℕ) → has_bit mask (2 ^ i) ≡ is_in marked i) → (n : ℕ) (columns : List ColumnDef) (values : List Value) → length values ≡ length columns
+  pub pairs : (mask : ℕ) → ((i : ℕ) → has_bit mask (2 ^ i) ≡ is_in marked i) → (n : ℕ) (columns : List ColumnDef) (values : List Value) → length values ≡ length columns
       → zip (told_from n (shapes_of columns) (Change mask)) (map (λ e. e.1) (map (λ e. e.1) (marked_from n columns values))) ≡ map told_column (marked_from n columns values)
   pairs mask bits n [] [] h = refl
   pairs mask bits n [] (v ∷ vs) h = refl

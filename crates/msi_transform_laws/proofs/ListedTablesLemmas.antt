@@ -83,7 +83,7 @@ none_among : (q : List Value) (names : List (List ℕ)) → ((n : List ℕ) → 
 none_among q [] h = refl
 none_among q (n ∷ ns) h = rw (h n, none_among q ns h) refl
 
-exact_names : (m n : List ℕ) → eq_by_cmp list_cmp m n ≡ true → m ≡ n
+pub exact_names : (m n : List ℕ) → eq_by_cmp list_cmp m n ≡ true → m ≡ n
 exact_names m n t = (bytes_decides m n).0 (sym (is_eq-slice_cmp m n) ∙ t)
 
 module _ (m : List ℕ) where

@@ -19,7 +19,7 @@ use Rattle.msi_transform_laws.proofs.StoredRecordsLemmas.{neither, stored_record
 
 -- what a transform that is made stands on
 module _ (page_id : ℕ) (new : Kept) (tables : List ToldTable) (t : TransformDef) where
-  abbrev Stored : Type 0
+  abbrev pub Stored : Type 0
   Stored = (s : List (ToldTable × List Record) × PoolInUse) × (stored_tables tables ≡ Some s) × (transform_with page_id new tables s ≡ t)
 
   same_ok : (a b : TransformDef) → ◌≡◌ {A = Result TransformDef ErrorKind} (Ok a) (Ok b) → a ≡ b
@@ -32,7 +32,7 @@ module _ (page_id : ℕ) (new : Kept) (tables : List ToldTable) (t : TransformDe
   stored_by None is e = not_ok InvalidInput e
   stored_by (Some s) is e = (s, is, same_ok (transform_with page_id new tables s) t e)
 
-  made_by : (o : Option ErrorKind) → (unless o tables >>= transform_of page_id new) ≡ Ok t → Stored
+  pub made_by : (o : Option ErrorKind) → (unless o tables >>= transform_of page_id new) ≡ Ok t → Stored
   made_by None e = stored_by (stored_tables tables) refl e
   made_by (Some kind) e = not_ok kind e
 
@@ -87,7 +87,7 @@ names_of_told old new [] = refl
 names_of_told old new (n ∷ ns) = ap (λ (l : List (List ℕ)). n ∷ l) (names_of_told old new ns)
 
 -- the tables of which something may be told
-abbrev lists : Kept → Kept → List ToldTable
+abbrev pub lists : Kept → Kept → List ToldTable
 lists old new = record {
   name = tables_name;
   shapes = shapes_of tables_columns;

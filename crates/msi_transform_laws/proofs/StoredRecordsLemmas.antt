@@ -284,7 +284,7 @@ all_stored = all_steps stored_table Later (λ s table e. AreStored s.places tabl
 
 -- WHERE A TABLE'S RECORDS ARE
 
-names_total : IsTotalOrder list_cmp
+pub names_total : IsTotalOrder list_cmp
 names_total = lists_total nat_cmp_total
 
 find_by_names : (name : List ℕ) (es : List (List ℕ × List ℕ)) → find list_cmp name (by_names es) ≡ find list_cmp name es

@@ -48,13 +48,13 @@ module _ (P : List Value × ToldRow → Type 0) where
         | Greater ↦ λ o. (all.0, each_put k v es h all.1)
       ] refl
 
-  each_by_keys : (es : ToldRows) → AllByRecursion P es → AllByRecursion P (by_keys es)
+  pub each_by_keys : (es : ToldRows) → AllByRecursion P es → AllByRecursion P (by_keys es)
   each_by_keys [] all = tt
   each_by_keys (e ∷ es) all = each_put e.0 e.1 (by_keys es) all.0 (each_by_keys es all.1)
 
 -- THE VALUES OF A ROW, AS THEY ARE TOLD
 
-abbrev no_key_of_streams : List ColumnDef → Type 0
+abbrev pub no_key_of_streams : List ColumnDef → Type 0
 no_key_of_streams columns = list_any is_key_of_streams columns ≡ false
 
 neither : (a b : Bool) → (a || b) ≡ false → (a ≡ false) × (b ≡ false)
@@ -179,7 +179,7 @@ only_with_streams true None = refl
 only_with_streams true (Some x) = refl
 only_with_streams false o = refl
 
-no_records : (rs : List ToldRecord) → (length rs == 0) ≡ true → rs ≡ []
+pub no_records : (rs : List ToldRecord) → (length rs == 0) ≡ true → rs ≡ []
 no_records [] h = refl
 no_records (r ∷ rs) h = yes_is_no (suc (length rs) == 0) h (ne_eqb (suc (length rs)) 0 (λ e. omega arith))
 
@@ -224,7 +224,7 @@ module _ (k : Kept) (name : List ℕ) (before : List ColumnDef) where
     whole_rows places (row ∷ rows) all =
         (whole_row (row_values places row) (length-map row (value_of_cell places) ∙ all.0), whole_rows places rows all.1)
 
-new_rows : (k : Kept) (name : List ℕ) → no_key_of_streams (columns_in_table k name) → HasWholeRows k name → AreNewRows (columns_in_table k name) (told_rows k name 0)
+pub new_rows : (k : Kept) (name : List ℕ) → no_key_of_streams (columns_in_table k name) → HasWholeRows k name → AreNewRows (columns_in_table k name) (told_rows k name 0)
 new_rows k name plain whole =
     let columns = columns_in_table k name in
     record {
@@ -233,7 +233,7 @@ new_rows k name plain whole =
           (whole_rows k name columns plain k.database.pool.places (system_rows k.database name) whole);
     }
 
-old_rows : (k : Kept) (name : List ℕ) (after : List ColumnDef) → GainsPlainColumns (columns_in_table k name) after → no_key_of_streams after → HasWholeRows k name
+pub old_rows : (k : Kept) (name : List ℕ) (after : List ColumnDef) → GainsPlainColumns (columns_in_table k name) after → no_key_of_streams after → HasWholeRows k name
     → AreOldRows after (told_rows k name (length after - length (columns_in_table k name)))
 old_rows k name after gains plain whole =
     let columns = columns_in_table k name in
@@ -247,7 +247,7 @@ old_rows k name after gains plain whole =
 
 -- A TABLE IS TOLD OF WHERE NOTHING DIFFERS
 
-none_dropped : (q : List Value) (es : ToldRows) → T (below_all key_cmp q es) → filter (λ (e : List Value × ToldRow). not (eq_by_cmp key_cmp q e.0)) es ≡ es
+pub none_dropped : (q : List Value) (es : ToldRows) → T (below_all key_cmp q es) → filter (λ (e : List Value × ToldRow). not (eq_by_cmp key_cmp q e.0)) es ≡ es
 none_dropped q [] h = refl
 none_dropped q (e ∷ es) h =
     let p = T_parts (is_lt (key_cmp q e.0)) (below_all key_cmp q es) h in
@@ -273,7 +273,7 @@ first_stays columns n (e ∷ es) plain are =
 
 -- ROWS OF A TABLE THAT COMES
 
-each_added : (es : ToldRows) → map addition es ≡ filter_map (λ e. Some (addition e)) es
+pub each_added : (es : ToldRows) → map addition es ≡ filter_map (λ e. Some (addition e)) es
 each_added [] = refl
 each_added (e ∷ es) = ap (λ (rs : List ToldRecord). addition e ∷ rs) (each_added es)
 

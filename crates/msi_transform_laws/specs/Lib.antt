@@ -1,3 +1,8 @@
 -- The words of this crate.
+pub mod CanFollow
 pub mod CarriedOut
 pub mod RecordsRead
+pub mod RowsApplied
+pub mod RowsBegun
+pub mod StreamsBrought
+pub mod TableApplied

@@ -3,5 +3,10 @@
 //! Each law is the contract of a function that does nothing.
 #![tactic(auto)]
 
+pub mod can_follow;
 pub mod carried_out;
 pub mod records_read;
+pub mod rows_applied;
+pub mod rows_begun;
+pub mod streams_brought;
+pub mod table_applied;
