@@ -48,6 +48,16 @@ module _ (streams : Streams) (change : TableChange) where
   later before after q (Some row) None stay h = absurd h
   later before after q (Some row) (Some other) stay h = record { long = h.long; values = row_stays row.cells before after (stay row refl) ∙ h.values; stream = h.stream }
 
+  pub alike_later : (before after : List Place) (rows : Rows) (valued : ToldRows) → HaveValuesOf streams change before rows valued → TextsStay (rows_uses (cells_of rows)) before after
+      → HaveValuesOf streams change after rows valued
+  alike_later before after rows valued alike stay = record {
+    sorted = alike.sorted;
+    sorted_too = alike.sorted_too;
+    many = alike.many;
+    each = λ q. later before after q (find key_cmp q rows) (find key_cmp q valued)
+        (λ row is n u. stay n (omega (arith, u, uses_of_rows rows n, found_within (uses_in n) q row rows is))) (alike.each q);
+  }
+
   pub both_there : (places : List Place) (q : List Value) (o : Option RowInHand) (p : Option ToldRow) → AreAlike streams change places q o p → is_some o ≡ is_some p
   both_there places q None None h = refl
   both_there places q None (Some other) h = absurd h

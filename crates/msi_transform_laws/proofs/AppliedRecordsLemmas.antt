@@ -1,6 +1,6 @@
 -- The records of a table applied to its rows, one after the other.
-use Rattle.std.proofs.Common.{◌≡◌, ℕ, zero, suc, ◌+◌, ◌≤◌, false, List, [], ◌∷◌, length, map, refl, ap, ◌∙◌, arith}
-use Rattle.std.specs.Prelude.{Result, Ok, count_by, ◌==◌}
+use Rattle.std.proofs.Common.{◌≡◌, ℕ, zero, suc, ◌+◌, ◌≤◌, false, List, [], ◌∷◌, ◌++◌, length, map, refl, sym, ap, ◌∙◌, arith}
+use Rattle.std.specs.Prelude.{Result, Ok, Err, count_by, ◌==◌}
 use Rattle.std.specs.List.{AllByRecursion, list_any}
 use Rattle.msi_base.specs.declared.codepage.CodePage.TheVariants.{Utf8}
 use Rattle.msi_base.specs.declared.errors.ErrorKind.{ErrorKind}
@@ -35,17 +35,44 @@ naming_cells rows n = let is = naming_is (alone rows) n in omega (arith, is)
 naming : (rows : Rows) (n : ℕ) → cells_naming rows n ≡ rows_uses (cells_of rows) n
 naming rows n = naming_cells (cells_of rows) n
 
-accounts_of : (others : Uses) (places : List Place) (rows : Rows) → CountsCells others places rows → Accounts others places rows
+pub accounts_of : (others : Uses) (places : List Place) (rows : Rows) → CountsCells others places rows → Accounts others places rows
 accounts_of others places rows counts zero = omega (arith, counts.from_one, naming rows 0)
 accounts_of others places rows counts (suc i) = omega (arith, counts.counts (suc i) (omega arith), naming rows (suc i), room_at places (suc i) (omega arith))
 
-counts_of : (others : Uses) (places : List Place) (rows : Rows) → Accounts others places rows → CountsCells others places rows
+pub counts_of : (others : Uses) (places : List Place) (rows : Rows) → Accounts others places rows → CountsCells others places rows
 counts_of others places rows accounts = record {
   counts = λ n from_one. omega (arith, accounts n, naming rows n, room_at places n from_one);
   from_one = omega (arith, accounts 0, naming rows 0);
 }
 
 -- ONE AFTER THE OTHER
+
+abbrev answer : {S : Type 0} → S → Result S Refusal
+answer s = Ok s
+
+same_answer : {S : Type 0} (s u : S) → answer s ≡ answer u → s ≡ u
+same_answer s u is = cc
+
+answered_first : {S : Type 0} (r : Result S Refusal) (f : S → Result S Refusal) (u : S) → (r >>= f) ≡ answer u → (x : S) × (r ≡ answer x) × (f x ≡ answer u)
+answered_first (Ok x) f u is = (x, refl, is)
+answered_first (Err refusal) f u is = cc
+
+-- records of which the first ones leave one state, and the others another
+pub joined_applied : {S : Type 0} (table number : ℕ) (step : S → Record → Result S ErrorKind) (s u v : S) (qs rs : List Record) → in_turn_from table step number s qs ≡ answer u
+    → in_turn_from table step (number + length qs) u rs ≡ answer v → in_turn_from table step number s (qs ++ rs) ≡ answer v
+joined_applied table number step s u v [] rs is rest =
+    let none : number ≡ number + 0 = omega arith in
+    ap (λ x. in_turn_from table step number x rs) (same_answer s u is) ∙ ap (λ (n : ℕ). in_turn_from table step n u rs) none ∙ rest
+joined_applied {S} table number step s u v (q ∷ qs) rs is rest =
+    let one = answered_first (at_record table number (step s q)) (λ x. in_turn_from table step (number + 1) x qs) u is in
+    let next : number + suc (length qs) ≡ number + 1 + length qs = omega arith in
+    ap (λ (result : Result S Refusal). result >>= λ x. in_turn_from table step (number + 1) x (qs ++ rs)) one.1
+    ∙ joined_applied table (number + 1) step one.0 u v qs rs one.2 (ap (λ (n : ℕ). in_turn_from table step n u rs) (sym next) ∙ rest)
+
+-- the first of some records, in any state
+pub first_applied : {S : Type 0} (table number : ℕ) (step : S → Record → Result S ErrorKind) (s u : S) (q : Record) (qs : List Record) → step s q ≡ Ok u
+    → in_turn_from table step number s (q ∷ qs) ≡ in_turn_from table step (number + 1) u qs
+first_applied {S} table number step s u q qs is = ap (λ (result : Result S ErrorKind). at_record table number result >>= λ v. in_turn_from table step (number + 1) v qs) is
 
 abbrev answered : RowsInHand → Result RowsInHand Refusal
 answered s = Ok s

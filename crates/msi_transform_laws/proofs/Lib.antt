@@ -4,6 +4,7 @@ pub mod BroughtStreamsLemmas
 pub mod CarriedOutLemmas
 pub mod ChangedCellsLemmas
 pub mod ChangedRowsLemmas
+pub mod FitPackagesLemmas
 pub mod FollowingRecordsLemmas
 pub mod KeyedEntriesLemmas
 pub mod ListedTablesLemmas
@@ -14,7 +15,10 @@ pub mod PoolRoomLemmas
 pub mod RecordValuesLemmas
 pub mod RecordsInTransformLemmas
 pub mod RowsBegunLemmas
+pub mod SchemaAppliedLemmas
 pub mod StoredRecordsLemmas
 pub mod TableAppliedLemmas
+pub mod TableChangedLemmas
 pub mod TableFollowLemmas
 pub mod TableRecordsLemmas
+pub mod TablesRemovedLemmas

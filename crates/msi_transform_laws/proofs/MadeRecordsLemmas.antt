@@ -57,7 +57,7 @@ module _ {X Y : Type 0} (same : Y → Y → Bool) (f : X → Y) (p : X → Bool)
       let q = neither (list_any (same (f x)) (map f xs)) (has_pair same (map f xs)) h in
       by_test (p x) (λ t. rw (t, none_mapped (f x) xs q.0) (apart_mapped xs q.1)) (λ t. rw t (apart_mapped xs q.1))
 
-apart_passing : (p : List ℕ → Bool) (xs : List (List ℕ)) → has_pair bytes_eq xs ≡ false → has_pair bytes_eq (filter p xs) ≡ false
+pub apart_passing : (p : List ℕ → Bool) (xs : List (List ℕ)) → has_pair bytes_eq xs ≡ false → has_pair bytes_eq (filter p xs) ≡ false
 apart_passing p [] h = refl
 apart_passing p (x ∷ xs) h =
     let q = neither (list_any (bytes_eq x) xs) (has_pair bytes_eq xs) h in
@@ -76,10 +76,10 @@ module _ (name : List ℕ) (system : (n : List ℕ) → is_schema_table n ≡ fa
       (λ t. rw t (not_told ns))
       (λ t. rw (t, turned_name name n (system n t)) (not_told ns))
 
-first_system : (n : List ℕ) → is_schema_table n ≡ false → bytes_eq n tables_name ≡ false
+pub first_system : (n : List ℕ) → is_schema_table n ≡ false → bytes_eq n tables_name ≡ false
 first_system n h = (neither (bytes_eq n tables_name) (bytes_eq n columns_name) h).0
 
-second_system : (n : List ℕ) → is_schema_table n ≡ false → bytes_eq n columns_name ≡ false
+pub second_system : (n : List ℕ) → is_schema_table n ≡ false → bytes_eq n columns_name ≡ false
 second_system n h = (neither (bytes_eq n tables_name) (bytes_eq n columns_name) h).1
 
 names_of_told : (old new : Kept) (names : List (List ℕ)) → map (λ (table : ToldTable). table.name) (map (told_table old new) names) ≡ names

@@ -155,7 +155,7 @@ module _ (old : Kept) (name : List ℕ) (columns added : List ColumnDef) (by : T
 
 -- THE COLUMNS THAT ARE ADDED
 
-many_shapes : (columns : List ColumnDef) → length (shapes_of columns) ≡ length columns
+pub many_shapes : (columns : List ColumnDef) → length (shapes_of columns) ≡ length columns
 many_shapes [] = refl
 many_shapes (c ∷ columns) = ap suc (many_shapes columns)
 

@@ -42,7 +42,7 @@ use Rattle.msi_transform_laws.specs.RecordsRead.{IsSpellable, StoredRecordsAreRe
 -- EACH IN TURN
 
 -- P holds of each two beside each other, and of no one alone
-abbrev Each : {X Y : Type 0} → (X → Y → Type 0) → List X → List Y → Type 0
+abbrev pub Each : {X Y : Type 0} → (X → Y → Type 0) → List X → List Y → Type 0
 Each P [] [] = ⊤
 Each P [] (y ∷ ys) = ⊥
 Each P (x ∷ xs) [] = ⊥
@@ -85,7 +85,7 @@ module _ {S X Y : Type 0} (step : S → X → Option (Y × S)) (Later : S → S 
 -- PLACES OF TEXTS
 
 -- a place in use stays one, with its text, and there are no more places than references of three bytes can name
-record Stay (before after : List Place) : Type 0 where
+pub record Stay (before after : List Place) : Type 0 where
   used : (number : ℕ) → 0 < count_at before number → 0 < count_at after number
   text : (number : ℕ) → 0 < count_at before number → text_at after number ≡ text_at before number
   longer : length before ≤ length after
@@ -103,7 +103,7 @@ stay_then a b c f g = record {
 }
 
 -- the cell of a value
-abbrev Stands : List Place → Value → ValueRef → Type 0
+abbrev pub Stands : List Place → Value → ValueRef → Type 0
 Stands places Null c = c ≡ cell.Null
 Stands places (Int n) c = c ≡ cell.Int n
 Stands places Binary c = c ≡ cell.Binary
@@ -162,7 +162,7 @@ taken_in_range before after text number e =
     let range : i + 1 ≤ max (length before) 16777215 = in_range i (length before) 16777215 answered.0 in
     subst (λ (n : ℕ). n ≤ max (length before) 16777215) parts.0 range
 
-abbrev Later : PoolInUse → PoolInUse → Type 0
+abbrev pub Later : PoolInUse → PoolInUse → Type 0
 Later s t = Stay s.places t.places
 
 put_stands : (s t : PoolInUse) (v : Value) (c : ValueRef) → cell_put true s v ≡ Some (c, t) → Later s t × Stands t.places v c
@@ -240,10 +240,10 @@ module _ (places : List Place) where
   cells_read (v ∷ vs) (c ∷ cs) h = λ i. stands_value places v c h.0 i ∷ cells_read vs cs h.1 i
 
   -- the record of a told one
-  abbrev IsStored : ToldRecord → Record → Type 0
+  abbrev pub IsStored : ToldRecord → Record → Type 0
   IsStored r stored = (stored.action ≡ r.action) × Each (Stands places) r.values stored.cells
 
-  abbrev AreStored : ToldTable → ToldTable × List Record → Type 0
+  abbrev pub AreStored : ToldTable → ToldTable × List Record → Type 0
   AreStored table e = (e.0 ≡ table) × Each IsStored table.records e.1
 
 values_stored : (s t : PoolInUse) (values : List Value) (cells : List ValueRef) → in_turn (cell_put true) s values ≡ Some (cells, t) → Later s t × Each (Stands t.places) values cells
@@ -278,7 +278,7 @@ table_stored s t table e h =
     let v = records_stored s m.0.1 table.records m.0.0 m.1 in
     subst (λ (p : (ToldTable × List Record) × PoolInUse). Later s p.1 × AreStored p.1.places table p.0) m.2 (v.0, (refl, v.1))
 
-all_stored : (s t : PoolInUse) (tables : List ToldTable) (es : List (ToldTable × List Record)) → in_turn stored_table s tables ≡ Some (es, t) → Later s t × Each (AreStored t.places) tables es
+pub all_stored : (s t : PoolInUse) (tables : List ToldTable) (es : List (ToldTable × List Record)) → in_turn stored_table s tables ≡ Some (es, t) → Later s t × Each (AreStored t.places) tables es
 all_stored = all_steps stored_table Later (λ s table e. AreStored s.places table e) (λ s. stay_now s.places) (λ s t u. stay_then s.places t.places u.places)
     (λ s t table e f h. (h.0, each_as (IsStored s.places) (IsStored t.places) (λ r stored. stored_later s.places t.places r stored f) table.records e.1 h.1)) table_stored
 
@@ -287,11 +287,11 @@ all_stored = all_steps stored_table Later (λ s table e. AreStored s.places tabl
 pub names_total : IsTotalOrder list_cmp
 names_total = lists_total nat_cmp_total
 
-find_by_names : (name : List ℕ) (es : List (List ℕ × List ℕ)) → find list_cmp name (by_names es) ≡ find list_cmp name es
+pub find_by_names : (name : List ℕ) (es : List (List ℕ × List ℕ)) → find list_cmp name (by_names es) ≡ find list_cmp name es
 find_by_names name [] = refl
 find_by_names name (e ∷ es) = find-put list_cmp names_total name e.0 e.1 (by_names es) ∙ ap (cond (eq_by_cmp list_cmp name e.0) (Some e.1)) (find_by_names name es)
 
-other_name : (a b : List ℕ) → bytes_eq b a ≡ false → eq_by_cmp list_cmp a b ≡ false
+pub other_name : (a b : List ℕ) → bytes_eq b a ≡ false → eq_by_cmp list_cmp a b ≡ false
 other_name a b h = by_test (eq_by_cmp list_cmp a b)
     (λ t. let same : a ≡ b = (bytes_decides a b).0 (sym (is_eq-slice_cmp a b) ∙ t) in yes_is_no (bytes_eq b a) ((bytes_decides b a).1 (sym same)) h)
     (λ t. t)

@@ -94,10 +94,10 @@ module _ (one other : List ColumnDef) (same : shapes_of one ≡ shapes_of other)
 -- WHAT IS READ OF A TABLE
 
 module _ (t : TransformDef) (table : ToldTable) where
-  abbrev Read : Type 0
+  abbrev pub Read : Type 0
   Read = (bytes : List ℕ) × (records_for table.name t ≡ Some bytes) × (stored : List Record) × (records_in table.shapes t.pool bytes ≡ Some stored) × SaySame t table.records stored
 
-  read_of : (o : Option (List ℕ)) → records_for table.name t ≡ o → option_map (map (as_values t)) (option_and_then (records_in table.shapes t.pool) o) ≡ Some (map action_and_values table.records) → Read
+  pub read_of : (o : Option (List ℕ)) → records_for table.name t ≡ o → option_map (map (as_values t)) (option_and_then (records_in table.shapes t.pool) o) ≡ Some (map action_and_values table.records) → Read
   read_of None at is = none_is is
   read_of (Some bytes) at is =
       elim (records_in table.shapes t.pool bytes) as (λ o. records_in table.shapes t.pool bytes ≡ o → option_map (map (as_values t)) o ≡ Some (map action_and_values table.records) → Read) [
@@ -146,7 +146,7 @@ all_passing P q (x ∷ xs) h = by_test (q x) (λ t. rw t (h.0, all_passing P q x
 
 module _ (p : Pair) where
   -- a table that isn't one of the two that list tables is one of the new package's
-  abbrev IsNew : ToldTable → Type 0
+  abbrev pub IsNew : ToldTable → Type 0
   IsNew table = is_schema_table table.name ≡ false → (table ≡ told_table p.old p.new table.name) × IsTellable p.old p.new table.name × (length (told_rows p.new table.name 0) ≤ 65536)
 
   all_new : (names : List (List ℕ)) → AllByRecursion (IsTellable p.old p.new) names → AllByRecursion (λ name. length (told_rows p.new name 0) ≤ 65536) names → AllByRecursion IsNew (map (told_table p.old p.new) names)
@@ -156,7 +156,7 @@ module _ (p : Pair) where
   schema_tables : (is_schema_table tables_name ≡ true) × (is_schema_table columns_name ≡ true)
   schema_tables = (refl, refl)
 
-  tables_new : CanHaveRecords p → AllByRecursion IsNew (told_tables p.old p.new)
+  pub tables_new : CanHaveRecords p → AllByRecursion IsNew (told_tables p.old p.new)
   tables_new can = all_passing IsNew is_told (lists p.old p.new ++ map (told_table p.old p.new) (told_names p.new))
       ((λ s. yes_is_no (is_schema_table tables_name) schema_tables.0 s), ((λ s. yes_is_no (is_schema_table columns_name) schema_tables.1 s), all_new (told_names p.new) can.tellable can.few))
 

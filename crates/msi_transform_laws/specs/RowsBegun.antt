@@ -36,8 +36,10 @@ pub record HasNewColumns (old new : Kept) (name : List ℕ) (t : TableInHand) : 
 
 -- no cell of a column of streams is null, as it is in each package that is opened
 abbrev pub HoldsStreams : Kept → List ℕ → Type 0
-HoldsStreams k name = AllByRecursion (λ row. values_held (columns_in_table k name) (row_values k.database.pool.places row)
-    ≡ row_values k.database.pool.places row) (system_rows k.database name)
+HoldsStreams k name = AllByRecursion
+    (λ row. values_held (columns_in_table k name) (row_values k.database.pool.places row)
+    ≡ row_values k.database.pool.places row)
+    (system_rows k.database name)
 
 -- the texts of a table's cells are still those of the package
 abbrev pub TextsOfTableStay : Kept → List ℕ → TablesInHand → Type 0

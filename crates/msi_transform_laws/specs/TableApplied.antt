@@ -9,7 +9,8 @@ use Rattle.msi_transform.specs.Transforms.{TransformDef, records_for, shapes_of}
 use Rattle.msi_transform.specs.declared.conditions.ErrorConditions.{ErrorConditions}
 use Rattle.msi_transform_rows.specs.RowChanges.{RowsInHand, TableChange, record_applied}
 use Rattle.msi_transform_rows.specs.TableRecords.{all_applied}
-use Rattle.msi_transform_making.specs.Making.{Pair, ToldTable, columns_in_table, made, told_names, told_rows, told_tables}
+use Rattle.msi_transform_making.specs.Making.{Pair, ToldTable, columns_in_table, made, told_names, told_rows}
+use Rattle.msi_transform_making.specs.Making.{told_tables}
 use Rattle.msi_transform_laws.specs.CarriedOut.{IsTellable, rows_before}
 use Rattle.msi_transform_laws.specs.RecordsRead.{IsSpellable}
 use Rattle.msi_transform_laws.specs.RowsApplied.{CountsCells, HaveValuesOf, texts_of}
@@ -36,8 +37,8 @@ pub record LeavesNewRows (p : Pair) (change : TableChange) (others : ℕ → ℕ
       → text_at after.pool.places number ≡ text_at before.pool.places number
   pub longer : length after.pool.places ≤ length before.pool.places + texts
 
--- the transform has records of the table; and applied to the old package's rows, whose columns have the types of the new
--- package's, they leave the new package's rows
+-- The transform has records of the table; and applied to the old package's rows, whose columns have the types of the
+-- new package's, they leave the new package's rows
 abbrev pub GivesNewRows : Pair → TransformDef → ToldTable → Type 0
 GivesNewRows p t table = (columns : List ColumnDef) (passing : ErrorConditions) (others : ℕ → ℕ) (before : RowsInHand)
     (number : ℕ) → shapes_of columns ≡ shapes_of (columns_in_table p.new table.name)
@@ -46,8 +47,8 @@ GivesNewRows p t table = (columns : List ColumnDef) (passing : ErrorConditions) 
     → CountsCells others before.pool.places before.rows
     → length before.pool.places + texts_of table.records ≤ 16777215
     → (bytes : List ℕ) × (records_for table.name t ≡ Some bytes) × (after : RowsInHand)
-    × (all_applied number t (shapes_of columns) bytes (record_applied (table_change table.name columns t passing)) before
-    ≡ Ok after)
+    × (all_applied number t (shapes_of columns) bytes (record_applied (table_change table.name columns t passing))
+    before ≡ Ok after)
     × LeavesNewRows p (table_change table.name columns t passing) others (texts_of table.records) before after
 
 -- so it is for each table of which a transform that is made has records

@@ -8,5 +8,8 @@ pub mod carried_out;
 pub mod records_read;
 pub mod rows_applied;
 pub mod rows_begun;
+pub mod schema_applied;
 pub mod streams_brought;
 pub mod table_applied;
+pub mod table_changed;
+pub mod tables_removed;
