@@ -1,9 +1,11 @@
+pub mod AddedColumnsLemmas
 pub mod AlikeRowsLemmas
 pub mod AppliedRecordsLemmas
 pub mod BroughtStreamsLemmas
 pub mod CarriedOutLemmas
 pub mod ChangedCellsLemmas
 pub mod ChangedRowsLemmas
+pub mod DescribedPackagesLemmas
 pub mod FitPackagesLemmas
 pub mod FollowingRecordsLemmas
 pub mod KeyedEntriesLemmas
@@ -15,10 +17,14 @@ pub mod PoolRoomLemmas
 pub mod RecordValuesLemmas
 pub mod RecordsInTransformLemmas
 pub mod RowsBegunLemmas
+pub mod SameColumnsLemmas
 pub mod SchemaAppliedLemmas
+pub mod SchemaListsLemmas
+pub mod SchemaMadeLemmas
 pub mod StoredRecordsLemmas
 pub mod TableAppliedLemmas
 pub mod TableChangedLemmas
 pub mod TableFollowLemmas
 pub mod TableRecordsLemmas
+pub mod TablesChangedLemmas
 pub mod TablesRemovedLemmas
