@@ -12,6 +12,7 @@ pub mod KeyedEntriesLemmas
 pub mod ListedTablesLemmas
 pub mod MadeRecordsLemmas
 pub mod MarkedColumnsLemmas
+pub mod NewTablesLemmas
 pub mod OneRecordLemmas
 pub mod PoolRoomLemmas
 pub mod RecordValuesLemmas
@@ -28,3 +29,4 @@ pub mod TableFollowLemmas
 pub mod TableRecordsLemmas
 pub mod TablesChangedLemmas
 pub mod TablesRemovedLemmas
+pub mod WithoutRecordsLemmas

@@ -2,6 +2,7 @@
 pub mod CanFollow
 pub mod CarriedOut
 pub mod DescribedPackages
+pub mod NewTables
 pub mod RecordsRead
 pub mod RowsApplied
 pub mod RowsBegun
@@ -13,3 +14,4 @@ pub mod TableApplied
 pub mod TableChanged
 pub mod TablesChanged
 pub mod TablesRemoved
+pub mod TablesWithoutRecords
