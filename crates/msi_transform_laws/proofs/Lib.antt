@@ -10,6 +10,7 @@ pub mod FitPackagesLemmas
 pub mod FollowingRecordsLemmas
 pub mod KeyedEntriesLemmas
 pub mod ListedTablesLemmas
+pub mod MadeAppliedLemmas
 pub mod MadeRecordsLemmas
 pub mod MarkedColumnsLemmas
 pub mod NewTablesLemmas

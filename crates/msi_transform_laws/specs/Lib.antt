@@ -2,6 +2,7 @@
 pub mod CanFollow
 pub mod CarriedOut
 pub mod DescribedPackages
+pub mod MadeApplied
 pub mod NewTables
 pub mod RecordsRead
 pub mod RowsApplied
