@@ -171,6 +171,6 @@ module _ (p : Pair) (well : is_well_formed p.old.database ≡ true) (well_too : 
 
 pub described_tables_can_have_records : DescribedTablesCanHaveRecords
 described_tables_can_have_records p t is well well_too described described_too =
-    let all = all_tables p well well_too described described_too (told_names p.new) (each_passing (λ name. not (is_schema_table name)) (map (λ t. t.0) p.new.database.tables)) (all_there p.new)
+    let all = all_tables p well well_too described described_too (told_names p.new) (passing (λ name. not (is_schema_table name)) (map (λ t. t.0) p.new.database.tables)) (all_there p.new)
     (none_passes (is_odd_table p.new) (told_names p.new) (both_fit p t is).1) (no_changed_columns p t is) in
     record { apart = apart_sorted p.new.database.tables (well_parts p.new well_too).0; tellable = all.0; described = all.1; names = all.2 }

@@ -10,8 +10,10 @@ pub mod FitPackagesLemmas
 pub mod FollowingRecordsLemmas
 pub mod KeyedEntriesLemmas
 pub mod ListedTablesLemmas
+pub mod MadeAppliedLemmas
 pub mod MadeRecordsLemmas
 pub mod MarkedColumnsLemmas
+pub mod NewTablesLemmas
 pub mod OneRecordLemmas
 pub mod PoolRoomLemmas
 pub mod RecordValuesLemmas
@@ -28,3 +30,4 @@ pub mod TableFollowLemmas
 pub mod TableRecordsLemmas
 pub mod TablesChangedLemmas
 pub mod TablesRemovedLemmas
+pub mod WithoutRecordsLemmas

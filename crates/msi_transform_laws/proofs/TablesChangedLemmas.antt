@@ -245,8 +245,11 @@ module _ (p : Pair) (t : TransformDef) (known : TablesTold) (passing : ErrorCond
             tables = are.tables ∙ append_assoc s.tables (table ∷ []) done;
             names = ap (λ (l : List (List ℕ)). e.0 ∷ l) are.names ∙ sym (ap (λ x. if not x then e.0 ∷ passed else passed) b);
             rows = (
-              alike_later p.old.streams (table_change e.0 columns t passing) after.pool.places end.pool.places after.rows (told_rows p.new e.0 0) leaves.rows
-                  (λ n some. are.kept n (omega (arith, some, naming_cells (cells_of after.rows) n))),
+              (
+                ready.0.columns,
+                alike_later p.old.streams (table_change e.0 columns t passing) after.pool.places end.pool.places after.rows (told_rows p.new e.0 0) leaves.rows
+                    (λ n some. are.kept n (omega (arith, some, naming_cells (cells_of after.rows) n))),
+              ),
               are.rows,
             );
             counted = record { counts = λ n one. omega (arith, are.counted.counts n one); from_one = omega (arith, are.counted.from_one) };

@@ -2,6 +2,8 @@
 pub mod CanFollow
 pub mod CarriedOut
 pub mod DescribedPackages
+pub mod MadeApplied
+pub mod NewTables
 pub mod RecordsRead
 pub mod RowsApplied
 pub mod RowsBegun
@@ -13,3 +15,4 @@ pub mod TableApplied
 pub mod TableChanged
 pub mod TablesChanged
 pub mod TablesRemoved
+pub mod TablesWithoutRecords

@@ -8,12 +8,12 @@ use Rattle.msi_pool.specs.FirstFitLaws.{count_at, text_at}
 use Rattle.msi_table.specs.Census.{numbers_of_rows}
 use Rattle.msi_database_schema.specs.System.{is_schema_table}
 use Rattle.msi_database_changes.specs.Database.{Database}
-use Rattle.msi_transform.specs.Transforms.{TransformDef}
+use Rattle.msi_transform.specs.Transforms.{TransformDef, shapes_of}
 use Rattle.msi_transform.specs.declared.conditions.ErrorConditions.{ErrorConditions}
 use Rattle.msi_transform_schema.specs.SchemaApplying.{system_rows}
 use Rattle.msi_transform_schema.specs.SchemaChanges.{TablesTold, table_in_hand}
 use Rattle.msi_transform_applying.specs.Applying.{TableAnew, TablesInHand, change_with, tables_in_turn}
-use Rattle.msi_transform_making.specs.Making.{Pair, made, records_of_table, told_rows}
+use Rattle.msi_transform_making.specs.Making.{Pair, columns_in_table, made, records_of_table, told_rows}
 use Rattle.msi_transform_laws.specs.RowsApplied.{HaveValuesOf, cells_naming, texts_of}
 use Rattle.msi_transform_laws.specs.RowsBegun.{HasNewColumns, HoldsStreams, TextsOfTableStay}
 use Rattle.msi_transform_laws.specs.TableApplied.{CanHaveRecords, table_change}
@@ -45,10 +45,10 @@ pub record CountsCellsOf (cells others : ℕ → ℕ) (places : List Place) : Ty
   pub counts : (number : ℕ) → 0 < number → count_at places number ≡ cells number + others number
   pub from_one : cells 0 + others 0 ≡ 0
 
--- a table that is stored anew has the rows of the new package
+-- a table that is stored anew has the types of the new package's columns, and its rows
 abbrev pub HasNewRows : Pair → TransformDef → ErrorConditions → List Place → TableAnew → Type 0
-HasNewRows p t passing places table =
-    HaveValuesOf p.old.streams (table_change table.name table.columns t passing) places table.rows
+HasNewRows p t passing places table = (shapes_of table.columns ≡ shapes_of (columns_in_table p.new table.name))
+    × HaveValuesOf p.old.streams (table_change table.name table.columns t passing) places table.rows
     (told_rows p.new table.name 0)
 
 -- how many cells of tables that are stored anew name a place

@@ -6,6 +6,8 @@
 pub mod can_follow;
 pub mod carried_out;
 pub mod described_packages;
+pub mod made_applied;
+pub mod new_tables;
 pub mod records_read;
 pub mod rows_applied;
 pub mod rows_begun;
@@ -17,3 +19,4 @@ pub mod table_applied;
 pub mod table_changed;
 pub mod tables_changed;
 pub mod tables_removed;
+pub mod tables_without_records;
