@@ -180,7 +180,7 @@ fn bytes_of(alloc: Global, digits: &str) -> Result<Vec<u8>, Error> {
     for c in digits.chars() {
         if let Some(digit) = c.to_digit(16) {
             match high.take() {
-                Some(first) => bytes.push((first << 4 | digit) as u8)?,
+                Some(first) => bytes.push((first << 4 | digit).to_le_bytes()[0])?,
                 None => high = Some(digit),
             }
         }
