@@ -176,7 +176,7 @@ fn contents_of(alloc: Global, streams: &[Stream]) -> Result<Contents, Error> {
 /// Returns the bytes of digits in pairs; blanks between pairs are passed over.
 fn bytes_of(alloc: Global, digits: &str) -> Result<Vec<u8>, Error> {
     let mut bytes = Vec::new(alloc);
-    let mut high = None;
+    let mut high: Option<u32> = None;
     for c in digits.chars() {
         if let Some(digit) = c.to_digit(16) {
             match high.take() {
