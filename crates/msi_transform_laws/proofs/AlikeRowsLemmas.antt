@@ -2,7 +2,7 @@
 use Rattle.std.proofs.Common.{◌≡◌, ℕ, ◌+◌, Bool, true, false, cond, not, List, [], ◌∷◌, length, refl, sym, ap, subst, ◌∙◌, arith}
 use Rattle.std.specs.Prelude.{Option, Some, None, is_some}
 use Rattle.std.specs.Cmp.{eq_by_cmp_equiv}
-use Rattle.std.specs.FinMap.{find, is_sorted, put}
+use Rattle.std.specs.FinMap.{find, put}
 use Rattle.std.specs.FinMap.Entries.{find-put, find-where_key, is_sorted-put, is_sorted-where_key, length-put, length_without}
 use Rattle.std.specs.Ordering.{eq_by_cmp}
 use Rattle.msi_base.proofs.BoolLemmas.{by_test, cond_not, yes_is_no}

@@ -3,7 +3,7 @@
 use Rattle.std.proofs.Common.{◌≡◌, ◌+◌, ◌≤◌, Bool, true, false, cond, ◌&&◌, T, List, [], ◌∷◌, ◌++◌, length, refl, sym, ap, subst, ◌∙◌, arith}
 use Rattle.std.specs.Prelude.{⊤, Option, Some, None, is_some, filter_map, nat_lt}
 use Rattle.std.specs.Cmp.{eq_by_cmp_equiv, tied_itself}
-use Rattle.std.specs.FinMap.{find, is_sorted, put}
+use Rattle.std.specs.FinMap.{find, is_sorted}
 use Rattle.std.specs.FinMap.Entries.{below_all, length-put}
 use Rattle.std.specs.List.{AllByRecursion, cons_option}
 use Rattle.std.specs.Ordering.{eq_by_cmp, is_lt}
@@ -17,7 +17,7 @@ use Rattle.msi_transform_rows.specs.KeyOfRows.{key_cmp}
 use Rattle.msi_transform_making.specs.Making.{ToldRecord, ToldRow, ToldRows, addition, can_be_marked, change_of_row, changes, changing, differences, differing, is_replaced, removal}
 use Rattle.msi_transform_laws.specs.CarriedOut.{added_row, carried_out, done_by, record_done}
 use Rattle.msi_transform_laws.specs.CanFollow.{CanFollow, CanFollowInTurn, DifferencesCanFollow}
-use Rattle.msi_transform_laws.proofs.CarriedOutLemmas.{change_by, differences_give_new_rows, done_at, each_done, found_by, joined, keys_total, less, own_change, own_if, replaced_by, row_done, same, sorted, sorted_by, tell_if, tell_removed, told_if}
+use Rattle.msi_transform_laws.proofs.CarriedOutLemmas.{change_by, differences_give_new_rows, done_at, each_done, found_by, joined, keys_total, less, own_change, own_if, replaced_by, row_done, sorted, sorted_by, tell_if, tell_removed, told_if}
 use Rattle.msi_transform_laws.proofs.ChangedRowsLemmas.{differing_turned}
 
 abbrev Entry : Type 0

@@ -40,7 +40,7 @@ use Rattle.msi_transform_laws.specs.CanFollow.{CanFollow}
 use Rattle.msi_transform_laws.specs.RowsApplied.{HasValuesOf, HaveValuesOf, IsInTransform, SaysSame, is_brought, named_values, stream_in_hand, texts_in, values_held}
 use Rattle.msi_transform_laws.proofs.AlikeRowsLemmas.{alike_put, alike_without, neither_there, there_too, uses_in, uses_of_rows, uses_without}
 use Rattle.msi_transform_laws.proofs.ChangedCellsLemmas.{cells_exchanged}
-use Rattle.msi_transform_laws.proofs.KeyedEntriesLemmas.{held, sum_of, sum_of-put, sum_of-without, without}
+use Rattle.msi_transform_laws.proofs.KeyedEntriesLemmas.{held, sum_of-put, sum_of-without, without}
 use Rattle.msi_transform_laws.proofs.PoolRoomLemmas.{all_put_there, row_released_long}
 use Rattle.msi_transform_laws.proofs.RecordValuesLemmas.{Column, IsColumnOf, brought_beside_key, changes_say, columns_beside, key_seen, padded, padded_cells, padded_values, row_says, said_if, seen_beside, texts_beside, texts_held, texts_with_nulls, told_columns, with_seen}
 

@@ -14,7 +14,7 @@ use Rattle.msi_database_changes.specs.Database.{has_table}
 use Rattle.msi_database_storage.specs.Kept.{Kept}
 use Rattle.msi_transform_records.specs.declared.action.Action.TheVariants.{Add, Remove, Change}
 use Rattle.msi_transform_records.specs.declared.shape.Shape.{Shape}
-use Rattle.msi_transform_records.specs.Actions.{told, told_from}
+use Rattle.msi_transform_records.specs.Actions.{told_from}
 use Rattle.msi_transform.specs.Transforms.{shapes_of}
 use Rattle.msi_transform_applying.specs.Applying.{same_stream}
 use Rattle.msi_transform_rows.specs.KeyOfRows.{key_cmp}

@@ -10,7 +10,6 @@ use Rattle.msi_pool.specs.Pool.{Place}
 use Rattle.msi_pool.specs.FirstFitLaws.{text_at, TakenPlacesHoldTheirText, GivenBackTakesOne}
 use Rattle.msi_database_schema.specs.System.{is_schema_table}
 use Rattle.msi_database_changes.specs.Database.{Database, has_table}
-use Rattle.msi_database_storage.specs.Kept.{Kept}
 use Rattle.msi_transform.specs.Transforms.{TransformDef, shapes_of}
 use Rattle.msi_transform.specs.declared.conditions.ErrorConditions.{ErrorConditions}
 use Rattle.msi_transform_rows.specs.RecordRefusals.{Refusal, nowhere, ◌>>=◌}

@@ -1,5 +1,5 @@
 -- Records of `_Tables` and of `_Columns` applied: tables that come, and columns that are added.
-use Rattle.std.proofs.Common.{◌≡◌, ℕ, ℤ, zero, suc, ◌+◌, ◌-◌, ◌<◌, ◌≤◌, Bool, true, false, not, ◌&&◌, T, List, [], ◌∷◌, length, map, filter, zip, refl, sym, ap, ◌∙◌, arith}
+use Rattle.std.proofs.Common.{◌≡◌, ℕ, ℤ, zero, suc, ◌+◌, ◌<◌, ◌≤◌, Bool, true, false, not, ◌&&◌, T, List, [], ◌∷◌, length, map, filter, zip, refl, sym, ap, ◌∙◌, arith}
 use Rattle.std.specs.Prelude.{pos, Option, Some, None, Ok, option_and_then, unwrap_or, if◌then◌else◌, int_lt, nat_le}
 use Rattle.std.specs.Cmp.{int_cmp_total, tied_itself}
 use Rattle.std.specs.FinMap.{is_sorted, put}
@@ -40,11 +40,11 @@ use Rattle.msi_transform_making.specs.Making.{ToldRecord, listing_record}
 use Rattle.msi_transform_laws.specs.CarriedOut.{is_of_key}
 use Rattle.msi_transform_laws.specs.RecordsRead.{action_and_values, as_values}
 use Rattle.msi_transform_laws.specs.RowsApplied.{SaySame, texts_in}
-use Rattle.msi_transform_laws.specs.SchemaApplied.{CanAddColumn, CanAddColumns, CanAddTable, CanAddTables, ColumnRecordsAreApplied, ColumnToAdd, CountsSchema, IsKeptOrAdded, IsNumber, ListingRecordsAreApplied, SchemaAfter, record_of_column, texts_of_columns, with_columns_added, with_table_added, with_tables_added}
+use Rattle.msi_transform_laws.specs.SchemaApplied.{CanAddColumn, CanAddColumns, CanAddTable, CanAddTables, ColumnRecordsAreApplied, ColumnToAdd, CountsSchema, IsKeptOrAdded, IsNumber, ListingRecordsAreApplied, SchemaAfter, record_of_column, texts_of_columns, with_columns_added, with_tables_added}
 use Rattle.msi_transform_laws.proofs.AlikeRowsLemmas.{uses_in, uses_of_rows}
 use Rattle.msi_transform_laws.proofs.AppliedRecordsLemmas.{first_applied, naming_cells}
 use Rattle.msi_transform_laws.proofs.CarriedOutLemmas.{keys_total}
-use Rattle.msi_transform_laws.proofs.KeyedEntriesLemmas.{sum_of, sum_of-put}
+use Rattle.msi_transform_laws.proofs.KeyedEntriesLemmas.{sum_of-put}
 use Rattle.msi_transform_laws.proofs.PoolRoomLemmas.{all_put_there}
 use Rattle.msi_transform_laws.proofs.RecordValuesLemmas.{key_seen, padded, padded_cells, seen_beside}
 

@@ -1,5 +1,5 @@
 -- The tables and columns of the new package, once the records of `_Tables` and `_Columns` are applied.
-use Rattle.std.proofs.Common.{◌≡◌, ℕ, zero, suc, inl, inr, ◌⊎◌, ap₂, length-append, ◌+◌, ◌-◌, ◌*◌, ◌≤◌, Bool, true, false, cond, not, ◌&&◌, ◌||◌, List, [], ◌∷◌, ◌++◌, length, map, filter, drop, take, refl, sym, ap, subst, ◌∙◌, arith, append-nil, T}
+use Rattle.std.proofs.Common.{◌≡◌, ℕ, zero, suc, inl, inr, ◌⊎◌, ap₂, length-append, ◌+◌, ◌*◌, ◌≤◌, Bool, true, false, cond, not, ◌&&◌, ◌||◌, List, [], ◌∷◌, ◌++◌, length, map, filter, drop, take, refl, sym, ap, subst, ◌∙◌, arith, append-nil, T}
 use Rattle.std.specs.Prelude.{Option, Some, None, Result, Ok, option_map, unwrap_or, if◌then◌else◌, nat_lt, bytes_eq, ◌==◌}
 use Rattle.std.specs.Cmp.{eq_by_cmp_equiv, tied_itself}
 use Rattle.std.specs.Cmp.Lexicographic.{bytes_decides}
@@ -24,7 +24,6 @@ use Rattle.msi_table_values.specs.Columns.{ColumnDef}
 use Rattle.msi_database_schema.specs.System.{columns_columns, columns_name, is_schema_table, tables_columns, tables_name}
 use Rattle.msi_database_schema.proofs.AccountLemmas.{Uses}
 use Rattle.msi_database_changes.specs.Database.{Database, has_table, table_at}
-use Rattle.msi_database_storage.specs.Kept.{Kept}
 use Rattle.msi_transform_records.specs.declared.action.Action.{Action}
 use Rattle.msi_transform_records.specs.declared.action.Action.TheVariants.{Add, Remove}
 use Rattle.msi_transform_records.specs.declared.records.Record.{Record}

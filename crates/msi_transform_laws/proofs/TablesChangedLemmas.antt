@@ -1,6 +1,6 @@
 -- The tables of the old package changed in turn by a transform that is made of it.
 use Rattle.std.proofs.Common.{◌≡◌, ℕ, zero, suc, ◌+◌, ◌<◌, ◌≤◌, Bool, true, false, not, ◌&&◌, ◌||◌, List, [], ◌∷◌, ◌++◌, length, map, filter, refl, sym, ap, subst, ◌∙◌, arith, append-nil, append_assoc, T}
-use Rattle.std.specs.Prelude.{Option, Some, Result, Ok, is_some, option_map, unwrap_or, if◌then◌else◌}
+use Rattle.std.specs.Prelude.{Option, Some, Result, Ok, option_map, unwrap_or, if◌then◌else◌}
 use Rattle.std.specs.Cmp.{eq_by_cmp_equiv, tied_itself}
 use Rattle.std.specs.FinMap.{find, is_sorted, put}
 use Rattle.std.specs.FinMap.Entries.{below_all, by_order, find-put, is_some-find, is_sorted-put}
@@ -28,7 +28,6 @@ use Rattle.msi_database_changes.specs.KeySets.{keys_of_rows}
 use Rattle.msi_database_changes.proofs.steps.TurnLemmas.{total-append}
 use Rattle.msi_database_changes.proofs.text_counts.CellLemmas.{cell_uses}
 use Rattle.msi_database_changes.proofs.text_counts.RowsLemmas.{row_uses, rows_uses}
-use Rattle.msi_database_storage.specs.Kept.{Kept}
 use Rattle.msi_transform_records.specs.declared.records.Record.{Record}
 use Rattle.msi_transform.specs.Transforms.{TransformDef, records_for, shapes_of}
 use Rattle.msi_transform_rows.specs.RowStreams.{is_of_streams}

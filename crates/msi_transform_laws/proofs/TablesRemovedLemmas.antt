@@ -43,7 +43,7 @@ use Rattle.msi_transform_laws.specs.TablesRemoved.{CanRemoveTable, CanRemoveTabl
 use Rattle.msi_transform_laws.proofs.AlikeRowsLemmas.{found_without, uses_in, uses_of_rows}
 use Rattle.msi_transform_laws.proofs.AppliedRecordsLemmas.{first_applied, naming_cells}
 use Rattle.msi_transform_laws.proofs.CarriedOutLemmas.{keys_total, same}
-use Rattle.msi_transform_laws.proofs.KeyedEntriesLemmas.{held, sum_of, sum_of-without, without}
+use Rattle.msi_transform_laws.proofs.KeyedEntriesLemmas.{held, sum_of, sum_of-without}
 use Rattle.msi_transform_laws.proofs.PoolRoomLemmas.{row_released_long}
 use Rattle.msi_transform_laws.proofs.RecordValuesLemmas.{key_seen, seen_beside}
 use Rattle.msi_transform_laws.proofs.SchemaAppliedLemmas.{counts_from, enough_of, name_shapes, same_first, uses_in_schema}
