@@ -1,4 +1,5 @@
 pub mod BaseLemmas
+pub mod FingerprintLemmas
 pub mod FitnessLemmas
 pub mod MakingRows
 pub mod MaskLemmas

@@ -1,4 +1,5 @@
 -- The words of this crate.
+pub mod Fingerprints
 pub mod Making
 pub mod MakingRefusals
 pub mod Names

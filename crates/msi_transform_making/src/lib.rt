@@ -4,6 +4,7 @@
 pub mod base;
 mod differences;
 mod differing;
+mod fingerprints;
 mod fitness;
 mod making;
 mod reading;
