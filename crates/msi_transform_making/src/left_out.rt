@@ -49,12 +49,12 @@ fn compare_cells(texts: &SameTexts, cell: ValueRef, other: ValueRef) -> Ordering
     match cell {
         ValueRef::Null => match other {
             ValueRef::Null => Ordering::Equal,
-            _ => Ordering::Less,
+            ValueRef::Int(_) | ValueRef::Str(_) | ValueRef::Binary => Ordering::Less,
         },
         ValueRef::Int(number) => match other {
             ValueRef::Null => Ordering::Greater,
             ValueRef::Int(others) => number.cmp(&others),
-            _ => Ordering::Less,
+            ValueRef::Str(_) | ValueRef::Binary => Ordering::Less,
         },
         ValueRef::Str(text) => match other {
             ValueRef::Null | ValueRef::Int(_) => Ordering::Greater,
@@ -63,7 +63,7 @@ fn compare_cells(texts: &SameTexts, cell: ValueRef, other: ValueRef) -> Ordering
         },
         ValueRef::Binary => match other {
             ValueRef::Binary => Ordering::Equal,
-            _ => Ordering::Greater,
+            ValueRef::Null | ValueRef::Int(_) | ValueRef::Str(_) => Ordering::Greater,
         },
     }
 }
