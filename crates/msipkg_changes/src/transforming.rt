@@ -53,7 +53,7 @@ fn apply_named(
     passing: Option<ErrorConditions>,
 ) -> Result<(), Failure>
     ensures ok { OnOk result ((t : TransformDef) × (ignored : ErrorConditionsOf)
-        × Becomes package.old (transforming package.old.state t ignored) package.new
+        × Becomes «package».old (transforming «package».old.state t ignored) «package».new
         × IfSome passing (λ passing. ignored ≡ passing)) }
 {
     let read = read_named(rt, file, word)?;
