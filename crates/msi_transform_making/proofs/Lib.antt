@@ -1,8 +1,13 @@
+pub mod AlikeLemmas
 pub mod BaseLemmas
+pub mod FingerprintLemmas
 pub mod FitnessLemmas
+pub mod LeftOutLemmas
+pub mod LeftOutSteps
 pub mod MakingRows
 pub mod MaskLemmas
 pub mod PageLemmas
+pub mod SameTextsLemmas
 pub mod SchemaLemmas
 pub mod SideLemmas
 pub mod StoringLemmas

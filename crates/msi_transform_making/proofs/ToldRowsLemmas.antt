@@ -9,19 +9,29 @@ use Rattle.std.specs.FinMap.{FinMap, IsAntisymmetric, entries, entries-insert, e
 use Rattle.std.specs.FinMap.Entries.{below_all, find, is_sorted, same_entries}
 use Rattle.std.specs.List.Sorted.{IsStrictlySortedBy}
 use Rattle.std.specs.Map.{keys_of, lookup}
-use Rattle.std.specs.Ordering.{eq_by_cmp, is_lt}
-use Rattle.std.specs.declared.cmp.Ordering.TheVariants.{Less}
+use Rattle.std.specs.Ordering.{eq_by_cmp, is_eq, is_lt}
+use Rattle.std.specs.declared.cmp.Ordering.{Ordering}
+use Rattle.std.specs.declared.cmp.Ordering.TheVariants.{Less, Equal, Greater}
 use Rattle.std.proofs.lemmas.List.{drop_more}
+use Rattle.msi_table_cells.specs.KeyOrder.{same_key}
 use Rattle.msi_table_values.specs.declared.value.Value.{Value}
 use Rattle.msi_table_values.specs.OrderLaws.{value_cmp-total, values_tie}
 use Rattle.msi_transform_rows.specs.KeyOfRows.{key_cmp}
 use Rattle.msi_transform_making.specs.Making.{ToldRow, ToldRows, by_keys}
 
-keys_total : IsTotalOrder key_cmp
+pub keys_total : IsTotalOrder key_cmp
 keys_total = lists_total value_cmp-total
 
-exact_keys : IsAntisymmetric key_cmp
+pub exact_keys : IsAntisymmetric key_cmp
 exact_keys = slice_cmp-IsAntisymmetric values_tie
+
+tied : (o : Ordering) → is_eq o ≡ true → o ≡ Equal
+tied Less e = cc
+tied Equal e = refl
+tied Greater e = cc
+
+pub keys_tie : (a b : List Value) → same_key a b ≡ true → a ≡ b
+keys_tie a b e = exact_keys a b (tied (key_cmp a b) e)
 
 abbrev pub KeyMap : Type 0
 KeyMap = FinMap key_cmp ToldRow

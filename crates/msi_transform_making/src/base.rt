@@ -1,6 +1,6 @@
 //! The databases of which a transform is made.
 
-ghost use Rattle.std.specs.Prelude.{◌≡◌, ◌≤◌, IfOk, filter, length, map, not};
+ghost use Rattle.std.specs.Prelude.{◌≡◌, ◌≤◌, [], IfOk, filter, length, map, not, option_map, unwrap_or};
 ghost use Rattle.std.specs.FinMap.{entries};
 ghost use Rattle.msi_base.specs.Results.{OnlyMemory};
 ghost use Rattle.msi_database_changes.specs.Database.{has_table};
@@ -20,6 +20,7 @@ use msi_database_storage::listing::table_named;
 use msi_database_storage::table_rows;
 use msi_pool::stringpool::StringPool;
 use msi_table::Table;
+use msi_table::parts::StoredRows;
 use msi_table_cells::cell::ValueRef;
 use msi_table_values::column::Column;
 use std::alloc::Global;
@@ -134,6 +135,17 @@ impl<'a> Base<'a> {
         match table_named(self.tables, name) {
             Some(table) => table.columns(),
             None => &[],
+        }
+    }
+
+    /// Returns the rows of a table where they stand in its stream, if there is such a table and its stream can be read.
+    pub(crate) fn stored_rows_of(&self, name: &str) -> Option<StoredRows<'a>>
+        ensures { unwrap_or (option_map (λ stored. stored.rows) result) []
+            ≡ system_rows self.now.kept.database name.now }
+    {
+        match table_named(self.tables, name) {
+            Some(table) => table_rows(self.streams, table),
+            None => None,
         }
     }
 

@@ -1,19 +1,23 @@
 //! The records of a table's rows.
 
-ghost use Rattle.std.specs.Prelude.{◌≡◌, ◌∷◌, ◌++◌, [], IfOk, OnOk, map};
+ghost use Rattle.std.specs.Prelude.{◌≡◌, ◌∷◌, ◌++◌, [], IfOk, OnOk, false, map};
 ghost use Rattle.std.specs.FinMap.{entries};
 ghost use Rattle.msi_base.specs.Results.{OnlyMemory};
+ghost use Rattle.msi_transform_making.specs.LeftOut.{AreTextsOf, AreToldAlike, HasOwnKeys};
 ghost use Rattle.msi_transform_making.specs.Making.{addition as addition_of, additions as all_additions};
 ghost use Rattle.msi_transform_making.specs.Making.{change_of_row as change_in_row, told_rows as rows_told};
 ghost use Rattle.msi_transform_making.specs.Making.{changes as all_changes, differences as all_differences};
+ghost use Rattle.msi_transform_making.specs.Making.{columns_before, columns_in_table, is_odd_table, is_unfit};
 ghost use Rattle.msi_transform_making.specs.Making.{first_told as told_first, is_replaced as is_row_replaced};
 ghost use Rattle.msi_transform_making.specs.Making.{records_beside as records_in_both};
 ghost use Rattle.msi_transform_making.specs.Making.{records_of_table as records_in_table, removals as all_removals};
 
 use crate::base::Base;
 use crate::differing::{can_be_marked, differing, has_bit_for};
-use crate::reading::told_rows;
+use crate::left_out::{are_told_alike, rows_left_of};
+use crate::reading::{rows_by_keys, told_rows};
 use crate::record::{ToldRecord, addition, changing, removal};
+use crate::same_texts::SameTexts;
 use crate::told::{ToldRow, ToldRows};
 use msi_base::errors::Error;
 use msi_database_changes::keys::Key;
@@ -176,8 +180,30 @@ fn first_told<'a>(
     }
 }
 
+/// Returns the records of a table whose rows are told alike, of those rows that aren't the same in both databases.
+fn records_of_rows_left<'a>(
+    old: &Base<'a>,
+    new: &Base<'a>,
+    texts: &SameTexts,
+    table: &str,
+) -> Result<Vec<ToldRecord<'a>>, Error>
+    requires texts { AreTextsOf old.now.kept new.now.kept texts.now }
+    requires alike { AreToldAlike (columns_in_table old.now.kept table.now) (columns_in_table new.now.kept table.now) }
+    requires old_keys { HasOwnKeys old.now.kept table.now }
+    requires new_keys { HasOwnKeys new.now.kept table.now }
+    ensures ok { IfOk result (λ records. records.items ≡ all_differences (columns_in_table new.now.kept table.now)
+        (rows_told old.now.kept table.now 0) (rows_told new.now.kept table.now 0)) }
+    ensures kind { OnlyMemory result }
+{
+    let left = rows_left_of(old, new, texts, table)?;
+    let columns = new.columns_of(table);
+    let rows = rows_by_keys(old, table, old.columns_of(table), 0, left.old.as_slice())?;
+    let others = rows_by_keys(new, table, columns, 0, left.new.as_slice())?;
+    differences(new.alloc, columns, &rows, &others)
+}
+
 /// Returns the records of a table that both databases have, and of whose columns the first so many are old.
-fn records_beside<'a>(
+fn records_of_all_rows<'a>(
     old: &Base<'a>,
     new: &Base<'a>,
     table: &str,
@@ -195,6 +221,27 @@ fn records_beside<'a>(
         return first_told(new.alloc, columns, before, &rows);
     }
     Ok(records)
+}
+
+/// Returns the records of a table that both databases have.
+fn records_beside<'a>(
+    old: &Base<'a>,
+    new: &Base<'a>,
+    texts: &SameTexts,
+    table: &str,
+) -> Result<Vec<ToldRecord<'a>>, Error>
+    requires texts { AreTextsOf old.now.kept new.now.kept texts.now }
+    requires old_keys { HasOwnKeys old.now.kept table.now }
+    requires new_keys { HasOwnKeys new.now.kept table.now }
+    ensures ok { let before = columns_before old.now.kept.database table.now in IfOk result (λ records.
+        records.items ≡ records_in_both old.now.kept new.now.kept table.now before) }
+    ensures kind { OnlyMemory result }
+{
+    let before = old.columns_of(table);
+    if are_told_alike(before, new.columns_of(table)) {
+        return records_of_rows_left(old, new, texts, table);
+    }
+    records_of_all_rows(old, new, table, before.len())
 }
 
 fn push_all_added<'a>(
@@ -228,13 +275,17 @@ fn all_added<'a>(base: &Base<'a>, table: &str) -> Result<Vec<ToldRecord<'a>>, Er
 pub(crate) fn records_of_table<'a>(
     old: &Base<'a>,
     new: &Base<'a>,
+    texts: &SameTexts,
     table: &str,
 ) -> Result<Vec<ToldRecord<'a>>, Error>
+    requires texts { AreTextsOf old.now.kept new.now.kept texts.now }
+    requires old_fit { is_unfit old.now.kept ≡ false }
+    requires new_fit { is_odd_table new.now.kept table.now ≡ false }
     ensures ok { IfOk result (λ records. records.items ≡ records_in_table old.now.kept new.now.kept table.now) }
     ensures kind { OnlyMemory result }
 {
     if !old.has_table(table) {
         return all_added(new, table);
     }
-    records_beside(old, new, table, old.columns_of(table).len())
+    records_beside(old, new, texts, table)
 }

@@ -29,6 +29,7 @@ ghost use Rattle.msi_transform_making.specs.MakingRefusals.{IsAtFault};
 ghost use Rattle.msi_transform_making.specs.Names.{names_in};
 
 use crate::base::Base;
+use crate::fingerprints::have_own_fingerprints;
 use crate::reasons;
 use crate::refusal::MakingRefusal;
 use crate::schema_records::described_columns;
@@ -80,6 +81,9 @@ fn have_own_keys(
     ensures ok { IfOk result (λ own. own ≡ are_keys_apart pool.now.places columns.now rows.now) }
     ensures kind { OnlyMemory result }
 {
+    if have_own_fingerprints(alloc, pool, columns, rows)? {
+        return Ok(true);
+    }
     let keys = keys_of_cells(alloc, pool, columns, rows)?;
     let distinct = distinct_keys(alloc, keys)?;
     Ok(distinct.is_some())

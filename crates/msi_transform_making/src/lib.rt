@@ -4,12 +4,15 @@
 pub mod base;
 mod differences;
 mod differing;
+mod fingerprints;
 mod fitness;
+mod left_out;
 mod making;
 mod reading;
 mod reasons;
 mod record;
 mod refusal;
+mod same_texts;
 mod schema_records;
 mod seen;
 mod storing;

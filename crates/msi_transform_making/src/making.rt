@@ -10,6 +10,7 @@ use crate::base::Base;
 use crate::fitness::{Described, check_pair};
 use crate::reading::told_rows;
 use crate::refusal::MakingRefusal;
+use crate::same_texts::SameTexts;
 use crate::storing::{records_by_table, stored_tables, told_streams};
 use crate::tables::{ToldTable, told_tables};
 use msi_base::errors::Error;
@@ -55,6 +56,7 @@ pub fn make<'a>(old: &Base<'a>, new: &Base<'a>) -> Result<Transform, MakingRefus
         new: new_rows,
     };
     check_pair(old, new, &described)?;
-    let tables = told_tables(old, new, &described.new)?;
+    let texts = SameTexts::of_pools(new.alloc, old.pool(), new.pool())?;
+    let tables = told_tables(old, new, &texts, &described.new)?;
     Ok(transform_of(new, tables.as_slice())?)
 }

@@ -160,7 +160,10 @@ fn put_row<'a>(
 }
 
 /// Returns rows of cells by their keys: of two with one key the first.
-fn rows_by_keys<'a>(
+///
+/// # Errors
+/// Fails with `OutOfMemory`.
+pub(crate) fn rows_by_keys<'a>(
     base: &Base<'a>,
     table: &str,
     columns: &[Column],

@@ -1,18 +1,20 @@
 //! The tables of which a transform tells, with their records.
 
-ghost use Rattle.std.specs.Prelude.{◌≡◌, ◌∷◌, ◌++◌, [], IfOk, OnOk, filter, map};
+ghost use Rattle.std.specs.Prelude.{◌≡◌, ◌∷◌, ◌++◌, [], IfOk, OnOk, false, filter, map};
 ghost use Rattle.std.specs.FinMap.{entries};
 ghost use Rattle.msi_base.specs.Results.{OnlyMemory};
 ghost use Rattle.msi_database_schema.specs.System.{columns_columns as columns_of_columns, columns_name};
 ghost use Rattle.msi_database_schema.specs.System.{tables_columns as columns_of_tables};
 ghost use Rattle.msi_transform.specs.Transforms.{shapes_of as shapes_in};
-ghost use Rattle.msi_transform_making.specs.Making.{is_told, told_rows as rows_told};
+ghost use Rattle.msi_transform_making.specs.LeftOut.{AreFit, AreTextsOf};
+ghost use Rattle.msi_transform_making.specs.Making.{is_odd_table, is_told, is_unfit, told_rows as rows_told};
 ghost use Rattle.msi_transform_making.specs.Making.{told_table as table_told, told_tables as tables_told};
 ghost use Rattle.msi_transform_making.specs.Names.{names_in};
 
 use crate::base::Base;
 use crate::differences::records_of_table;
 use crate::record::ToldRecord;
+use crate::same_texts::SameTexts;
 use crate::schema_records::{records_of_columns, records_of_tables};
 use crate::told::ToldRows;
 use msi_base::errors::Error;
@@ -101,11 +103,19 @@ fn push_if_told<'a>(tables: &mut Vec<ToldTable<'a>>, table: ToldTable<'a>) -> Re
     Ok(())
 }
 
-fn told_table<'a>(old: &Base<'a>, new: &Base<'a>, name: &'a str) -> Result<ToldTable<'a>, Error>
+fn told_table<'a>(
+    old: &Base<'a>,
+    new: &Base<'a>,
+    texts: &SameTexts,
+    name: &'a str,
+) -> Result<ToldTable<'a>, Error>
+    requires texts { AreTextsOf old.now.kept new.now.kept texts.now }
+    requires old_fit { is_unfit old.now.kept ≡ false }
+    requires new_fit { is_odd_table new.now.kept name.now ≡ false }
     ensures ok { IfOk result (λ table. table ≡ table_told old.now.kept new.now.kept name.now) }
     ensures kind { OnlyMemory result }
 {
-    let records = records_of_table(old, new, name)?;
+    let records = records_of_table(old, new, texts, name)?;
     let shapes = shapes_of(new.alloc, new.columns_of(name))?;
     Ok(ToldTable::new(name, shapes, records))
 }
@@ -113,15 +123,19 @@ fn told_table<'a>(old: &Base<'a>, new: &Base<'a>, name: &'a str) -> Result<ToldT
 fn push_told_tables<'a>(
     old: &Base<'a>,
     new: &Base<'a>,
+    texts: &SameTexts,
     tables: &mut Vec<ToldTable<'a>>,
     names: &[&'a str],
 ) -> Result<(), Error>
+    requires texts { AreTextsOf old.now.kept new.now.kept texts.now }
+    requires old_fit { is_unfit old.now.kept ≡ false }
+    requires new_fit { AreFit new.now.kept (names_in names.now) }
     ensures ok { OnOk result (tables.new.items ≡ tables.old.items
         ++ filter is_told (map (table_told old.now.kept new.now.kept) (names_in names.now))) }
     ensures kind { OnlyMemory result }
 {
     for name in names {
-        push_if_told(tables, told_table(old, new, name)?)?;
+        push_if_told(tables, told_table(old, new, texts, name)?)?;
     }
     Ok(())
 }
@@ -134,9 +148,13 @@ fn push_told_tables<'a>(
 pub(crate) fn told_tables<'a>(
     old: &Base<'a>,
     new: &Base<'a>,
+    texts: &SameTexts,
     described: &ToldRows<'a>,
 ) -> Result<Vec<ToldTable<'a>>, Error>
-    requires { entries described.now ≡ rows_told new.now.kept columns_name 0 }
+    requires texts { AreTextsOf old.now.kept new.now.kept texts.now }
+    requires old_fit { is_unfit old.now.kept ≡ false }
+    requires new_fit { is_unfit new.now.kept ≡ false }
+    requires described { entries described.now ≡ rows_told new.now.kept columns_name 0 }
     ensures ok { IfOk result (λ tables. tables.items ≡ tables_told old.now.kept new.now.kept) }
     ensures kind { OnlyMemory result }
 {
@@ -148,6 +166,6 @@ pub(crate) fn told_tables<'a>(
     push_if_told(&mut tables, ToldTable::new(TABLES, shapes, listed))?;
     let shapes = shapes_of_columns(new.alloc)?;
     push_if_told(&mut tables, ToldTable::new(COLUMNS, shapes, described))?;
-    push_told_tables(old, new, &mut tables, names.as_slice())?;
+    push_told_tables(old, new, texts, &mut tables, names.as_slice())?;
     Ok(tables)
 }

@@ -1,5 +1,11 @@
 //! `transform apply FILE T..`: transforms that are applied to a package.
 
+ghost use Rattle.std.specs.Prelude.{◌≡◌, IfSome, OnOk};
+ghost use Rattle.msi.specs.Transforming.{transforming};
+ghost use Rattle.msi.specs.Whole.{Becomes};
+ghost use Rattle.msi_transform.specs.Transforms.{TransformDef};
+ghost use Rattle.msi_transform.specs.declared.conditions.ErrorConditions.{ErrorConditions as ErrorConditionsOf};
+
 use crate::change::Manner;
 use crate::outcome::Outcome;
 use crate::recounting::{mend_first, noted};
@@ -45,7 +51,11 @@ fn apply_named(
     package: &mut Package<Opened>,
     word: &str,
     passing: Option<ErrorConditions>,
-) -> Result<(), Failure> {
+) -> Result<(), Failure>
+    ensures ok { OnOk result ((t : TransformDef) × (ignored : ErrorConditionsOf)
+        × Becomes «package».old (transforming «package».old.state t ignored) «package».new
+        × IfSome passing (λ passing. ignored ≡ passing)) }
+{
     let read = read_named(rt, file, word)?;
     let passing = match passing {
         Some(passing) => passing,

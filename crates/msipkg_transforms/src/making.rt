@@ -1,11 +1,8 @@
 //! `transform make OLD NEW OUT`: the transform of two packages.
 
-ghost use Rattle.std.specs.Prelude.{◌≡◌, ◌&&◌, ◌⊎◌, IfOk, IsErr, IsTrue, Ok, OnErr, OnOk, if◌then◌else◌, not};
-ghost use Rattle.msi.specs.Steps.{with_page};
-ghost use Rattle.msi.specs.Text.CodePage.TheVariants.{Utf8};
-ghost use Rattle.msi.specs.TransformMaking.{transform_made};
-ghost use Rattle.msi.specs.Whole.{with_state};
+ghost use Rattle.std.specs.Prelude.{◌≡◌, ◌&&◌, IsErr, IsTrue, OnErr, OnOk, if◌then◌else◌, not};
 ghost use Rattle.msi_transform.specs.WrittenTransforms.{as_neutral};
+ghost use Rattle.msipkg_transforms.specs.NamedPages.{named_if, takes_page};
 
 use crate::holdings::Holdings;
 use crate::left_out::LeftOut;
@@ -85,7 +82,10 @@ pub fn make_transform(
         Err(failure) => return Err(failure.at(alloc, "file", new.path)),
     };
     name_pages(&mut old, &mut new);
-    let mut made = made_of(alloc, &mut old.package, &mut new.package)?;
+    let mut made = match old.package.transform_to(&mut new.package) {
+        Ok(made) => made,
+        Err(refusal) => return Err(failure_of(alloc, &new.package, refusal)),
+    };
     keep_neutral(&old, &new, &mut made)?;
     let has_page = old.page != new.page;
     if made.tables().len() == 0 && !has_page {
@@ -122,10 +122,12 @@ fn side_of(rt: &System, file: &PackageFile<'_>, notes: &mut Output) -> Result<Si
 
 /// Names the pages of neutral packages, as mending the counts of one does with its page. So both still have the same.
 fn name_pages(old: &mut Side, new: &mut Side)
-    ensures old { let p = old.old.package in
-        (old.new.package ≡ p) ⊎ (old.new.package ≡ with_state (with_page Utf8 p.state) p) }
-    ensures new { let p = new.old.package in
-        (new.new.package ≡ p) ⊎ (new.new.package ≡ with_state (with_page Utf8 p.state) p) }
+    ensures new { let named = old.old.is_neutral && new.old.is_neutral in
+        new.new.package ≡ named_if named new.old.package }
+    ensures old { let named = old.old.is_neutral && new.old.is_neutral && takes_page new.old.package in
+        old.new.package ≡ named_if named old.old.package }
+    ensures page { (old.new.page ≡ old.old.page) × (new.new.page ≡ new.old.page) }
+    ensures neutral { (old.new.is_neutral ≡ old.old.is_neutral) × (new.new.is_neutral ≡ new.old.is_neutral) }
 {
     if old.is_neutral && new.is_neutral {
         // Where this is refused, the page stays as it is.
@@ -133,22 +135,6 @@ fn name_pages(old: &mut Side, new: &mut Side)
         if named.is_ok() {
             let _named = old.package.set_database_codepage(CodePage::Utf8);
         }
-    }
-}
-
-/// Returns the transform from one package to another.
-fn made_of(
-    alloc: Global,
-    old: &mut Package<Opened>,
-    new: &mut Package<Opened>,
-) -> Result<Transform, Failure>
-    ensures ok { IfOk result (λ made. transform_made old.old.state new.old.state ≡ Ok made) }
-    ensures same { old.new ≡ old.old }
-    ensures same_new { new.new ≡ new.old }
-{
-    match old.transform_to(new) {
-        Ok(made) => Ok(made),
-        Err(refusal) => Err(failure_of(alloc, new, refusal)),
     }
 }
 

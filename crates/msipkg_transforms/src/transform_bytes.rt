@@ -4,7 +4,8 @@ ghost use Rattle.std.specs.Prelude.{◌≡◌, ◌⊎◌, IfErr, IfOk, Ok};
 ghost use Rattle.msi.specs.Container.Container.{Holds};
 ghost use Rattle.msi.specs.Container.Contents.{Contents};
 ghost use Rattle.msi.specs.Text.ErrorKind.TheVariants.{InvalidInput, OutOfMemory};
-ghost use Rattle.msi_transform.specs.TransformFiles.{ReadsTo};
+ghost use Rattle.msi_transform.specs.TransformFiles.{IsReadRefusal, ReadsTo};
+ghost use Rattle.msi_transform.specs.Transforms.{TransformDef};
 ghost use Rattle.msi_transform.specs.WrittenTransforms.{AreWritten, HasNoFile, IsMade, with_summary};
 
 use msi_transform::Transform;
@@ -56,6 +57,8 @@ impl TransformBytes {
     /// Fails as `Transform::read` does.
     pub(crate) fn read_again(self, alloc: Global) -> Result<TransformBytes, Error>
         ensures same { IfOk result (λ bytes. bytes ≡ self) }
+        ensures read { IfOk result (λ bytes. (t : TransformDef) × ReadsTo bytes (Ok t)) }
+        ensures kind { IfErr result (IsReadRefusal self) }
     {
         let TransformBytes { bytes } = self;
         let copy = Vec::from_slice(alloc, bytes.as_slice())?;
