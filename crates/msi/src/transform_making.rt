@@ -3,7 +3,7 @@
 ghost use Rattle.std.specs.Prelude.{◌≡◌, ◌==◌, ◌&&◌, IfErr, IfOk, Ok, not};
 ghost use Rattle.msi_base.specs.Refusals.{IsRefusal, unless_refused};
 ghost use Rattle.msi_transform_making.specs.Making.{table_reasons, told_names};
-ghost use Rattle.msi_transform_making.specs.MakingRefusals.{IsAtFault};
+ghost use Rattle.msi_transform_pair.specs.MakingRefusals.{IsAtFault};
 ghost use Rattle.msi.specs.TransformMaking.{conditions_needed as needed, kind_refusal, only_other_page};
 ghost use Rattle.msi.specs.TransformMaking.{pair_of_states, transform_made};
 
@@ -13,7 +13,7 @@ use crate::{PackageType, reasons};
 use msi_base::errors::{Error, ErrorKind, Reason};
 use msi_container_device::Source;
 use msi_transform::{ErrorConditions, Transform};
-use msi_transform_making::MakingRefusal;
+use msi_transform_pair::MakingRefusal;
 
 fn check_installer(kind: PackageType, reason: Reason) -> Result<(), Error>
     ensures { result ≡ unless_refused (kind_refusal kind) tt }

@@ -14,7 +14,7 @@ use msi_container_format::contents::StreamMap;
 use msi_database::Database;
 use msi_transform::stored_pool::page_id_in;
 pub use msi_transform::{ErrorConditions, Fault, Transform};
-pub use msi_transform_making::MakingRefusal;
+pub use msi_transform_pair::MakingRefusal;
 pub use msi_transform_rows::{RecordPlace, Refusal};
 
 /// Returns the id of the code page as the package stores it, which may be 0 for UTF-8.

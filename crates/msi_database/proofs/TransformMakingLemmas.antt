@@ -6,7 +6,7 @@ use Rattle.msi_base.specs.Refusals.{IsRefusal, unless_refused, ◌>>=◌}
 use Rattle.msi_database_changes.specs.Changes.{sound_refusal}
 use Rattle.msi_transform.specs.Transforms.{TransformDef}
 use Rattle.msi_transform_making.specs.Making.{Side, made, pair_of, table_reasons, told_names}
-use Rattle.msi_transform_making.specs.MakingRefusals.{IsAtFault, MakingRefusal}
+use Rattle.msi_transform_pair.specs.MakingRefusals.{IsAtFault, MakingRefusal}
 use Rattle.msi_database.specs.TransformMaking.{transform_between, with_sound}
 
 module _ (old new a b : Side) (a_is : a ≡ old) (b_is : b ≡ new)

@@ -4,14 +4,15 @@ ghost use Rattle.std.specs.Prelude.{◌≡◌, IfErr, IfOk, Ok};
 ghost use Rattle.msi_base.specs.Refusals.{IsRefusal, unless_refused};
 ghost use Rattle.msi_database_changes.specs.Changes.{sound_refusal};
 ghost use Rattle.msi_transform_making.specs.Making.{pair_of, table_reasons, told_names};
-ghost use Rattle.msi_transform_making.specs.MakingRefusals.{IsAtFault};
+ghost use Rattle.msi_transform_pair.specs.MakingRefusals.{IsAtFault};
 ghost use Rattle.msi_database.specs.TransformMaking.{side, transform_between};
 
 use crate::database::Database;
 use crate::reasons;
 use msi_base::errors::{Error, ErrorKind, Reason};
 use msi_transform::Transform;
-use msi_transform_making::{Base, MakingRefusal, make};
+use msi_transform_making::make;
+use msi_transform_pair::{Base, MakingRefusal};
 
 impl Database {
     fn check_sound_side(&self, reason: Reason) -> Result<(), Error>

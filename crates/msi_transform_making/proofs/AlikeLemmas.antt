@@ -34,7 +34,7 @@ use Rattle.msi_transform_schema.specs.SchemaApplying.{have_own_keys, system_rows
 use Rattle.msi_transform_schema.specs.SchemaChanges.{is_name_to_list}
 use Rattle.msi_transform_making.specs.LeftOut.{AreCellsLeft, AreFit, AreSameTexts, AreTextsOf, AreToldAlike, HasOwnKeys}
 use Rattle.msi_transform_making.specs.Making.{Pair, ToldRecord, ToldRow, ToldRows, by_keys, columns_before, columns_in_table, differences, is_odd_table, is_unfit, lacks_text, loses_page, or_first_told, reasons, records_beside, shares_stream, stream_of_row, table_reasons, told_names, told_row, told_row_with, told_rows, told_values, values_in_table}
-use Rattle.msi_transform_making.specs.Names.{names_in}
+use Rattle.msi_transform_pair.specs.Names.{names_in}
 use Rattle.msi_transform_making.proofs.LeftOutLemmas.{HaveOwnKeys, left_differences}
 
 -- COLUMNS

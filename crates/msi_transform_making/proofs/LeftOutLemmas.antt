@@ -22,7 +22,7 @@ use Rattle.msi_transform_applying.specs.Applying.{same_stream}
 use Rattle.msi_transform_rows.specs.KeyOfRows.{key_cmp}
 use Rattle.msi_transform_making.specs.LeftOut.{AreLeft, Values, nothing, of_new, of_old, pair}
 use Rattle.msi_transform_making.specs.Making.{ToldRecord, ToldRow, ToldRows, addition, additions, by_keys, can_be_marked, change_of_row, changes, changing, differences, differing, is_replaced, removal, removals, same_value}
-use Rattle.msi_transform_making.proofs.ToldRowsLemmas.{exact_keys, keys_tie, keys_total}
+use Rattle.msi_transform_pair.proofs.ToldRowsLemmas.{exact_keys, keys_tie, keys_total}
 
 -- WHAT IS FOUND AT A KEY
 

@@ -1,15 +1,8 @@
 pub mod AlikeLemmas
-pub mod BaseLemmas
-pub mod FingerprintLemmas
-pub mod FitnessLemmas
 pub mod LeftOutLemmas
 pub mod LeftOutSteps
 pub mod MakingRows
 pub mod MaskLemmas
-pub mod PageLemmas
 pub mod SameTextsLemmas
-pub mod SchemaLemmas
 pub mod SideLemmas
 pub mod StoringLemmas
-pub mod StreamNamesLemmas
-pub mod ToldRowsLemmas

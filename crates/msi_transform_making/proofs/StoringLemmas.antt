@@ -5,7 +5,7 @@ use Rattle.msi_container_format.specs.Names.{name_cmp}
 use Rattle.msi_base.specs.Lists.{list_cmp}
 use Rattle.msi_transform_records.specs.declared.records.Record.{Record}
 use Rattle.msi_transform_making.specs.Making.{ToldTable, by_names, table_records}
-use Rattle.msi_transform_making.proofs.ToldRowsLemmas.{last_rest}
+use Rattle.msi_transform_pair.proofs.ToldRowsLemmas.{last_rest}
 
 pub table_put : (long : Bool) (xs : List (ToldTable × List Record)) (i : ℕ) (x : ToldTable × List Record) (before after : List (List ℕ × List ℕ)) → i < length xs
     → x ≡ get_or xs (length xs - 1 - i) x → before ≡ by_names (map (table_records long) (drop (length xs - i) xs)) → after ≡ put list_cmp x.0.name (table_records long x).1 before

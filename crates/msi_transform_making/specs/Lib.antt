@@ -1,7 +1,4 @@
 -- The words of this crate.
-pub mod Fingerprints
-pub mod Making
 pub mod LeftOut
-pub mod MakingRefusals
-pub mod Names
+pub mod Making
 pub mod Telling

@@ -8,7 +8,7 @@ ghost use Rattle.msi_transform_rows.specs.RowStreams.{is_of_streams as is_stream
 ghost use Rattle.msi_transform_schema.specs.SchemaApplying.{system_rows};
 ghost use Rattle.msi_transform_making.specs.LeftOut.{AreCellsLeft, AreSameCells, AreSameRows, AreToldAlike};
 
-use crate::base::Base;
+use msi_transform_pair::base::Base;
 use crate::same_texts::SameTexts;
 use msi_base::errors::Error;
 use msi_base::text::Items;

@@ -4,12 +4,13 @@ ghost use Rattle.std.specs.Prelude.{◌≡◌, IfErr, IfOk, Ok};
 ghost use Rattle.msi_base.specs.Refusals.{IsRefusal};
 ghost use Rattle.msi_transform_making.specs.Making.{made, pair_of, table_reasons, told_names};
 ghost use Rattle.msi_transform_making.specs.Making.{transform_of as transform_told};
-ghost use Rattle.msi_transform_making.specs.MakingRefusals.{IsAtFault};
+ghost use Rattle.msi_transform_pair.specs.MakingRefusals.{IsAtFault};
 
-use crate::base::Base;
-use crate::fitness::{Described, check_pair};
-use crate::reading::told_rows;
-use crate::refusal::MakingRefusal;
+use msi_transform_pair::base::Base;
+use msi_transform_pair::check_pair;
+use msi_transform_pair::described::Described;
+use msi_transform_pair::reading::told_rows;
+use msi_transform_pair::MakingRefusal;
 use crate::same_texts::SameTexts;
 use crate::storing::{records_by_table, stored_tables, told_streams};
 use crate::tables::{ToldTable, told_tables};

@@ -13,9 +13,9 @@ ghost use Rattle.msi_transform_making.specs.Making.{stored_action, tells_stream 
 ghost use Rattle.msi_transform_making.specs.Telling.{action_of};
 
 use crate::differing::mask_for;
-use crate::seen::{SeenValues, copied, key_with};
+use msi_transform_pair::seen::{SeenValues, copied, key_with};
 use crate::telling::Telling;
-use crate::told::ToldRow;
+use msi_transform_pair::told::ToldRow;
 use msi_base::errors::Error;
 use msi_container_format::contents::Bytes;
 use msi_database_changes::keys::Key;

@@ -3,32 +3,27 @@
 ghost use Rattle.std.specs.Prelude.{◌≡◌, ◌++◌, IfOk, OnOk, map, take};
 ghost use Rattle.std.specs.FinMap.{entries};
 ghost use Rattle.std.specs.List.{flat_map};
-ghost use Rattle.std.specs.Ordering.{eq_by_cmp};
 ghost use Rattle.msi_base.specs.Results.{OnlyMemory};
 ghost use Rattle.msi_database_changes.specs.Views.{seen_row};
 ghost use Rattle.msi_database_schema.specs.System.{columns_name};
-ghost use Rattle.msi_table_values.specs.Values.{value_cmp};
-ghost use Rattle.msi_table_values.specs.Views.{seen_value};
-ghost use Rattle.msi_table_values.specs.declared.value.Value.TheVariants.{Str};
 ghost use Rattle.msi_transform_making.specs.Making.{describing_record as record_describing};
-ghost use Rattle.msi_transform_making.specs.Making.{described_columns as rows_of_name};
 ghost use Rattle.msi_transform_making.specs.Making.{listing_record as record_listing};
 ghost use Rattle.msi_transform_making.specs.Making.{records_of_columns as column_records};
 ghost use Rattle.msi_transform_making.specs.Making.{records_of_tables as table_records, told_rows as rows_told};
 ghost use Rattle.msi_transform_making.specs.Making.{with_number_if as number_kept};
-ghost use Rattle.msi_transform_making.specs.Names.{names_in};
+ghost use Rattle.msi_transform_pair.specs.Names.{names_in};
 ghost use Rattle.msi_transform_making.specs.Telling.{action_of};
 
-use crate::base::Base;
+use msi_transform_pair::base::Base;
 use crate::record::ToldRecord;
-use crate::seen::{SeenValues, copied, key_with};
+use msi_transform_pair::seen::{SeenValues, copied, key_with};
 use crate::telling::Telling;
-use crate::told::ToldRows;
+use msi_transform_pair::told::ToldRows;
+use msi_transform_pair::described::described_columns;
 use msi_base::errors::Error;
 use msi_database_changes::keys::Key;
 use msi_table_values::parts::ValueView;
 use std::alloc::Global;
-use std::cmp::Ordering;
 
 /// Returns a record of `_Tables`.
 fn listing_record<'a>(
@@ -78,35 +73,6 @@ pub(crate) fn records_of_tables<'a>(
     push_listings(new.alloc, &mut records, Telling::Remove, gone.as_slice())?;
     push_listings(new.alloc, &mut records, Telling::Add, added.as_slice())?;
     Ok(records)
-}
-
-/// Returns the rows of `_Columns` that describe the columns of a table, in the order of their numbers.
-///
-/// # Errors
-/// Fails with `OutOfMemory`.
-pub(crate) fn described_columns<'a>(
-    base: &Base<'a>,
-    described: &ToldRows<'a>,
-    name: &str,
-) -> Result<Vec<Key<'a>>, Error>
-    requires { entries described.now ≡ rows_told base.now.kept columns_name 0 }
-    ensures ok { IfOk result (λ rows. rows.items ≡ rows_of_name base.now.kept name.now) }
-    ensures kind { OnlyMemory result }
-{
-    let mut rows = Vec::new(base.alloc);
-    for (_, row) in described.iter() {
-        if !is_name(row.values().at(0), name) {
-            continue;
-        }
-        rows.push(key_with(base.alloc, row.values().as_slice())?)?;
-    }
-    Ok(rows)
-}
-
-fn is_name(value: ValueView, name: &str) -> bool
-    ensures { result ≡ eq_by_cmp value_cmp (seen_value value.entry) (Str name.now) }
-{
-    value.compare(ValueView::Str(name)) == Ordering::Equal
 }
 
 /// Returns a row of `_Columns` with its number, or with null in its place.

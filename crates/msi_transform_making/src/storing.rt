@@ -16,7 +16,7 @@ ghost use Rattle.msi_transform_making.specs.Making.{with_told_stream, with_told_
 
 use crate::reasons;
 use crate::record::ToldRecord;
-use crate::seen::owned;
+use msi_transform_pair::seen::owned;
 use crate::tables::ToldTable;
 use msi_base::errors::{Error, ErrorKind};
 use msi_base::text::Items;

@@ -9,14 +9,14 @@ ghost use Rattle.msi_transform.specs.Transforms.{shapes_of as shapes_in};
 ghost use Rattle.msi_transform_making.specs.LeftOut.{AreFit, AreTextsOf};
 ghost use Rattle.msi_transform_making.specs.Making.{is_odd_table, is_told, is_unfit, told_rows as rows_told};
 ghost use Rattle.msi_transform_making.specs.Making.{told_table as table_told, told_tables as tables_told};
-ghost use Rattle.msi_transform_making.specs.Names.{names_in};
+ghost use Rattle.msi_transform_pair.specs.Names.{names_in};
 
-use crate::base::Base;
+use msi_transform_pair::base::Base;
 use crate::differences::records_of_table;
 use crate::record::ToldRecord;
 use crate::same_texts::SameTexts;
 use crate::schema_records::{records_of_columns, records_of_tables};
-use crate::told::ToldRows;
+use msi_transform_pair::told::ToldRows;
 use msi_base::errors::Error;
 use msi_base::text::Items;
 use msi_database_schema::system::{COLUMNS, TABLES, columns_columns, tables_columns};

@@ -6,7 +6,7 @@ use Rattle.msi_base.specs.Refusals.{unless_refused, ◌>>=◌}
 use Rattle.msi_database_storage.specs.Kept.{Kept}
 use Rattle.msi_transform.specs.Transforms.{TransformDef}
 use Rattle.msi_transform_making.specs.Making.{Pair, Side, pair_of, table_reasons, told_names}
-use Rattle.msi_transform_making.specs.MakingRefusals.{IsAtFault, MakingRefusal}
+use Rattle.msi_transform_pair.specs.MakingRefusals.{IsAtFault, MakingRefusal}
 use Rattle.msi_database.specs.TransformMaking.{side, transform_between}
 use Rattle.msi.specs.State.{State}
 use Rattle.msi.specs.Transforming.{page_of}

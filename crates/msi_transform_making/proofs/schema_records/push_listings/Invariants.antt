@@ -1,6 +1,6 @@
 use Rattle.std.proofs.Common.{◌≡◌, ◌++◌, drop, map}
 use Rattle.msi_transform_making.specs.Making.{listing_record}
-use Rattle.msi_transform_making.specs.Names.{names_in}
+use Rattle.msi_transform_pair.specs.Names.{names_in}
 use Rattle.msi_transform_making.specs.Telling.{action_of}
 use Rattle.msi_transform_making.proofs.schema_records.push_listings.Given as goal
 

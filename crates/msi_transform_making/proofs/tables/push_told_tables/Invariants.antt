@@ -1,7 +1,7 @@
 use Rattle.std.proofs.Common.{◌≡◌, ◌++◌, drop, map}
 use Rattle.std.specs.Prelude.{filter}
 use Rattle.msi_transform_making.specs.Making.{is_told, told_table}
-use Rattle.msi_transform_making.specs.Names.{names_in}
+use Rattle.msi_transform_pair.specs.Names.{names_in}
 use Rattle.msi_transform_making.proofs.tables.push_told_tables.Given as goal
 
 abbrev pub invariant-loop-name : goal.invariant-loop-name

@@ -1,5 +1,5 @@
 use Rattle.std.proofs.Common.{◌∙◌, ap}
-use Rattle.msi_transform_making.specs.Names.{names_in}
+use Rattle.msi_transform_pair.specs.Names.{names_in}
 use Rattle.msi_transform_making.proofs.AlikeLemmas.{names_fit}
 use Rattle.msi_transform_making.proofs.tables.told_tables.Goals as goal
 

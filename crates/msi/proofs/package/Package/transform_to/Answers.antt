@@ -4,7 +4,7 @@ use Rattle.msi_base.specs.declared.errors.ErrorKind.{ErrorKind}
 use Rattle.msi_base.specs.Refusals.{IsRefusal}
 use Rattle.msi_transform.specs.Transforms.{TransformDef}
 use Rattle.msi_transform_making.specs.Making.{Pair, table_reasons, told_names}
-use Rattle.msi_transform_making.specs.MakingRefusals.{IsAtFault}
+use Rattle.msi_transform_pair.specs.MakingRefusals.{IsAtFault}
 use Rattle.msi.proofs.packages.TransformMakingLemmas.{made_is, at_fault_is}
 use Rattle.msi.proofs.package.Package.transform_to.Goals as goal
 

@@ -1,9 +1,0 @@
-use Rattle.std.proofs.Common.{◌∙◌, ap, length}
-use Rattle.msi_transform_making.proofs.ToldRowsLemmas.{entries_in_order}
-use Rattle.msi_transform_making.proofs.told.ToldRows.iter.Goals as goal
-
-pub returns-clause-rest : goal.returns-clause-rest
-returns-clause-rest c = c.iter.ensures.rest ∙ entries_in_order c.self.inside.map.entries c.args.self.now c.self.view_is c.iter.ensures.ordered
-
-pub returns-clause-len : goal.returns-clause-len
-returns-clause-len c = ap length (returns-clause-rest c)

@@ -1,0 +1,10 @@
+use Rattle.std.proofs.Common.{◌≡◌, map, take}
+use Rattle.msi_table_cells.specs.CellValues.{row_values}
+use Rattle.msi_table_cells.specs.KeyOrder.{key_of}
+use Rattle.msi_transform_pair.specs.Fingerprints.{fingerprint}
+use Rattle.msi_transform_pair.proofs.fingerprints.fingerprints_of_rows.Given as goal
+
+abbrev pub invariant-loop-row : goal.invariant-loop-row
+invariant-loop-row l = record {
+  prints : l.prints.items ≡ map (λ row. fingerprint (key_of l.columns (row_values l.pool.places row))) (take l.row-index l.rows);
+}
