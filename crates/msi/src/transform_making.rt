@@ -1,7 +1,8 @@
 //! Making a transform: of a package and of what it has become.
 
-ghost use Rattle.std.specs.Prelude.{◌≡◌, ◌==◌, ◌&&◌, IfErr, IfOk, Ok, not};
-ghost use Rattle.msi_base.specs.Refusals.{IsRefusal, unless_refused};
+ghost use Rattle.std.specs.Prelude.{◌≡◌, ◌==◌, ◌&&◌, ◌++◌, Err, IfErr, IfOk, IfSome, None, Ok, not};
+ghost use Rattle.msi_base.specs.Refusals.{IsRefusal, first_refusal, unless_refused};
+ghost use Rattle.msi_database.specs.Changes.{sound_refusal};
 ghost use Rattle.msi_transform_making.specs.Making.{table_reasons, told_names};
 ghost use Rattle.msi_transform_pair.specs.MakingRefusals.{IsAtFault};
 ghost use Rattle.msi.specs.TransformMaking.{conditions_needed as needed, kind_refusal, only_other_page};
@@ -53,6 +54,9 @@ impl<F: Source> Package<F> {
         ensures kind { IfErr result (λ refusal. IsRefusal (transform_made self.old.state new.old.state) refusal.kind) }
         ensures table { let rules = table_reasons (pair_of_states self.old.state new.old.state) in
             IfErr result (IsAtFault rules (told_names new.old.state.kept)) }
+        ensures early { let refusals = kind_refusal self.old.state.kind ++ kind_refusal new.old.state.kind
+            ++ sound_refusal self.old.state.kept.database ++ sound_refusal new.old.state.kept.database in
+            IfSome (first_refusal refusals) (λ kind. result ≡ Err (record { kind = kind; table = None })) }
         ensures same { self.new ≡ self.old }
         ensures same_new { new.new ≡ new.old }
     {

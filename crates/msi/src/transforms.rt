@@ -1,10 +1,13 @@
 //! Applying transforms, which describe how one package becomes another.
 
-ghost use Rattle.std.specs.Prelude.{◌≡◌, IfErr, OnErr, OnOk};
+ghost use Rattle.std.specs.Prelude.{◌≡◌, ◌++◌, Err, IfErr, IfSome, None, OnErr, OnOk};
+ghost use Rattle.msi_base.specs.Refusals.{first_refusal};
+ghost use Rattle.msi_database.specs.Changes.{sound_refusal};
 ghost use Rattle.msi_transform_rows.specs.RecordRefusals.{IsRefused};
 ghost use Rattle.std.specs.FinMap.{entries};
 ghost use Rattle.msi_container_format.specs.Chains.{AreBelow};
 ghost use Rattle.msi_container_write.specs.LayoutLaw.{HaveNames};
+ghost use Rattle.msi.specs.State.{parts_of, storage_refusal};
 ghost use Rattle.msi.specs.Transforming.{IsLeft, page_of, transforming};
 ghost use Rattle.msi.specs.Whole.{Becomes};
 
@@ -85,6 +88,9 @@ impl<F: Source> Package<F> {
         ensures kept { OnOk result (IsLeft self.new.state.kept) }
         ensures same { OnErr result (self.new ≡ self.old) }
         ensures kind { IfErr result (IsRefused (transforming self.old.state transform.now passing)) }
+        ensures early { let s = self.old.state in
+            let refusals = storage_refusal (parts_of s) ++ sound_refusal s.kept.database in
+            IfSome (first_refusal refusals) (λ kind. result ≡ Err (record { kind = kind; place = None })) }
     {
         self.check_storages()?;
         settle(&mut self.database, &mut self.open, &mut self.current);

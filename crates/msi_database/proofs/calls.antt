@@ -7,6 +7,7 @@ pub mod AcceptedCallLemmas
 pub mod RefusedCallLemmas
 pub mod ColumnCallLemmas
 pub mod EarlyCallLemmas
+pub mod EarlyTransformLemmas
 pub mod ChangingLemmas
 pub mod FinishedChangeLemmas
 pub mod CanStoreLemmas

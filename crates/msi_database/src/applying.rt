@@ -1,6 +1,8 @@
 //! Applying a transform: the database that it makes of this one is built beside it.
 
-ghost use Rattle.std.specs.Prelude.{◌≡◌, IfErr, IfOk, Ok, if◌then◌else◌, true};
+ghost use Rattle.std.specs.Prelude.{◌≡◌, Err, IfErr, IfOk, IfSome, None, Ok, if◌then◌else◌, true};
+ghost use Rattle.msi_base.specs.Refusals.{first_refusal};
+ghost use Rattle.msi_database_changes.specs.Changes.{sound_refusal};
 ghost use Rattle.std.specs.FinMap.{entries};
 ghost use Rattle.msi_base.specs.Results.{OnlyMemory};
 ghost use Rattle.msi_database_changes.specs.Database.{is_sound as is_sound_one};
@@ -92,6 +94,8 @@ impl Database {
         ensures ok { IfOk result (λ d. apply_transform self.now page_id transform.now passing ≡ Ok d) }
         ensures sound { IfOk result (λ d. is_sound_one d.database ≡ true) }
         ensures kind { IfErr result (IsRefused (apply_transform self.now page_id transform.now passing)) }
+        ensures early { IfSome (first_refusal (sound_refusal self.now.database))
+            (λ kind. result ≡ Err (record { kind = kind; place = None })) }
     {
         self.check_sound()?;
         let left = self.left_by(page_id, transform, passing)?;

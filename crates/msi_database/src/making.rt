@@ -1,7 +1,7 @@
 //! Making a transform: of a database and of what it has become.
 
-ghost use Rattle.std.specs.Prelude.{◌≡◌, IfErr, IfOk, Ok};
-ghost use Rattle.msi_base.specs.Refusals.{IsRefusal, unless_refused};
+ghost use Rattle.std.specs.Prelude.{◌≡◌, ◌++◌, Err, IfErr, IfOk, IfSome, None, Ok};
+ghost use Rattle.msi_base.specs.Refusals.{IsRefusal, first_refusal, unless_refused};
 ghost use Rattle.msi_database_changes.specs.Changes.{sound_refusal};
 ghost use Rattle.msi_transform_making.specs.Making.{pair_of, table_reasons, told_names};
 ghost use Rattle.msi_transform_pair.specs.MakingRefusals.{IsAtFault};
@@ -61,6 +61,8 @@ impl Database {
             IsRefusal (transform_between (side page_id self.now) (side new_page_id new.now)) refusal.kind) }
         ensures table { let rules = table_reasons (pair_of (side page_id self.now) (side new_page_id new.now)) in
             IfErr result (IsAtFault rules (told_names new.now)) }
+        ensures early { let refusals = sound_refusal self.now.database ++ sound_refusal new.now.database in
+            IfSome (first_refusal refusals) (λ kind. result ≡ Err (record { kind = kind; table = None })) }
     {
         self.check_sound_side(reasons::OLD_UNSOUND)?;
         new.check_sound_side(reasons::NEW_UNSOUND)?;

@@ -1,47 +1,40 @@
 -- Making a transform of two packages: what it says of each table, in which order, or why there is none.
 use Rattle.std.specs.Prelude.{ℕ, ◌+◌, ◌-◌, ◌^◌, Bool, true, false, not, List, [], ◌∷◌, ◌++◌, map, filter, zip, length}
-use Rattle.std.specs.Prelude.{Option, Some, None, option_map, option_and_then, unwrap_or, if◌then◌else◌, nat_lt}
-use Rattle.std.specs.Prelude.{◌==◌, ◌&&◌, ◌||◌, is_some, bytes_eq, drop, take, filter_map, replicate}
-use Rattle.std.specs.Prelude.{◌≡◌, ◌⊎◌, Result, Ok}
+use Rattle.std.specs.Prelude.{Option, Some, None, option_map, option_and_then, if◌then◌else◌, nat_lt}
+use Rattle.std.specs.Prelude.{◌==◌, ◌&&◌, ◌||◌, drop, take, filter_map}
+use Rattle.std.specs.Prelude.{Result, Ok}
 use Rattle.std.specs.FinMap.{find, put}
 use Rattle.std.specs.List.{flat_map, fold, list_all, list_any, enumerate_from}
 use Rattle.std.specs.Option.{option_map_or}
-use Rattle.std.specs.Ordering.{eq_by_cmp, is_eq}
-use Rattle.msi_base.specs.Lists.{has_pair, list_cmp}
-use Rattle.msi_base.specs.Refusals.{Refusals, first_refusal, or_refused, unless_refused, ◌>>=◌}
-use Rattle.msi_base.specs.declared.codepage.CodePage.{CodePage}
+use Rattle.std.specs.Ordering.{eq_by_cmp}
+use Rattle.msi_base.specs.Lists.{list_cmp}
+use Rattle.msi_base.specs.Refusals.{or_refused, unless_refused, ◌>>=◌}
 use Rattle.msi_base.specs.declared.errors.ErrorKind.{ErrorKind}
-use Rattle.msi_base.specs.declared.errors.ErrorKind.TheVariants.{InvalidInput, OutOfMemory}
+use Rattle.msi_base.specs.declared.errors.ErrorKind.TheVariants.{InvalidInput}
 use Rattle.msi_pool.specs.FirstFit.{is_long_with}
-use Rattle.msi_pool.specs.Pool.{Place, Pool}
-use Rattle.msi_table_cells.specs.CellValues.{row_values}
-use Rattle.msi_table_cells.specs.KeyOrder.{key_of}
 use Rattle.msi_table_values.specs.declared.value.Value.{Value}
 use Rattle.msi_table_values.specs.declared.value.Value.TheVariants.{Null, Str, Binary}
 use Rattle.msi_table_values.specs.Values.{is_null, value_cmp}
 use Rattle.msi_table_values.specs.Columns.{ColumnDef}
-use Rattle.msi_database_schema.specs.Schema.{value_at}
-use Rattle.msi_database_schema.specs.System.{columns_columns, columns_name, is_schema_table}
+use Rattle.msi_database_schema.specs.System.{columns_columns, columns_name}
 use Rattle.msi_database_schema.specs.System.{tables_columns, tables_name}
-use Rattle.msi_database_changes.specs.Database.{Database, has_table, table_at}
+use Rattle.msi_database_changes.specs.Database.{Database, has_table}
 use Rattle.msi_database_changes.specs.Texts.{PoolInUse, cell_put, in_turn}
 use Rattle.msi_database_storage.specs.Kept.{Kept}
-use Rattle.msi_database_storage.specs.Streams.{Streams, stream_at, with_stream}
+use Rattle.msi_database_storage.specs.Streams.{Streams, with_stream}
 use Rattle.msi_transform_records.specs.declared.action.Action.{Action}
 use Rattle.msi_transform_records.specs.declared.action.Action.TheVariants.{Add, Remove, Change}
 use Rattle.msi_transform_records.specs.declared.records.Record.{Record}
 use Rattle.msi_transform_records.specs.declared.shape.Shape.{Shape}
 use Rattle.msi_transform_records.specs.Records.{record_bytes, record_with}
 use Rattle.msi_transform.specs.Transforms.{TransformDef, shapes_of}
-use Rattle.msi_transform_rows.specs.RowStreams.{has_streams, is_of_streams, row_stream, stream_text}
+use Rattle.msi_transform_rows.specs.RowStreams.{is_of_streams, row_stream}
 use Rattle.msi_transform_rows.specs.KeyOfRows.{key_cmp}
-use Rattle.msi_transform_schema.specs.SchemaChanges.{is_name_to_list}
-use Rattle.msi_transform_applying.specs.Applying.{is_broken, reads_back, same_stream}
-use Rattle.msi_transform_schema.specs.SchemaApplying.{system_rows}
+use Rattle.msi_transform_applying.specs.Applying.{same_stream}
 pub use Rattle.msi_transform_pair.specs.Pair.{Pair, Side, StopsBy, ToldRow, ToldRows, begin_alike, by_keys}
 pub use Rattle.msi_transform_pair.specs.Pair.{columns_before, columns_in_table, described_columns, gains_columns}
 pub use Rattle.msi_transform_pair.specs.Pair.{gone_streams, has_odd_columns, is_lacking, is_odd_table, is_row_gone}
-pub use Rattle.msi_transform_pair.specs.Pair.{is_unfit, keeps_columns, lacks_text, lacks_text_of, loses_page}
+pub use Rattle.msi_transform_pair.specs.Pair.{is_unfit, keeps_columns, lacks_text, lacks_text_of, loses_page, names_beside}
 pub use Rattle.msi_transform_pair.specs.Pair.{needs_other_page, pair_of, reasons, same_row, shared_among}
 pub use Rattle.msi_transform_pair.specs.Pair.{shares_stream, stream_of_row, stream_texts, streams_in, table_reasons}
 pub use Rattle.msi_transform_pair.specs.Pair.{told_names, told_row, told_row_with, told_rows, told_stream, told_value}
@@ -161,9 +154,6 @@ records_of_table old new name = if has_table name old.database
     else map addition (told_rows new name 0)
 
 -- the tables, and their columns
-abbrev pub names_beside : Database → Database → List (List ℕ)
-names_beside d other = filter (λ name. not (has_table name other)) (map (λ t. t.0) d.tables)
-
 abbrev pub listing_record : Action → List ℕ → ToldRecord
 listing_record action name = record { action = action; values = Str name ∷ []; key = Str name ∷ []; stream = None }
 

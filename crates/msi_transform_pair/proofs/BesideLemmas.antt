@@ -1,7 +1,5 @@
 -- Lists that are gone through side by side, and values that are seen where they lie.
-use Rattle.std.proofs.Common.{◌≡◌, ℕ, ◌+◌, ◌<◌, ◌≤◌, ◌⊎◌, Bool, true, false, List, [], ◌∷◌, ◌++◌, length, map, drop, get_or, zip, not, refl, sym, ap, ◌∙◌, inl, inr}
-use Rattle.std.specs.Prelude.{◌&&◌, ◌||◌, filter}
-use Rattle.std.specs.List.{enumerate_from}
+use Rattle.std.proofs.Common.{◌≡◌, ℕ, ◌+◌, ◌<◌, ◌≤◌, ◌⊎◌, Bool, List, [], ◌∷◌, ◌++◌, length, map, drop, get_or, zip, refl, sym, ap, ◌∙◌, inl, inr}
 use Rattle.std.proofs.lemmas.List.{append-nil, append_assoc, drop_all, drop_more, map_push}
 use Rattle.msi_table_values.specs.declared.value.Value.{Value}
 use Rattle.msi_table_values.specs.declared.views.ValueView.{ValueView}
@@ -9,7 +7,6 @@ use Rattle.msi_table_values.specs.declared.views.ValueView.TheVariants as view
 use Rattle.msi_table_values.specs.Views.{seen_value}
 use Rattle.msi_table_values.specs.Columns.{ColumnDef}
 use Rattle.msi_database_changes.specs.Views.{seen_row}
-use Rattle.msi_base.proofs.BoolLemmas.{by_test}
 use Rattle.msi_transform_pair.specs.Pair.{told_value}
 
 -- the view at a place

@@ -1,42 +1,32 @@
 -- The two databases of which a transform is made: their rows as a transform tells them, and why there is none.
-use Rattle.std.specs.Prelude.{ℕ, ◌+◌, ◌-◌, ◌^◌, Bool, true, false, not, List, [], ◌∷◌, ◌++◌, map, filter, zip, length}
+use Rattle.std.specs.Prelude.{ℕ, ◌+◌, Bool, true, false, not, List, [], ◌∷◌, ◌++◌, map, filter, zip, length}
 use Rattle.std.specs.Prelude.{Option, Some, None, option_map, option_and_then, unwrap_or, if◌then◌else◌, nat_lt}
-use Rattle.std.specs.Prelude.{◌==◌, ◌&&◌, ◌||◌, is_some, bytes_eq, drop, take, filter_map, replicate}
-use Rattle.std.specs.Prelude.{◌≡◌, ◌⊎◌, Result, Ok}
+use Rattle.std.specs.Prelude.{◌==◌, ◌&&◌, ◌||◌, is_some, bytes_eq, drop, replicate}
+use Rattle.std.specs.Prelude.{◌≡◌, ◌⊎◌}
 use Rattle.std.specs.FinMap.{find, put}
-use Rattle.std.specs.List.{flat_map, fold, list_all, list_any, enumerate_from}
-use Rattle.std.specs.Option.{option_map_or}
+use Rattle.std.specs.List.{flat_map, list_any}
 use Rattle.std.specs.Ordering.{eq_by_cmp, is_eq}
-use Rattle.msi_base.specs.Lists.{has_pair, list_cmp}
-use Rattle.msi_base.specs.Refusals.{Refusals, first_refusal, or_refused, unless_refused, ◌>>=◌}
+use Rattle.msi_base.specs.Lists.{has_pair}
+use Rattle.msi_base.specs.Refusals.{Refusals, first_refusal}
 use Rattle.msi_base.specs.declared.codepage.CodePage.{CodePage}
 use Rattle.msi_base.specs.declared.errors.ErrorKind.{ErrorKind}
 use Rattle.msi_base.specs.declared.errors.ErrorKind.TheVariants.{InvalidInput, OutOfMemory}
-use Rattle.msi_pool.specs.FirstFit.{is_long_with}
 use Rattle.msi_pool.specs.Pool.{Place, Pool}
 use Rattle.msi_table_cells.specs.CellValues.{row_values}
 use Rattle.msi_table_cells.specs.KeyOrder.{key_of}
 use Rattle.msi_table_values.specs.declared.value.Value.{Value}
 use Rattle.msi_table_values.specs.declared.value.Value.TheVariants.{Null, Str, Binary}
-use Rattle.msi_table_values.specs.Values.{is_null, value_cmp}
+use Rattle.msi_table_values.specs.Values.{value_cmp}
 use Rattle.msi_table_values.specs.Columns.{ColumnDef}
 use Rattle.msi_database_schema.specs.Schema.{value_at}
-use Rattle.msi_database_schema.specs.System.{columns_columns, columns_name, is_schema_table}
-use Rattle.msi_database_schema.specs.System.{tables_columns, tables_name}
+use Rattle.msi_database_schema.specs.System.{columns_name, is_schema_table}
 use Rattle.msi_database_changes.specs.Database.{Database, has_table, table_at}
-use Rattle.msi_database_changes.specs.Texts.{PoolInUse, cell_put, in_turn}
 use Rattle.msi_database_storage.specs.Kept.{Kept}
-use Rattle.msi_database_storage.specs.Streams.{Streams, stream_at, with_stream}
-use Rattle.msi_transform_records.specs.declared.action.Action.{Action}
-use Rattle.msi_transform_records.specs.declared.action.Action.TheVariants.{Add, Remove, Change}
-use Rattle.msi_transform_records.specs.declared.records.Record.{Record}
-use Rattle.msi_transform_records.specs.declared.shape.Shape.{Shape}
-use Rattle.msi_transform_records.specs.Records.{record_bytes, record_with}
-use Rattle.msi_transform.specs.Transforms.{TransformDef, shapes_of}
+use Rattle.msi_database_storage.specs.Streams.{stream_at}
 use Rattle.msi_transform_rows.specs.RowStreams.{has_streams, is_of_streams, row_stream, stream_text}
 use Rattle.msi_transform_rows.specs.KeyOfRows.{key_cmp}
 use Rattle.msi_transform_schema.specs.SchemaChanges.{is_name_to_list}
-use Rattle.msi_transform_applying.specs.Applying.{is_broken, reads_back, same_stream}
+use Rattle.msi_transform_applying.specs.Applying.{is_broken, reads_back}
 use Rattle.msi_transform_schema.specs.SchemaApplying.{system_rows}
 
 -- ROWS AS THEY ARE TOLD
@@ -94,6 +84,10 @@ columns_before d name = length (unwrap_or (option_map (λ t. t.columns) (table_a
 
 abbrev pub told_names : Kept → List (List ℕ)
 told_names k = filter (λ name. not (is_schema_table name)) (map (λ t. t.0) k.database.tables)
+
+-- the tables that another database hasn't
+abbrev pub names_beside : Database → Database → List (List ℕ)
+names_beside d other = filter (λ name. not (has_table name other)) (map (λ t. t.0) d.tables)
 
 -- the rows of `_Columns` that describe the columns of a table
 abbrev pub described_columns : Kept → List ℕ → List (List Value)

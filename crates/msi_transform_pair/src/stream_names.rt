@@ -3,12 +3,11 @@
 ghost use Rattle.std.specs.Prelude.{◌≡◌, ◌∷◌, ◌++◌, [], IfOk, OnOk, filter, map};
 ghost use Rattle.std.specs.FinMap.{entries};
 ghost use Rattle.std.specs.List.{flat_map};
-ghost use Rattle.msi_base.specs.Lists.{has_pair};
 ghost use Rattle.msi_base.specs.Results.{OnlyMemory};
 ghost use Rattle.msi_table_values.specs.declared.value.Value.TheVariants.{Str};
 ghost use Rattle.msi_transform_pair.specs.Pair.{gone_streams, is_row_gone, pair_of};
 ghost use Rattle.msi_transform_pair.specs.Pair.{shared_among, shares_stream as is_stream_shared};
-ghost use Rattle.msi_transform_pair.specs.Pair.{stream_texts, streams_in, told_names as names_told};
+ghost use Rattle.msi_transform_pair.specs.Pair.{stream_texts, streams_in};
 ghost use Rattle.msi_transform_pair.specs.Names.{names_in};
 ghost use Rattle.msi_transform_rows.specs.RowStreams.{stream_text as name_of_stream};
 

@@ -1,4 +1,4 @@
-use Rattle.std.proofs.Common.{◌≡◌, ◌++◌, map, take}
+use Rattle.std.proofs.Common.{◌≡◌, map, take}
 use Rattle.msi_transform_pair.proofs.StreamNamesLemmas.{key_of_text}
 use Rattle.msi_transform_pair.proofs.stream_names.keys_of_texts.Given as goal
 
