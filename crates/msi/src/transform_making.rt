@@ -45,7 +45,7 @@ impl<F: Source> Package<F> {
     ///    place;
     /// 6. `InvalidInput` if a row of more than 255 columns would have to be added, or the texts are too many.
     ///
-    /// It may fail with `OutOfMemory` in place of each.
+    /// From the third on it may fail with `OutOfMemory` in place of each.
     pub fn transform_to<G: Source>(
         &mut self,
         new: &mut Package<G>,

@@ -78,7 +78,7 @@ impl<F: Source> Package<F> {
     ///    written in the code page of the result;
     /// 10. `InvalidData` if what is left describes no tables, or can't be counted anew.
     ///
-    /// It may fail with `OutOfMemory` in place of each. Then nothing has changed.
+    /// From the third on it may fail with `OutOfMemory` in place of each. Then nothing has changed.
     pub fn apply_transform(
         &mut self,
         transform: &Transform,

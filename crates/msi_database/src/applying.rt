@@ -84,7 +84,7 @@ impl Database {
     ///
     /// A record that can't be applied is refused with `NotFound` or `AlreadyExists` where `passing` may let it pass,
     /// else with `InvalidData` or `InvalidInput`, or with `NotFound` where a column's table or a row's stream is
-    /// missing. It may fail with `OutOfMemory` in place of each.
+    /// missing. It may fail with `OutOfMemory` in place of each but the first.
     pub fn apply(
         &self,
         page_id: u32,

@@ -12,16 +12,16 @@ ghost use Rattle.msi_transform_making.specs.Making.{first_told as told_first, is
 ghost use Rattle.msi_transform_making.specs.Making.{records_beside as records_in_both};
 ghost use Rattle.msi_transform_making.specs.Making.{records_of_table as records_in_table, removals as all_removals};
 
-use msi_transform_pair::base::Base;
 use crate::differing::{can_be_marked, differing, has_bit_for};
 use crate::left_out::{are_told_alike, rows_left_of};
-use msi_transform_pair::reading::{rows_by_keys, told_rows};
 use crate::record::{ToldRecord, addition, changing, removal};
 use crate::same_texts::SameTexts;
-use msi_transform_pair::told::{ToldRow, ToldRows};
 use msi_base::errors::Error;
 use msi_database_changes::keys::Key;
 use msi_table_values::column::Column;
+use msi_transform_pair::base::Base;
+use msi_transform_pair::reading::{rows_by_keys, told_rows};
+use msi_transform_pair::told::{ToldRow, ToldRows};
 use std::alloc::Global;
 
 /// Returns whether a row isn't told as a change: the other rows have none of its key, or a column in which the two

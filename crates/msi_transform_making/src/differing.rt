@@ -9,10 +9,10 @@ ghost use Rattle.msi_transform_making.specs.Making.{can_be_marked as all_have_bi
 ghost use Rattle.msi_transform_making.specs.Making.{differing_values as values_differing, has_bit_for as is_bit};
 ghost use Rattle.msi_transform_making.specs.Making.{mask_for as mask_of_columns, same_value as is_same_value};
 
-use msi_transform_pair::told::ToldRow;
 use msi_base::errors::Error;
 use msi_container_format::contents::Bytes;
 use msi_table_values::parts::ValueView;
+use msi_transform_pair::told::ToldRow;
 use std::alloc::Global;
 use std::cmp::Ordering;
 

@@ -8,7 +8,6 @@ ghost use Rattle.msi_transform_rows.specs.RowStreams.{is_of_streams as is_stream
 ghost use Rattle.msi_transform_schema.specs.SchemaApplying.{system_rows};
 ghost use Rattle.msi_transform_making.specs.LeftOut.{AreCellsLeft, AreSameCells, AreSameRows, AreToldAlike};
 
-use msi_transform_pair::base::Base;
 use crate::same_texts::SameTexts;
 use msi_base::errors::Error;
 use msi_base::text::Items;
@@ -17,6 +16,7 @@ use msi_pool::stringpool::StringRef;
 use msi_table::parts::StoredRows;
 use msi_table_cells::cell::ValueRef;
 use msi_table_values::column::Column;
+use msi_transform_pair::base::Base;
 use msi_transform_rows::row_streams::is_of_streams;
 use std::alloc::Global;
 use std::cmp::Ordering;

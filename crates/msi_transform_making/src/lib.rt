@@ -14,4 +14,3 @@ mod tables;
 mod telling;
 
 pub use making::make;
-

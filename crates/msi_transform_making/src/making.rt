@@ -6,11 +6,6 @@ ghost use Rattle.msi_transform_making.specs.Making.{made, pair_of, table_reasons
 ghost use Rattle.msi_transform_making.specs.Making.{transform_of as transform_told};
 ghost use Rattle.msi_transform_pair.specs.MakingRefusals.{IsAtFault};
 
-use msi_transform_pair::base::Base;
-use msi_transform_pair::check_pair;
-use msi_transform_pair::described::Described;
-use msi_transform_pair::reading::told_rows;
-use msi_transform_pair::MakingRefusal;
 use crate::same_texts::SameTexts;
 use crate::storing::{records_by_table, stored_tables, told_streams};
 use crate::tables::{ToldTable, told_tables};
@@ -19,6 +14,10 @@ use msi_database_changes::texts::PoolInUse;
 use msi_database_schema::system::COLUMNS;
 use msi_pool::stringpool::StringPool;
 use msi_transform::Transform;
+use msi_transform_pair::base::Base;
+use msi_transform_pair::described::Described;
+use msi_transform_pair::reading::told_rows;
+use msi_transform_pair::{MakingRefusal, check_pair};
 
 /// Returns the transform that tells of these tables.
 fn transform_of(new: &Base, tables: &[ToldTable]) -> Result<Transform, Error>

@@ -13,14 +13,14 @@ ghost use Rattle.msi_transform_making.specs.Making.{stored_action, tells_stream 
 ghost use Rattle.msi_transform_making.specs.Telling.{action_of};
 
 use crate::differing::mask_for;
-use msi_transform_pair::seen::{SeenValues, copied, key_with};
 use crate::telling::Telling;
-use msi_transform_pair::told::ToldRow;
 use msi_base::errors::Error;
 use msi_container_format::contents::Bytes;
 use msi_database_changes::keys::Key;
 use msi_table_values::column::Column;
 use msi_table_values::parts::ValueView;
+use msi_transform_pair::seen::{SeenValues, copied, key_with};
+use msi_transform_pair::told::ToldRow;
 use msi_transform_records::Action;
 use msi_transform_rows::row_streams::is_of_streams;
 use std::alloc::Global;

@@ -14,15 +14,15 @@ ghost use Rattle.msi_transform_making.specs.Making.{with_number_if as number_kep
 ghost use Rattle.msi_transform_pair.specs.Names.{names_in};
 ghost use Rattle.msi_transform_making.specs.Telling.{action_of};
 
-use msi_transform_pair::base::Base;
 use crate::record::ToldRecord;
-use msi_transform_pair::seen::{SeenValues, copied, key_with};
 use crate::telling::Telling;
-use msi_transform_pair::told::ToldRows;
-use msi_transform_pair::described::described_columns;
 use msi_base::errors::Error;
 use msi_database_changes::keys::Key;
 use msi_table_values::parts::ValueView;
+use msi_transform_pair::base::Base;
+use msi_transform_pair::described::described_columns;
+use msi_transform_pair::seen::{SeenValues, copied, key_with};
+use msi_transform_pair::told::ToldRows;
 use std::alloc::Global;
 
 /// Returns a record of `_Tables`.

@@ -16,7 +16,6 @@ ghost use Rattle.msi_transform_making.specs.Making.{with_told_stream, with_told_
 
 use crate::reasons;
 use crate::record::ToldRecord;
-use msi_transform_pair::seen::owned;
 use crate::tables::ToldTable;
 use msi_base::errors::{Error, ErrorKind};
 use msi_base::text::Items;
@@ -24,6 +23,7 @@ use msi_container_format::contents::{Bytes, StreamMap};
 use msi_container_format::name::Name;
 use msi_database_changes::texts::PoolInUse;
 use msi_transform::records_by_table::RecordsByTable;
+use msi_transform_pair::seen::owned;
 use msi_transform_records::parts::push_record;
 use msi_transform_records::{Record, Shape};
 use msi_transform_rows::row_streams::row_stream;

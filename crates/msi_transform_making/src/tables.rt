@@ -11,15 +11,15 @@ ghost use Rattle.msi_transform_making.specs.Making.{is_odd_table, is_told, is_un
 ghost use Rattle.msi_transform_making.specs.Making.{told_table as table_told, told_tables as tables_told};
 ghost use Rattle.msi_transform_pair.specs.Names.{names_in};
 
-use msi_transform_pair::base::Base;
 use crate::differences::records_of_table;
 use crate::record::ToldRecord;
 use crate::same_texts::SameTexts;
 use crate::schema_records::{records_of_columns, records_of_tables};
-use msi_transform_pair::told::ToldRows;
 use msi_base::errors::Error;
 use msi_base::text::Items;
 use msi_database_schema::system::{COLUMNS, TABLES, columns_columns, tables_columns};
+use msi_transform_pair::base::Base;
+use msi_transform_pair::told::ToldRows;
 use msi_transform_records::Shape;
 use msi_transform_rows::table_change::shapes_of;
 use std::alloc::Global;

@@ -192,11 +192,7 @@ pub fn rows_by_keys<'a>(
 ///
 /// # Errors
 /// Fails with `OutOfMemory`.
-pub fn told_rows<'a>(
-    base: &Base<'a>,
-    table: &str,
-    added: usize,
-) -> Result<ToldRows<'a>, Error>
+pub fn told_rows<'a>(base: &Base<'a>, table: &str, added: usize) -> Result<ToldRows<'a>, Error>
     ensures ok { IfOk result (λ rows. entries rows ≡ rows_told base.now.kept table.now added) }
     ensures kind { OnlyMemory result }
 {

@@ -39,3 +39,18 @@ module _ {B R : Type 0} (error : ErrorKind → R) (r : Result B R) where
 
   pub passed_last : (rs : Refusals) (x : Unit {0}) → Passed rs x → IsFirst rs
   passed_last rs x e = subst (λ (o : Option ErrorKind). IfSome o (λ kind. r ≡ Err (error kind))) (sym (none_where_ok rs tt x e)) tt
+
+-- what a step below refuses
+below_refuses : {A B R : Type 0} (error : ErrorKind → R) (o : Option ErrorKind) (e : R) (r : Result B R) → r ≡ Err e → IfSome o (λ kind. ◌≡◌ {A = Result A R} (Err e) (Err (error kind))) → IfSome o (λ kind. r ≡ Err (error kind))
+below_refuses error None e r is h = tt
+below_refuses error (Some kind) e r is h = cc (is, h)
+
+pub refused_below : (A : Type 0) {B R : Type 0} (error : ErrorKind → R) (r : Result B R) (rs : Refusals) (e : R) → IfSome (first_refusal rs) (λ kind. ◌≡◌ {A = Result A R} (Err e) (Err (error kind))) → IsErrAnd r (λ f. f ≡ e) → IsFirst error r rs
+refused_below A error r rs e h is = below_refuses {A = A} error (first_refusal rs) e r (error_is r e is) h
+
+below_answers : {A B R : Type 0} (error : ErrorKind → R) (o : Option ErrorKind) (x : A) (r : Result B R) → IfSome o (λ kind. ◌≡◌ {A = Result A R} (Ok x) (Err (error kind))) → IfSome o (λ kind. r ≡ Err (error kind))
+below_answers error None x r h = tt
+below_answers error (Some kind) x r h = absurd cc
+
+pub answered_below : {A B R : Type 0} (error : ErrorKind → R) (r : Result B R) (rs : Refusals) (x : A) → IfSome (first_refusal rs) (λ kind. ◌≡◌ {A = Result A R} (Ok x) (Err (error kind))) → IsFirst error r rs
+answered_below error r rs x h = below_answers error (first_refusal rs) x r h
