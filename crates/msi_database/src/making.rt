@@ -47,8 +47,8 @@ impl Database {
     /// or under a name that none may have; the new one's page is neutral and this one's isn't, or it lacks a text; a
     /// table loses or changes a column, gets one of the key, or gets columns and has more than 32 then, or two of one
     /// name, or one without a name; a row of more than 255 columns would have to be added; or the texts are too many.
-    /// Otherwise it fails with `OutOfMemory`, which may come in place of `InvalidInput`. Where a table is at fault for its
-    /// columns, the refusal says which.
+    /// Otherwise it fails with `OutOfMemory`, which may come in place of `InvalidInput`. Where a table is at fault for
+    /// its columns, the refusal says which.
     pub fn transform_to(
         &self,
         page_id: u32,

@@ -34,8 +34,8 @@ use Rattle.msi_transform_applying.specs.Applying.{same_stream}
 pub use Rattle.msi_transform_pair.specs.Pair.{Pair, Side, StopsBy, ToldRow, ToldRows, begin_alike, by_keys}
 pub use Rattle.msi_transform_pair.specs.Pair.{columns_before, columns_in_table, described_columns, gains_columns}
 pub use Rattle.msi_transform_pair.specs.Pair.{gone_streams, has_odd_columns, is_lacking, is_odd_table, is_row_gone}
-pub use Rattle.msi_transform_pair.specs.Pair.{is_unfit, keeps_columns, lacks_text, lacks_text_of, loses_page, names_beside}
-pub use Rattle.msi_transform_pair.specs.Pair.{needs_other_page, pair_of, reasons, same_row, shared_among}
+pub use Rattle.msi_transform_pair.specs.Pair.{is_unfit, keeps_columns, lacks_text, lacks_text_of, loses_page}
+pub use Rattle.msi_transform_pair.specs.Pair.{names_beside, needs_other_page, pair_of, reasons, same_row, shared_among}
 pub use Rattle.msi_transform_pair.specs.Pair.{shares_stream, stream_of_row, stream_texts, streams_in, table_reasons}
 pub use Rattle.msi_transform_pair.specs.Pair.{told_names, told_row, told_row_with, told_rows, told_stream, told_value}
 pub use Rattle.msi_transform_pair.specs.Pair.{told_values, values_in_table}
