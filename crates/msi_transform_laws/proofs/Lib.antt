@@ -8,11 +8,13 @@ pub mod ChangedRowsLemmas
 pub mod DescribedPackagesLemmas
 pub mod FitPackagesLemmas
 pub mod FollowingRecordsLemmas
+pub mod IgnoredRecordsLemmas
 pub mod KeyedEntriesLemmas
 pub mod ListedTablesLemmas
 pub mod MadeAppliedLemmas
 pub mod MadeRecordsLemmas
 pub mod MarkedColumnsLemmas
+pub mod MoreConditionsLemmas
 pub mod NewTablesLemmas
 pub mod OneRecordLemmas
 pub mod PoolRoomLemmas

@@ -3,6 +3,7 @@ pub mod CanFollow
 pub mod CarriedOut
 pub mod DescribedPackages
 pub mod MadeApplied
+pub mod MoreConditions
 pub mod NewTables
 pub mod RecordsRead
 pub mod RowsApplied

@@ -7,6 +7,7 @@ pub mod can_follow;
 pub mod carried_out;
 pub mod described_packages;
 pub mod made_applied;
+pub mod more_conditions;
 pub mod new_tables;
 pub mod records_read;
 pub mod rows_applied;

@@ -1,5 +1,7 @@
 //! The counts of a package's texts: counting them anew, and what is said where they are too low for a change.
 
+ghost use Rattle.msipkg_changes.specs.TransformsInTurn.{IsMended};
+
 use crate::change::Manner;
 use crate::emptying::empty_texts;
 use crate::outcome::{Outcome, note_mended};
@@ -69,7 +71,9 @@ fn mend(alloc: Global, package: &mut Package<Opened>) -> Result<Mended, Failure>
 }
 
 /// Counts the texts of a package anew if their counts are too low for a change, unless that is to be refused.
-pub(crate) fn mend_first(package: &mut Package<Opened>, manner: Manner, outcome: &mut Outcome) {
+pub(crate) fn mend_first(package: &mut Package<Opened>, manner: Manner, outcome: &mut Outcome)
+    ensures { IsMended «package».old «package».new }
+{
     if manner.is_strict || !is_miscounted(package) {
         return;
     }

@@ -1,10 +1,8 @@
 //! `transform apply FILE T..`: transforms that are applied to a package.
 
-ghost use Rattle.std.specs.Prelude.{◌≡◌, IfSome, OnOk};
-ghost use Rattle.msi.specs.Transforming.{transforming};
-ghost use Rattle.msi.specs.Whole.{Becomes};
-ghost use Rattle.msi_transform.specs.Transforms.{TransformDef};
-ghost use Rattle.msi_transform.specs.declared.conditions.ErrorConditions.{ErrorConditions as ErrorConditionsOf};
+ghost use Rattle.std.specs.Prelude.{OnOk, length};
+ghost use Rattle.msi.specs.Whole.{Whole};
+ghost use Rattle.msipkg_changes.specs.TransformsInTurn.{AreApplied, IsApplied, IsMended};
 
 use crate::change::Manner;
 use crate::outcome::Outcome;
@@ -35,8 +33,22 @@ pub(crate) fn apply_transforms(
     asked: Transforms<'_, '_>,
     manner: Manner,
     outcome: &mut Outcome,
-) -> Result<(), Failure> {
+) -> Result<(), Failure>
+    ensures ok { OnOk result ((mended : Whole) × IsMended «package».old mended
+        × AreApplied asked.passing (length asked.words.now) mended «package».new) }
+{
     mend_first(package, manner, outcome);
+    apply_in_turn(rt, file, package, asked)
+}
+
+fn apply_in_turn(
+    rt: &System,
+    file: &str,
+    package: &mut Package<Opened>,
+    asked: Transforms<'_, '_>,
+) -> Result<(), Failure>
+    ensures ok { OnOk result (AreApplied asked.passing (length asked.words.now) «package».old «package».new) }
+{
     for word in asked.words {
         if let Err(failure) = apply_named(rt, file, package, word, asked.passing) {
             return Err(failure.at(rt.alloc(), "transform", word));
@@ -52,9 +64,7 @@ fn apply_named(
     word: &str,
     passing: Option<ErrorConditions>,
 ) -> Result<(), Failure>
-    ensures ok { OnOk result ((t : TransformDef) × (ignored : ErrorConditionsOf)
-        × Becomes «package».old (transforming «package».old.state t ignored) «package».new
-        × IfSome passing (λ passing. ignored ≡ passing)) }
+    ensures ok { OnOk result (IsApplied passing «package».old «package».new) }
 {
     let read = read_named(rt, file, word)?;
     let passing = match passing {

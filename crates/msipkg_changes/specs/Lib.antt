@@ -1,0 +1,2 @@
+-- The words of this crate.
+pub mod TransformsInTurn
