@@ -41,12 +41,12 @@ module _ {B R : Type 0} (error : ErrorKind → R) (r : Result B R) where
   passed_last rs x e = subst (λ (o : Option ErrorKind). IfSome o (λ kind. r ≡ Err (error kind))) (sym (none_where_ok rs tt x e)) tt
 
 -- what a step below refuses
-below_refuses : {A B R : Type 0} (error : ErrorKind → R) (o : Option ErrorKind) (e : R) (r : Result B R) → r ≡ Err e → IfSome o (λ kind. ◌≡◌ {A = Result A R} (Err e) (Err (error kind))) → IfSome o (λ kind. r ≡ Err (error kind))
-below_refuses error None e r is h = tt
-below_refuses error (Some kind) e r is h = cc (is, h)
+below_refuses : (A : Type 0) {B R : Type 0} (error : ErrorKind → R) (o : Option ErrorKind) (e : R) (r : Result B R) → r ≡ Err e → IfSome o (λ kind. ◌≡◌ {A = Result A R} (Err e) (Err (error kind))) → IfSome o (λ kind. r ≡ Err (error kind))
+below_refuses A error None e r is h = tt
+below_refuses A error (Some kind) e r is h = cc (is, h)
 
 pub refused_below : (A : Type 0) {B R : Type 0} (error : ErrorKind → R) (r : Result B R) (rs : Refusals) (e : R) → IfSome (first_refusal rs) (λ kind. ◌≡◌ {A = Result A R} (Err e) (Err (error kind))) → IsErrAnd r (λ f. f ≡ e) → IsFirst error r rs
-refused_below A error r rs e h is = below_refuses {A = A} error (first_refusal rs) e r (error_is r e is) h
+refused_below A error r rs e h is = below_refuses A error (first_refusal rs) e r (error_is r e is) h
 
 below_answers : {A B R : Type 0} (error : ErrorKind → R) (o : Option ErrorKind) (x : A) (r : Result B R) → IfSome o (λ kind. ◌≡◌ {A = Result A R} (Ok x) (Err (error kind))) → IfSome o (λ kind. r ≡ Err (error kind))
 below_answers error None x r h = tt
