@@ -51,7 +51,7 @@ module _ (old new : Whole) (view : Whole) (is : view ≡ old) (new_view : Whole)
 abbrev pub tableless : ErrorKind → MakingRefusal
 tableless kind = record { kind = kind; table = None }
 
-module _ (old new : Whole) (view : Whole) (is : view ≡ old) (new_view : Whole) (new_is : new_view ≡ new) (r : Result TransformDef MakingRefusal) where
+module _ (old new : Whole) (view : Whole) (is : view ≡ old) (r : Result TransformDef MakingRefusal) where
   abbrev unsound : Refusals
   unsound = sound_refusal old.state.kept.database ++ sound_refusal new.state.kept.database
 
@@ -64,14 +64,15 @@ module _ (old new : Whole) (view : Whole) (is : view ≡ old) (new_view : Whole)
   pub old_is_other : (k : ErrorKind) → Stopped (kind_refusal view.state.kind) k → IsErrAnd r (λ e. e ≡ tableless k) → IsFirst tableless r refusals
   old_is_other k stops h = stopped_at tableless r (kind_refusal old.state.kind) (kind_refusal new.state.kind ++ unsound) k (subst (λ (w : Whole). Stopped (kind_refusal w.state.kind) k) is stops) h
 
-  pub new_is_other : (x : Unit {0}) → Passed (kind_refusal view.state.kind) x → (k : ErrorKind) → Stopped (kind_refusal new_view.state.kind) k → IsErrAnd r (λ e. e ≡ tableless k) → IsFirst tableless r refusals
-  new_is_other x passes k stops h = passed_on tableless r (kind_refusal old.state.kind) (kind_refusal new.state.kind ++ unsound) x (old_passes x passes)
-      (stopped_at tableless r (kind_refusal new.state.kind) unsound k (subst (λ (w : Whole). Stopped (kind_refusal w.state.kind) k) new_is stops) h)
+  module _ (new_view : Whole) (new_is : new_view ≡ new) where
+    pub new_is_other : (x : Unit {0}) → Passed (kind_refusal view.state.kind) x → (k : ErrorKind) → Stopped (kind_refusal new_view.state.kind) k → IsErrAnd r (λ e. e ≡ tableless k) → IsFirst tableless r refusals
+    new_is_other x passes k stops h = passed_on tableless r (kind_refusal old.state.kind) (kind_refusal new.state.kind ++ unsound) x (old_passes x passes)
+        (stopped_at tableless r (kind_refusal new.state.kind) unsound k (subst (λ (w : Whole). Stopped (kind_refusal w.state.kind) k) new_is stops) h)
 
-  pub both_are_installers : (x y : Unit {0}) → Passed (kind_refusal view.state.kind) x → Passed (kind_refusal new_view.state.kind) y
-      → (k l : Kept) → k ≡ view.state.kept → l ≡ new_view.state.kept → IsFirst tableless r (sound_refusal k.database ++ sound_refusal l.database) → IsFirst tableless r refusals
-  both_are_installers x y passes new_passes k l same new_same h =
-      passed_on tableless r (kind_refusal old.state.kind) (kind_refusal new.state.kind ++ unsound) x (old_passes x passes)
-      (passed_on tableless r (kind_refusal new.state.kind) unsound y (subst (λ (w : Whole). Passed (kind_refusal w.state.kind) y) new_is new_passes)
-      (subst (λ (k : Kept). IsFirst tableless r (sound_refusal k.database ++ sound_refusal new.state.kept.database)) (same ∙ ap (λ (w : Whole). w.state.kept) is)
-      (subst (λ (l : Kept). IsFirst tableless r (sound_refusal k.database ++ sound_refusal l.database)) (new_same ∙ ap (λ (w : Whole). w.state.kept) new_is) h)))
+    pub both_are_installers : (x y : Unit {0}) → Passed (kind_refusal view.state.kind) x → Passed (kind_refusal new_view.state.kind) y
+        → (k l : Kept) → k ≡ view.state.kept → l ≡ new_view.state.kept → IsFirst tableless r (sound_refusal k.database ++ sound_refusal l.database) → IsFirst tableless r refusals
+    both_are_installers x y passes new_passes k l same new_same h =
+        passed_on tableless r (kind_refusal old.state.kind) (kind_refusal new.state.kind ++ unsound) x (old_passes x passes)
+        (passed_on tableless r (kind_refusal new.state.kind) unsound y (subst (λ (w : Whole). Passed (kind_refusal w.state.kind) y) new_is new_passes)
+        (subst (λ (k : Kept). IsFirst tableless r (sound_refusal k.database ++ sound_refusal new.state.kept.database)) (same ∙ ap (λ (w : Whole). w.state.kept) is)
+        (subst (λ (l : Kept). IsFirst tableless r (sound_refusal k.database ++ sound_refusal l.database)) (new_same ∙ ap (λ (w : Whole). w.state.kept) new_is) h)))

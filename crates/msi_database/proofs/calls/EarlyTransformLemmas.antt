@@ -1,5 +1,5 @@
 -- What refuses a transform before memory is taken: calls whose errors say more than a kind.
-use Rattle.std.proofs.Common.{◌≡◌, Option, Some, None, ◌++◌, Result, Ok, Err, sym, ap, subst, ◌∙◌}
+use Rattle.std.proofs.Common.{◌≡◌, Option, Some, None, ◌++◌, Result, Ok, Err, sym, ap, subst}
 use Rattle.std.specs.Prelude.{IfSome, IsErrAnd}
 use Rattle.msi_base.specs.declared.errors.ErrorKind.{ErrorKind}
 use Rattle.msi_base.specs.Refusals.{Refusals, first_refusal, unless_refused}
