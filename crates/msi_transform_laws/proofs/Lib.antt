@@ -22,6 +22,7 @@ pub mod RecordValuesLemmas
 pub mod RecordsInTransformLemmas
 pub mod RowsBegunLemmas
 pub mod SameColumnsLemmas
+pub mod SamePackagesLemmas
 pub mod SchemaAppliedLemmas
 pub mod SchemaListsLemmas
 pub mod SchemaMadeLemmas

@@ -9,6 +9,7 @@ pub mod RecordsRead
 pub mod RowsApplied
 pub mod RowsBegun
 pub mod SameColumns
+pub mod SamePackages
 pub mod SchemaApplied
 pub mod SchemaMade
 pub mod StreamsBrought

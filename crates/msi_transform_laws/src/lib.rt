@@ -13,6 +13,7 @@ pub mod records_read;
 pub mod rows_applied;
 pub mod rows_begun;
 pub mod same_columns;
+pub mod same_packages;
 pub mod schema_applied;
 pub mod schema_made;
 pub mod streams_brought;
