@@ -30,4 +30,6 @@ pub mod TableFollowLemmas
 pub mod TableRecordsLemmas
 pub mod TablesChangedLemmas
 pub mod TablesRemovedLemmas
+pub mod TextsLeftLemmas
+pub mod TransformsAppliedLemmas
 pub mod WithoutRecordsLemmas

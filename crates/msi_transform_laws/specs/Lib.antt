@@ -2,6 +2,7 @@
 pub mod CanFollow
 pub mod CarriedOut
 pub mod DescribedPackages
+pub mod ExactPackages
 pub mod MadeApplied
 pub mod NewTables
 pub mod RecordsRead
@@ -16,3 +17,5 @@ pub mod TableChanged
 pub mod TablesChanged
 pub mod TablesRemoved
 pub mod TablesWithoutRecords
+pub mod TextsLeft
+pub mod TransformsApplied

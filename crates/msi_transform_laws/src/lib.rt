@@ -20,3 +20,5 @@ pub mod table_changed;
 pub mod tables_changed;
 pub mod tables_removed;
 pub mod tables_without_records;
+pub mod texts_left;
+pub mod transforms_applied;
