@@ -1,17 +1,21 @@
 -- Records of `_Tables` and of `_Columns` applied: tables that come, and columns that are added.
-use Rattle.std.proofs.Common.{◌≡◌, ℕ, ℤ, zero, suc, ◌+◌, ◌<◌, ◌≤◌, Bool, true, false, not, ◌&&◌, T, List, [], ◌∷◌, length, map, filter, zip, refl, sym, ap, ◌∙◌, arith}
+use Rattle.std.proofs.Common.{◌≡◌, ℕ, ℤ, zero, suc, ◌+◌, ◌<◌, ◌≤◌, Bool, true, false, not, ◌&&◌, T, List, [], ◌∷◌, length, map, filter, zip, refl, sym, ap, subst, ◌∙◌, arith}
 use Rattle.std.specs.Prelude.{pos, Option, Some, None, Ok, option_and_then, unwrap_or, if◌then◌else◌, int_lt, nat_le}
 use Rattle.std.specs.Cmp.{int_cmp_total, tied_itself}
 use Rattle.std.specs.FinMap.{is_sorted, put}
 use Rattle.std.specs.FinMap.Entries.{is_sorted-put}
+use Rattle.std.specs.List.{AllByRecursion}
 use Rattle.std.specs.Ordering.{is_eq}
 use Rattle.std.specs.declared.cmp.Ordering.{Ordering}
 use Rattle.std.proofs.lemmas.Bool.{lt-leb}
 use Rattle.msi_base.specs.declared.errors.ErrorKind.{ErrorKind}
 use Rattle.msi_base.specs.declared.errors.ErrorKind.TheVariants.{AlreadyExists, InvalidData, InvalidInput}
 use Rattle.msi_base.specs.Refusals.{first_refusal, or_refused, unless, unless_refused, ◌>>=◌}
+use Rattle.msi_base.proofs.BoolLemmas.{by_test}
+use Rattle.msi_base.proofs.ListLemmas.{same_head}
 use Rattle.msi_pool.specs.FirstFitLaws.{text_at, TakenPlacesHoldTheirText, GivenBackTakesOne}
 use Rattle.msi_table_cells.specs.declared.cell.ValueRef.{ValueRef}
+use Rattle.msi_table_cells.specs.CellValues.{row_values}
 use Rattle.msi_table_values.specs.declared.value.Value.{Value}
 use Rattle.msi_table_values.specs.declared.value.Value.TheVariants.{Null, Int, Str, Binary}
 use Rattle.msi_table_values.specs.Columns.{ColumnDef, has_column}
@@ -44,6 +48,7 @@ use Rattle.msi_transform_laws.specs.SchemaApplied.{CanAddColumn, CanAddColumns, 
 use Rattle.msi_transform_laws.proofs.AlikeRowsLemmas.{uses_in, uses_of_rows}
 use Rattle.msi_transform_laws.proofs.AppliedRecordsLemmas.{first_applied, naming_cells}
 use Rattle.msi_transform_laws.proofs.CarriedOutLemmas.{keys_total}
+use Rattle.msi_transform_laws.proofs.GoodTextsLemmas.{AreGood, HoldsGood, none_named}
 use Rattle.msi_transform_laws.proofs.KeyedEntriesLemmas.{sum_of-put}
 use Rattle.msi_transform_laws.proofs.PoolRoomLemmas.{all_put_there}
 use Rattle.msi_transform_laws.proofs.RecordValuesLemmas.{key_seen, padded, padded_cells, seen_beside}
@@ -74,27 +79,40 @@ put_within key cells rows n h = omega (arith, uses_of_rows rows n, uses_of_rows 
 
 module _ (takes : TakenPlacesHoldTheirText) (gives : GivenBackTakesOne) (others : Uses) where
   -- the cells of a row that are put in the pool
-  pub record Put (s : SchemaInHand) (texts : ℕ) (r : List ValueRef × PoolInUse) : Type 0 where
+  pub record Put (s : SchemaInHand) (row : List Value) (r : List ValueRef × PoolInUse) : Type 0 where
     pub balance : (n : ℕ) → room r.1.places n ≡ room s.pool.places n + row_uses r.0 n
     pub kept : (n : ℕ) → 0 < others n → text_at r.1.places n ≡ text_at s.pool.places n
-    pub longer : length r.1.places ≤ length s.pool.places + texts
+    pub still : (n : ℕ) → 0 < room s.pool.places n → text_at r.1.places n ≡ text_at s.pool.places n
+    pub values : row_values r.1.places r.0 ≡ row
+    pub longer : length r.1.places ≤ length s.pool.places + texts_in row
 
   row_put : (s : SchemaInHand) (row : List Value) → CountsSchema others s → length s.pool.places + texts_in row ≤ 16777215
-      → (r : List ValueRef × PoolInUse) × (in_turn (cell_put true) s.pool row ≡ Some r) × Put s (texts_in row) r
+      → (r : List ValueRef × PoolInUse) × (in_turn (cell_put true) s.pool row ≡ Some r) × Put s row r
   row_put s row counts fits =
       let there = all_put_there s.pool row fits in
       let r = there.0 in
       let enough = enough_of others s counts in
-      let moved = rows_put_moves takes gives true others (row ∷ []) s.pool (r.0 ∷ [], r.1) (λ n. omega (arith, enough n))
+      let moved = rows_put_moves takes gives true (room s.pool.places) (row ∷ []) s.pool (r.0 ∷ [], r.1) (λ n. omega arith)
       (ap (option_and_then (λ (q : List ValueRef × PoolInUse). Some (q.0 ∷ [], q.1))) there.1) in (
         r,
         there.1,
         record {
           balance = λ n. omega (arith, moved.moved.balance n);
-          kept = moved.moved.texts;
+          kept = λ n some. moved.moved.texts n (omega (arith, some, enough n));
+          still = moved.moved.texts;
+          values = same_head (row_values r.1.places r.0) row [] [] moved.values;
           longer = there.2;
         },
       )
+
+  -- where its texts are good, so are those that are held
+  put_good : (good : List ℕ → Bool) (rest : Uses) (s : SchemaInHand) (row : List Value) (r : List ValueRef × PoolInUse) → Put s row r → AreGood good row → HoldsGood good rest s.pool.places
+      → HoldsGood good rest r.1.places
+  put_good good rest s row r moved fine holds n more = by_test (good (text_at r.1.places n))
+      (λ t. t)
+      (λ bad.
+      let none = none_named good r.1.places n bad r.0 (subst (AreGood good) (sym moved.values) fine) in
+      ap good (moved.still n (omega (arith, more, none, moved.balance n))) ∙ holds n (omega (arith, more, none, moved.balance n)))
 
 -- A RECORD OF `_Tables`
 
@@ -130,10 +148,11 @@ pub same_first : (t : TransformDef) (r : ToldRecord) (rs : List ToldRecord) (q :
 same_first t r rs q qs h = (cc, cc)
 
 module _ (takes : TakenPlacesHoldTheirText) (gives : GivenBackTakesOne) (change : SchemaChange) (others : Uses) where
-  listings : (table number : ℕ) (names : List (List ℕ)) (before : SchemaInHand) (stored : List Record) → SaySame change.by (map (listing_record (Add 1)) names) stored
+  pub listings : (table number : ℕ) (names : List (List ℕ)) (before : SchemaInHand) (stored : List Record) → SaySame change.by (map (listing_record (Add 1)) names) stored
       → CanAddTables change.database before.tables names → CountsSchema others before → length before.pool.places + length names ≤ 16777215
       → (after : SchemaInHand) × (in_turn_from table (table_record_applied change name_shapes) number before stored ≡ Ok after) × SchemaAfter others (with_tables_added before.tables names) (length names) before after
-  listings table number [] before [] same can counts fits = (before, refl, record { tables = refl; counted = counts; kept = λ n some. refl; longer = omega arith })
+      × ((good : List ℕ → Bool) (rest : Uses) → AllByRecursion (λ name. good name ≡ true) names → HoldsGood good rest before.pool.places → HoldsGood good rest after.pool.places)
+  listings table number [] before [] same can counts fits = (before, refl, record { tables = refl; counted = counts; kept = λ n some. refl; longer = omega arith }, λ good rest fine holds. holds)
   listings table number [] before (q ∷ qs) same can counts fits = absurd cc
   listings table number (name ∷ names) before [] same can counts fits = absurd cc
   listings table number (name ∷ names) before (q ∷ qs) same can counts fits =
@@ -144,14 +163,16 @@ module _ (takes : TakenPlacesHoldTheirText) (gives : GivenBackTakesOne) (change 
       let enough = enough_of others before counts in
       let now = counts_from others s (is_sorted-put key_cmp keys_total (Str name ∷ []) (plain_row r.0) before.listed counts.listed) counts.described
       (λ n. omega (arith, enough n, moved.balance n, put_within (Str name ∷ []) r.0 before.listed n counts.listed)) in
-      let (after, ran, are) = listings table (number + 1) names s qs says.1 can.1 now (omega (arith, fits, moved.longer)) in (
+      let (after, ran, are, stays) = listings table (number + 1) names s qs says.1 can.1 now (omega (arith, fits, moved.longer)) in (
         after,
         first_applied table number (table_record_applied change name_shapes) before s q qs step ∙ ran,
         record { tables = are.tables; counted = are.counted; kept = λ n some. are.kept n some ∙ moved.kept n some; longer = omega (arith, are.longer, moved.longer) },
+        (λ good rest fine holds. stays good rest fine.1 (put_good takes gives others good rest before (Str name ∷ []) r moved (fine.0, tt) holds)),
       )
 
 pub listing_records_are_applied : TakenPlacesHoldTheirText → GivenBackTakesOne → ListingRecordsAreApplied
-listing_records_are_applied takes gives change others before names stored table number same can counts fits = listings takes gives change others table number names before stored same can counts fits
+listing_records_are_applied takes gives change others before names stored table number same can counts fits =
+    let (after, ran, are, stays) = listings takes gives change others table number names before stored same can counts fits in (after, ran, are)
 
 -- A RECORD OF `_Columns`
 
@@ -166,7 +187,7 @@ four_cells t (w ∷ x ∷ []) a b c d h = let long = ap (λ (l : List Value). le
 four_cells t (w ∷ x ∷ y ∷ []) a b c d h = let long = ap (λ (l : List Value). length l) h in absurd (omega (arith, long))
 four_cells t (w ∷ x ∷ y ∷ z ∷ u ∷ us) a b c d h = let long = ap (λ (l : List Value). length l) h in absurd (omega (arith, long))
 
-abbrev row_of : ColumnToAdd → List Value
+abbrev pub row_of : ColumnToAdd → List Value
 row_of c = Str c.table ∷ c.number ∷ c.name ∷ c.bits ∷ []
 
 -- neither its number nor its table's standing is out of the way
@@ -255,11 +276,12 @@ module _ (change : SchemaChange) (c : ColumnToAdd) (s : SchemaInHand) (can : Can
       ∙ ap (λ (row : List Value). column_row_added change row s) (ap (map (value_in change.by)) (padded_cells columns_columns r.cells) ∙ four_cells change.by r.cells (Str c.table) c.number c.name c.bits values)
 
 module _ (takes : TakenPlacesHoldTheirText) (gives : GivenBackTakesOne) (change : SchemaChange) (others : Uses) where
-  columns_put : (table number : ℕ) (cs : List ColumnToAdd) (before : SchemaInHand) (stored : List Record) → SaySame change.by (map record_of_column cs) stored
+  pub columns_put : (table number : ℕ) (cs : List ColumnToAdd) (before : SchemaInHand) (stored : List Record) → SaySame change.by (map record_of_column cs) stored
       → CanAddColumns change.database before.tables cs → CountsSchema others before → length before.pool.places + texts_of_columns cs ≤ 16777215
       → (after : SchemaInHand) × (in_turn_from table (column_record_applied change column_shapes) number before stored ≡ Ok after)
       × SchemaAfter others (with_columns_added change.database before.tables cs) (texts_of_columns cs) before after
-  columns_put table number [] before [] same can counts fits = (before, refl, record { tables = refl; counted = counts; kept = λ n some. refl; longer = omega arith })
+      × ((good : List ℕ → Bool) (rest : Uses) → AllByRecursion (λ c. AreGood good (row_of c)) cs → HoldsGood good rest before.pool.places → HoldsGood good rest after.pool.places)
+  columns_put table number [] before [] same can counts fits = (before, refl, record { tables = refl; counted = counts; kept = λ n some. refl; longer = omega arith }, λ good rest fine holds. holds)
   columns_put table number [] before (q ∷ qs) same can counts fits = absurd cc
   columns_put table number (c ∷ cs) before [] same can counts fits = absurd cc
   columns_put table number (c ∷ cs) before (q ∷ qs) same can counts fits =
@@ -272,12 +294,13 @@ module _ (takes : TakenPlacesHoldTheirText) (gives : GivenBackTakesOne) (change 
       let enough = enough_of others before counts in
       let now = counts_from others s counts.listed (is_sorted-put key_cmp keys_total key (plain_row r.0) before.described counts.described)
       (λ n. omega (arith, enough n, moved.balance n, put_within key r.0 before.described n counts.described)) in
-      let (after, ran, are) = columns_put table (number + 1) cs s qs says.1 can.1 now (omega (arith, fits, moved.longer)) in (
+      let (after, ran, are, stays) = columns_put table (number + 1) cs s qs says.1 can.1 now (omega (arith, fits, moved.longer)) in (
         after,
         first_applied table number (column_record_applied change column_shapes) before s q qs step ∙ ran,
         record { tables = are.tables; counted = are.counted; kept = λ n some. are.kept n some ∙ moved.kept n some; longer = omega (arith, are.longer, moved.longer) },
+        (λ good rest fine holds. stays good rest fine.1 (put_good takes gives others good rest before row r moved (fine.0.0, (refl, (fine.0.1.1.0, (fine.0.1.1.1.0, tt)))) holds)),
       )
 
 pub column_records_are_applied : TakenPlacesHoldTheirText → GivenBackTakesOne → ColumnRecordsAreApplied
 column_records_are_applied takes gives change others before columns stored table number same can counts fits =
-    columns_put takes gives change others table number columns before stored same can counts fits
+    let (after, ran, are, stays) = columns_put takes gives change others table number columns before stored same can counts fits in (after, ran, are)

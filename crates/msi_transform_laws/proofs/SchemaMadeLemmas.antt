@@ -15,7 +15,7 @@ use Rattle.msi_base.specs.declared.errors.ErrorKind.{ErrorKind}
 use Rattle.msi_base.specs.declared.errors.ErrorKind.TheVariants.{InvalidData}
 use Rattle.msi_base.specs.Refusals.{first_refusal, unless}
 use Rattle.msi_base.proofs.BoolLemmas.{T_parts, by_test, yes_is_no}
-use Rattle.msi_base.proofs.ListLemmas.{none_passes}
+use Rattle.msi_base.proofs.ListLemmas.{none_passes, same_head, same_tail}
 use Rattle.msi_base.proofs.OptionLemmas.{none_there, some_is}
 use Rattle.msi_pool.specs.FirstFitLaws.{TakenPlacesHoldTheirText, GivenBackTakesOne}
 use Rattle.msi_table_values.specs.declared.value.Value.{Value}
@@ -50,12 +50,13 @@ use Rattle.msi_transform_laws.proofs.AddedColumnsLemmas.{all_added, columns_to_a
 use Rattle.msi_transform_laws.proofs.AppliedRecordsLemmas.{joined_applied}
 use Rattle.msi_transform_laws.proofs.CarriedOutLemmas.{less}
 use Rattle.msi_transform_laws.proofs.FitPackagesLemmas.{both_fit, no_table_reason}
+use Rattle.msi_transform_laws.proofs.GoodTextsLemmas.{AreGood, HoldsGood}
 use Rattle.msi_transform_laws.proofs.ListedTablesLemmas.{exact_names}
 use Rattle.msi_transform_laws.proofs.MadeRecordsLemmas.{apart_passing}
 use Rattle.msi_transform_laws.proofs.RowsBegunLemmas.{has_key, key_shapes}
-use Rattle.msi_transform_laws.proofs.SchemaAppliedLemmas.{column_records_are_applied, listing_records_are_applied, name_shapes}
+use Rattle.msi_transform_laws.proofs.SchemaAppliedLemmas.{columns_put, listings, name_shapes, row_of}
 use Rattle.msi_transform_laws.proofs.StoredRecordsLemmas.{names_total, other_name}
-use Rattle.msi_transform_laws.proofs.TablesRemovedLemmas.{removing_records_are_applied}
+use Rattle.msi_transform_laws.proofs.TablesRemovedLemmas.{Went, removals}
 use Rattle.msi_transform_laws.proofs.TableChangedLemmas.{all_there, broken_parts, each_among, whole}
 use Rattle.msi_transform_laws.proofs.SchemaListsLemmas.{AreAbsent, MayCome, MayGo, absent_columns, absent_tables, all_passing, by_stored, can_come, can_go, each_passing, found_added, found_removed, in_hand_then, is_new, list_of_columns, list_of_tables, names_differ, neither, none_absent, not_false, not_true, read_tables, standing_of}
 
@@ -66,12 +67,12 @@ names_taken zero columns = refl
 names_taken (suc n) [] = refl
 names_taken (suc n) (c ∷ columns) = ap (λ (l : List (List ℕ)). c.name ∷ l) (names_taken n columns)
 
-shapes_dropped : (n : ℕ) (columns : List ColumnDef) → shapes_of (drop n columns) ≡ drop n (shapes_of columns)
+pub shapes_dropped : (n : ℕ) (columns : List ColumnDef) → shapes_of (drop n columns) ≡ drop n (shapes_of columns)
 shapes_dropped zero columns = refl
 shapes_dropped (suc n) [] = refl
 shapes_dropped (suc n) (c ∷ columns) = shapes_dropped n columns
 
-taken_dropped : {X : Type 0} (n : ℕ) (xs : List X) → take n xs ++ drop n xs ≡ xs
+pub taken_dropped : {X : Type 0} (n : ℕ) (xs : List X) → take n xs ++ drop n xs ≡ xs
 taken_dropped zero xs = refl
 taken_dropped (suc n) [] = refl
 taken_dropped {X} (suc n) (x ∷ xs) = ap (λ (l : List X). x ∷ l) (taken_dropped n xs)
@@ -319,7 +320,7 @@ at_name P name (n ∷ ns) h among = by_test (eq_by_cmp list_cmp name n)
     (λ t. subst P (sym (exact_names name n t)) h.0)
     (λ t. at_name P name ns h.1 (rw t at among))
 
-passes_among : (q : List ℕ → Bool) (name : List ℕ) (names : List (List ℕ)) → list_any (eq_by_cmp list_cmp name) names ≡ true → q name ≡ true → list_any (eq_by_cmp list_cmp name) (filter q names) ≡ true
+pub passes_among : (q : List ℕ → Bool) (name : List ℕ) (names : List (List ℕ)) → list_any (eq_by_cmp list_cmp name) names ≡ true → q name ≡ true → list_any (eq_by_cmp list_cmp name) (filter q names) ≡ true
 passes_among q name [] among passes = yes_is_no false among refl
 passes_among q name (n ∷ ns) among passes = by_test (eq_by_cmp list_cmp name n)
     (λ t. let here : q n ≡ true = ap q (sym (exact_names name n t)) ∙ passes in rw (here, t) refl)
@@ -404,6 +405,17 @@ module _ (p : Pair) where
 
 -- THE SCHEMA OF A TRANSFORM THAT IS MADE
 
+-- columns that say the same as records with good texts
+good_columns : (good : List ℕ → Bool) (rs : List ToldRecord) (cs : List ColumnToAdd) → map action_and_values rs ≡ map action_and_values (map record_of_column cs)
+    → AllByRecursion (λ (r : ToldRecord). AreGood good r.values) rs → AllByRecursion (λ (c : ColumnToAdd). AreGood good (row_of c)) cs
+good_columns good [] [] same h = tt
+good_columns good [] (c ∷ cs) same h = absurd cc
+good_columns good (r ∷ rs) [] same h = absurd cc
+good_columns good (r ∷ rs) (c ∷ cs) same h = (
+  subst (λ (q : Action × List Value). AreGood good q.1) (same_head (action_and_values r) (action_and_values (record_of_column c)) (map action_and_values rs) (map action_and_values (map record_of_column cs)) same) h.0,
+  good_columns good rs cs (same_tail (action_and_values r) (action_and_values (record_of_column c)) (map action_and_values rs) (map action_and_values (map record_of_column cs)) same) h.1,
+)
+
 schema_unrefused : (tables columns : Bool) → tables ≡ true → columns ≡ true → first_refusal ((not tables, InvalidData) ∷ (not columns, InvalidData) ∷ []) ≡ None
 schema_unrefused tables columns t c = rw (t, c) refl
 
@@ -474,7 +486,7 @@ module _ (p : Pair) (t : TransformDef) (is : made p ≡ Ok t) (can : CanHaveReco
       (λ b. let g = rw b at h in let v = rw b at u in
       ((λ new. (not_false (is_name_to_list n) (neither (not (is_name_to_list n)) (has_table n p.new.database && is_broken p.new.database (columns_in_table p.new n) (system_rows p.new.database n)) g.0).0, v.0)), may_come ns g.1 v.1))
 
-  come_named : (ns : List (List ℕ)) → AllByRecursion (λ name. list_any (eq_by_cmp list_cmp name) names ≡ true) ns → AllByRecursion (IsNamed p) (filter (is_new old) ns)
+  pub come_named : (ns : List (List ℕ)) → AllByRecursion (λ name. list_any (eq_by_cmp list_cmp name) names ≡ true) ns → AllByRecursion (IsNamed p) (filter (is_new old) ns)
   come_named [] h = tt
   come_named (n ∷ ns) h = by_test (is_new old n)
       (λ b. rw b (passes_among (λ name. not (is_schema_table name)) n names h.0 (plain_new n b), come_named ns h.1))
@@ -565,14 +577,20 @@ module _ (p : Pair) (t : TransformDef) (is : made p ≡ Ok t) (can : CanHaveReco
     abbrev final : TablesTold
     final = with_columns_added old with_come adding_all
 
-    first_list : (s : SchemaInHand) × (records_applied t tables_name tables_columns (table_record_applied change) begun ≡ Ok s) × SchemaAfter beside with_come (length come) begun s
+    -- where the texts that come are good, and those that are left once the tables that go are gone, so are those in the end
+    abbrev pub StaysGood : SchemaInHand → Type 0
+    StaysGood after = (good : List ℕ → Bool) (rest : Uses) → AllByRecursion (λ name. good name ≡ true) come
+        → AllByRecursion (λ (r : ToldRecord). AreGood good r.values) (flat_map (records_of_columns p.old p.new) (told_names p.new))
+        → ((mid : SchemaInHand) → Went old beside gone begun mid → HoldsGood good rest mid.pool.places) → HoldsGood good rest after.pool.places
+
+    first_list : (s : SchemaInHand) × (records_applied t tables_name tables_columns (table_record_applied change) begun ≡ Ok s) × SchemaAfter beside with_come (length come) begun s × StaysGood s
     first_list =
         let (stored, says, applies) = by_stored t (list_of_tables p) tables_columns refl (read_tables p t is can).0 (absent_tables p t is can) (table_record_applied change) begun in
         let number = number_of t tables_name in
         let (qs, rs, whole_stored, says_gone, says_come) = split_says t (map (listing_record Remove) gone) (map (listing_record (Add 1)) come) stored says in
-        let (s, ran, are) = removing_records_are_applied takes gives change beside begun gone qs number 0 says_gone
+        let (s, ran, are, went) = removals takes gives change beside number 0 gone begun qs says_gone
         (can_go old goes [] old_names adds.apart (may_go old_names (none_passes (is_odd_table p.old) (told_names p.old) (both_fit p t is).0) (each_among old_names)) (none_absent old old_names)) counts in
-        let (u, ran_too, are_too) = listing_records_are_applied takes gives change beside s come rs number (0 + length qs) says_come
+        let (u, ran_too, are_too, stays) = listings takes gives change beside number (0 + length qs) come s rs says_come
         (subst (λ (l : TablesTold). CanAddTables old l come) (sym are.tables) (can_come old without_gone names can.apart (may_come names odd adds.unlisted) (all_absent names (new_there names (each_among names)))))
         are.counted (omega (arith, fits, are.longer)) in (
           u,
@@ -583,15 +601,19 @@ module _ (p : Pair) (t : TransformDef) (is : made p ≡ Ok t) (can : CanHaveReco
             kept = λ n some. are_too.kept n some ∙ are.kept n some;
             longer = omega (arith, are.longer, are_too.longer);
           },
+          (λ good rest names_good records_good holds. stays good rest names_good (holds s went)),
         )
 
     second_list : (s : SchemaInHand) → s.tables ≡ with_come → CountsSchema beside s → length s.pool.places + texts_of_columns adding_all ≤ 16777215
         → (u : SchemaInHand) × (records_applied t columns_name columns_columns (column_record_applied change) s ≡ Ok u) × SchemaAfter beside (with_columns_added old s.tables adding_all) (texts_of_columns adding_all) s u
+        × ((good : List ℕ → Bool) (rest : Uses) → AllByRecursion (λ (r : ToldRecord). AreGood good r.values) (flat_map (records_of_columns p.old p.new) (told_names p.new)) → HoldsGood good rest s.pool.places
+        → HoldsGood good rest u.pool.places)
     second_list s tables now room =
         let (stored, says, applies) = by_stored t (list_of_columns p) columns_columns refl (read_tables p t is can).1 (absent_columns p t is can) (column_record_applied change) s in
-        let (u, ran, are) = column_records_are_applied takes gives change beside s adding_all stored (number_of t columns_name) 0 (says ∙ same_in_all p (told_names p.new) gets_columns)
+        let (u, ran, are, stays) = columns_put takes gives change beside (number_of t columns_name) 0 adding_all s stored (says ∙ same_in_all p (told_names p.new) gets_columns)
         (subst (λ (l : TablesTold). CanAddColumns old l adding_all) (sym tables) columns_all.0) now room in
-        (u, applies u ran, are)
+        (u, applies u ran, are, (λ good rest records_good holds.
+            stays good rest (good_columns good (flat_map (records_of_columns p.old p.new) (told_names p.new)) adding_all (same_in_all p (told_names p.new) gets_columns) records_good) holds))
 
     -- a table that goes is gone in the end
     one_gone : (m : List ℕ) → goes m ≡ true → list_any (eq_by_cmp list_cmp m) gone ≡ true → IsGone p final m
@@ -608,11 +630,11 @@ module _ (p : Pair) (t : TransformDef) (is : made p ≡ Ok t) (can : CanHaveReco
 
     pub whole_schema : (schema : SchemaInHand) × (schema_changed change ≡ Ok schema)
         × AllByRecursion (λ name. HasNewColumns p.old p.new name (table_in_hand old schema.tables name)) (told_names p.new)
-        × SchemaAfter beside schema.tables (texts_of_schema p) begun schema × AreNamed p schema.tables schema.tables
+        × SchemaAfter beside schema.tables (texts_of_schema p) begun schema × AreNamed p schema.tables schema.tables × AllByRecursion (IsGone p schema.tables) gone × StaysGood schema
     whole_schema =
         let few = few_in_all p (told_names p.new) gets_columns in
-        let (s, ran, are) = first_list in
-        let (u, ran_too, are_too) = second_list s are.tables are.counted (omega (arith, fits, few, are.longer)) in
+        let (s, ran, are, stays) = first_list in
+        let (u, ran_too, are_too, stays_too) = second_list s are.tables are.counted (omega (arith, fits, few, are.longer)) in
         let tables : u.tables ≡ final = are_too.tables ∙ ap (λ (l : TablesTold). with_columns_added old l adding_all) are.tables in
         let gone_then = all_gone gone (each_passing goes old_names) (each_among gone) in
         let named = named_columns p final with_come adding_all (named_all p (told_names p.new) gets_columns told_named)
@@ -633,8 +655,10 @@ module _ (p : Pair) (t : TransformDef) (is : made p ≡ Ok t) (can : CanHaveReco
             longer = omega (arith, are.longer, are_too.longer, few);
           },
           subst (λ (l : TablesTold). AreNamed p l l) (sym tables) named,
+          subst (λ (l : TablesTold). AllByRecursion (IsGone p l) gone) (sym tables) gone_then,
+          (λ good rest names_good records_good holds. stays_too good rest records_good (stays good rest names_good records_good holds)),
         )
 
 pub made_schema_is_new : TakenPlacesHoldTheirText → GivenBackTakesOne → MadeSchemaIsNew
 made_schema_is_new takes gives p t passing others is can adds counts fits =
-    let (schema, ran, columns, are, named) = whole_schema p t is can adds takes gives passing others counts fits in (schema, ran, columns, are)
+    let (schema, ran, columns, are, named, gone, stays) = whole_schema p t is can adds takes gives passing others counts fits in (schema, ran, columns, are)

@@ -60,7 +60,7 @@ use Rattle.msi_transform_laws.proofs.TableChangedLemmas.{broken_parts, fit_at, m
 
 -- THE CELLS OF A TABLE'S ROWS IN HAND ARE THOSE OF ITS ROWS, since no two rows share a key
 
-sorted_by_key : (es : Rows) → T (is_sorted key_cmp (by_key es))
+pub sorted_by_key : (es : Rows) → T (is_sorted key_cmp (by_key es))
 sorted_by_key [] = tt
 sorted_by_key (e ∷ es) = is_sorted-put key_cmp keys_total e.0 e.1 (by_key es) (sorted_by_key es)
 
@@ -72,7 +72,7 @@ neither : (a b : Bool) → (a || b) ≡ false → (a ≡ false) × (b ≡ false)
 neither true b h = yes_is_no true refl h
 neither false b h = (refl, h)
 
-uses_by_key : (es : Rows) (n : ℕ) → has_pair same_key (map (λ e. e.0) es) ≡ false → sum_of (uses_in n) (by_key es) ≡ sum_of (uses_in n) es
+pub uses_by_key : (es : Rows) (n : ℕ) → has_pair same_key (map (λ e. e.0) es) ≡ false → sum_of (uses_in n) (by_key es) ≡ sum_of (uses_in n) es
 uses_by_key [] n apart = refl
 uses_by_key (e ∷ es) n apart =
     let p = neither (list_any (same_key e.0) (map (λ e. e.0) es)) (has_pair same_key (map (λ e. e.0) es)) apart in
@@ -319,7 +319,7 @@ module _ (Q : List ℕ → Type 0) where
   all_stored_names places long (table ∷ tables) (e ∷ es) each h =
       (subst (λ (u : ToldTable). Q u.name) (sym each.0.0) h.0, all_stored_names places long tables es each.1 h.1)
 
-sorted_by_names : (es : List TableOfRecords) → T (is_sorted list_cmp (by_names es))
+pub sorted_by_names : (es : List TableOfRecords) → T (is_sorted list_cmp (by_names es))
 sorted_by_names [] = tt
 sorted_by_names (e ∷ es) = is_sorted-put list_cmp names_total e.0 e.1 (by_names es) (sorted_by_names es)
 
@@ -341,7 +341,7 @@ module _ (p : Pair) (t : TransformDef) where
   abbrev Named : List ℕ → Type 0
   Named name = is_schema_table name ≡ false → IsTellable p.old p.new name × Own p name × TableIsChanged p t (told_table p.old p.new name)
 
-  own_keys : made p ≡ Ok t → (name : List ℕ) → is_schema_table name ≡ false → Own p name
+  pub own_keys : made p ≡ Ok t → (name : List ℕ) → is_schema_table name ≡ false → Own p name
   own_keys is name s there =
       let columns = columns_in_table p.old name in
       (broken_parts (has_key columns) (list_any is_key_of_streams columns) (have_own_keys p.old.database.pool.places columns (system_rows p.old.database name))

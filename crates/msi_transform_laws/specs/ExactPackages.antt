@@ -1,11 +1,12 @@
 -- Packages whose `_Tables` and `_Columns` speak of their tables alone, and whose pool counts the cells exactly.
-use Rattle.std.specs.Prelude.{◌≡◌, ℕ, ◌<◌, ◌≤◌, pos, true, List, [], ◌∷◌, length, bytes_eq}
+use Rattle.std.specs.Prelude.{◌≡◌, ℕ, ◌<◌, ◌≤◌, pos, true, false, List, [], ◌∷◌, length}
 use Rattle.std.specs.List.{AllByRecursion, list_any}
 use Rattle.msi_base.specs.declared.codepage.CodePage.TheVariants.{Utf8}
 use Rattle.msi_pool.specs.Pool.{HaveUtf8Texts}
 use Rattle.msi_table_values.specs.declared.value.Value.{Value}
 use Rattle.msi_table_values.specs.declared.value.Value.TheVariants.{Int, Str}
-use Rattle.msi_database_schema.specs.System.{columns_columns, columns_name, tables_columns, tables_name}
+use Rattle.msi_database_schema.specs.System.{columns_columns, columns_name, is_schema_table, tables_columns}
+use Rattle.msi_database_schema.specs.System.{tables_name}
 use Rattle.msi_database_changes.specs.Database.{CountsAreExact, has_table, is_sound, is_well_formed}
 use Rattle.msi_database_storage.specs.Kept.{Kept}
 use Rattle.msi_transform_schema.specs.SchemaApplying.{have_own_keys, system_rows}
@@ -17,7 +18,8 @@ use Rattle.msi_transform_laws.specs.RowsBegun.{HoldsStreams}
 pub record NamesTable (k : Kept) (row : List Value) : Type 0 where
   pub name : List ℕ
   pub row_is : row ≡ Str name ∷ []
-  pub there : list_any (bytes_eq name) (told_names k) ≡ true
+  pub there : has_table name k.database ≡ true
+  pub plain : is_schema_table name ≡ false
 
 -- and a row of `_Columns` is one of the columns of such a table, by its number
 pub record NamesColumn (k : Kept) (row : List Value) : Type 0 where
@@ -26,7 +28,8 @@ pub record NamesColumn (k : Kept) (row : List Value) : Type 0 where
   pub name : Value
   pub bits : Value
   pub row_is : row ≡ Str table ∷ Int (pos number) ∷ name ∷ bits ∷ []
-  pub there : list_any (bytes_eq table) (told_names k) ≡ true
+  pub there : has_table table k.database ≡ true
+  pub plain : is_schema_table table ≡ false
   pub from_one : 0 < number
   pub within : number ≤ length (columns_in_table k table)
 

@@ -1,0 +1,264 @@
+-- The tables that are left once the records of a transform that is made are applied, from a schema that has its columns.
+use Rattle.std.proofs.Common.{◌≡◌, ℕ, zero, suc, ◌+◌, ◌-◌, ◌<◌, ◌≤◌, Bool, true, false, not, ◌&&◌, ◌||◌, List, [], ◌∷◌, ◌++◌, length, map, filter, refl, sym, ap, subst, ◌∙◌, arith, append-nil}
+use Rattle.std.specs.Prelude.{Option, Some, None, Result, Ok, is_none, is_some, unwrap_or, if◌then◌else◌, nat_lt, bytes_eq, count_by, ◌==◌}
+use Rattle.std.specs.FinMap.{find}
+use Rattle.std.specs.FinMap.Entries.{is_some-find}
+use Rattle.std.specs.List.{AllByRecursion, list_any}
+use Rattle.std.specs.Ordering.{eq_by_cmp}
+use Rattle.std.proofs.lemmas.Bool.{ltb-false}
+use Rattle.std.proofs.lemmas.List.Folds.{list_any-append}
+use Rattle.msi_base.specs.Lists.{list_cmp}
+use Rattle.msi_base.proofs.BoolLemmas.{by_test, yes_is_no}
+use Rattle.msi_base.proofs.ListLemmas.{list_any-map}
+use Rattle.msi_base.proofs.OptionLemmas.{none_is, none_there, some_is}
+use Rattle.msi_pool.specs.Pool.{Place}
+use Rattle.msi_pool.specs.FirstFitLaws.{text_at, TakenPlacesHoldTheirText, GivenBackTakesOne}
+use Rattle.msi_table.specs.Census.{numbers_of_rows}
+use Rattle.msi_table_values.specs.Columns.{ColumnDef}
+use Rattle.msi_database_schema.specs.System.{columns_columns, columns_name, is_schema_table, tables_columns, tables_name}
+use Rattle.msi_database_schema.proofs.AccountLemmas.{Uses, room, room_at}
+use Rattle.msi_database_changes.specs.Database.{Database, has_table}
+use Rattle.msi_transform_records.specs.declared.shape.Shape.{Shape}
+use Rattle.msi_transform.specs.Transforms.{TransformDef, records_for, shapes_of}
+use Rattle.msi_transform.specs.declared.conditions.ErrorConditions.{ErrorConditions}
+use Rattle.msi_transform_rows.specs.RecordRefusals.{Refusal, ◌>>=◌}
+use Rattle.msi_transform_rows.specs.RowChanges.{cells_of}
+use Rattle.msi_transform_rows.specs.TableRecords.{changes_schema}
+use Rattle.msi_transform_schema.specs.SchemaApplying.{system_rows}
+use Rattle.msi_transform_schema.specs.SchemaChanges.{SchemaChange, SchemaInHand, TableInHand, TablesTold, columns_in_hand, columns_of_package, is_added, is_gone, table_in_hand, untold_table}
+use Rattle.msi_transform_schema.specs.declared.schema.Standing.{Standing}
+use Rattle.msi_transform_schema.specs.declared.schema.Standing.TheVariants as stands
+use Rattle.msi_transform_applying.specs.Applying.{TableAnew, TablesInHand, change_with, changed_with, is_anew, is_lengthened, lengthened_alone, rows_changed, system_anew, systems_anew, table_lengthened, tables_begun, tables_in_turn, with_lengthened}
+use Rattle.msi_transform_making.specs.Making.{Pair, columns_before, columns_in_table, made, told_names, told_rows}
+use Rattle.msi_transform_laws.specs.CarriedOut.{rows_before}
+use Rattle.msi_transform_laws.specs.RowsBegun.{HasNewColumns, HoldsStreams, StandsAs, TextsOfTableStay}
+use Rattle.msi_transform_laws.specs.TableApplied.{CanHaveRecords, table_change}
+use Rattle.msi_transform_laws.specs.TablesChanged.{AreChanged, CountsCellsOf, HasNewRows, TableOfRecords, cells_anew, cells_to_change, texts_to_come}
+use Rattle.msi_transform_laws.specs.TransformsApplied.{StaysNew}
+use Rattle.msi_transform_laws.proofs.AppliedRecordsLemmas.{naming_cells}
+use Rattle.msi_transform_laws.proofs.ExactPackagesLemmas.{names_turn}
+use Rattle.msi_transform_laws.proofs.GoodTextsLemmas.{HoldsGood, IsGoodTold, none_of_rows, values_good}
+use Rattle.msi_transform_laws.proofs.ListedTablesLemmas.{exact_names}
+use Rattle.msi_transform_laws.proofs.NewTablesLemmas.{all_joined, alone_new, both_all, texts_ready}
+use Rattle.msi_transform_laws.proofs.RowsBegunLemmas.{many_shapes}
+use Rattle.msi_transform_laws.proofs.SchemaListsLemmas.{each_passing}
+use Rattle.msi_transform_laws.proofs.SchemaMadeLemmas.{AreNamed, IsNamed, at_name, each_found}
+use Rattle.msi_transform_laws.proofs.TableChangedLemmas.{each_among, of_tables}
+use Rattle.msi_transform_laws.proofs.TablesChangedLemmas.{all_in_transform, made_tables_are_changed_in_turn}
+use Rattle.msi_transform_laws.proofs.WithoutRecordsLemmas.{Stays, tables_without_records_stay}
+
+not_true : (b : Bool) → not b ≡ true → b ≡ false
+not_true true h = sym h
+not_true false h = refl
+
+neither : (a b : Bool) → (a || b) ≡ false → (a ≡ false) × (b ≡ false)
+neither true b h = yes_is_no true refl h
+neither false b h = (refl, h)
+
+not_first : (a b : Bool) → (a && b) ≡ false → b ≡ true → a ≡ false
+not_first true b h t = yes_is_no b t h
+not_first false b h t = refl
+
+none_long : (columns : List ColumnDef) → nat_lt 0 (length columns) ≡ false → columns ≡ []
+none_long [] h = refl
+none_long (c ∷ columns) h = absurd (omega (arith, ltb-false 0 (length (c ∷ columns)) h))
+
+counted_room : (cells others : Uses) (places : List Place) → CountsCellsOf cells others places → (n : ℕ) → room places n ≡ cells n + others n
+counted_room cells others places counts zero = sym counts.from_one
+counted_room cells others places counts (suc i) = room_at places (suc i) (omega arith) ∙ counts.counts (suc i) (omega arith)
+
+-- TABLES THAT ARE NOT STORED ANEW
+
+module _ (name : List ℕ) where
+  abbrev IsIt : TableAnew → Bool
+  IsIt table = bytes_eq table.name name
+
+  no_entry : is_schema_table name ≡ false → (es : List TableOfRecords) → list_any (λ m. bytes_eq m name) (filter (λ m. not (is_schema_table m)) (map (λ (e : TableOfRecords). e.0) es)) ≡ false
+      → is_some (find list_cmp name es) ≡ false
+  no_entry plain [] none = refl
+  no_entry plain (e ∷ es) none = by_test (is_schema_table e.0)
+      (λ s. by_test (eq_by_cmp list_cmp name e.0)
+      (λ u. yes_is_no (is_schema_table name) (ap is_schema_table (exact_names name e.0 u) ∙ s) plain)
+      (λ u. rw u (no_entry plain es (rw s at none))))
+      (λ s.
+      let q = neither (bytes_eq e.0 name) (list_any (λ m. bytes_eq m name) (filter (λ m. not (is_schema_table m)) (map (λ (e : TableOfRecords). e.0) es))) (rw s at none) in
+      let apart : eq_by_cmp list_cmp name e.0 ≡ false = names_turn e.0 name ∙ q.0 in
+      rw apart (no_entry plain es q.1))
+
+  not_longer : (d : Database) (t : TransformDef) (table : TableInHand) (es : TablesTold) → find list_cmp name es ≡ Some table → is_none (records_for name t) ≡ true
+      → list_any IsIt (map (table_lengthened d) (filter (λ (e : List ℕ × TableInHand). is_lengthened e.1 && is_none (records_for e.0 t)) es)) ≡ false → is_lengthened table ≡ false
+  not_longer d t table [] found none h = none_is found
+  not_longer d t table (e ∷ es) found none h =
+      let test = is_lengthened e.1 && is_none (records_for e.0 t) in
+      let rest = list_any IsIt (map (table_lengthened d) (filter (λ (e : List ℕ × TableInHand). is_lengthened e.1 && is_none (records_for e.0 t)) es)) in
+      by_test (eq_by_cmp list_cmp name e.0)
+      (λ u.
+      let here : e.1 ≡ table = some_is e.1 table (rw u at found) in
+      by_test test
+      (λ b. yes_is_no (bytes_eq e.0 name) (sym (names_turn e.0 name) ∙ u) (neither (bytes_eq e.0 name) rest (rw b at h)).0)
+      (λ b. ap is_lengthened (sym here) ∙ not_first (is_lengthened e.1) (is_none (records_for e.0 t)) b (ap (λ (m : List ℕ). is_none (records_for m t)) (sym (exact_names name e.0 u)) ∙ none)))
+      (λ u. by_test test
+      (λ b. not_longer d t table es (rw u at found) none (neither (bytes_eq e.0 name) rest (rw b at h)).1)
+      (λ b. not_longer d t table es (rw u at found) none (rw b at h)))
+
+  untold_not_longer : (d : Database) → is_lengthened (untold_table d name) ≡ false
+  untold_not_longer d = by_test (has_table name d) (λ b. rw b refl) (λ b. rw b refl)
+
+-- a table that has its columns of the old package, and none that are added
+abbrev StaysAs : Pair → List ℕ → Bool → Standing → List ColumnDef → Type 0
+StaysAs p name b standing added = (b ≡ true) × (added ≡ []) × (columns_of_package p.old.database name standing ≡ columns_in_table p.old name)
+
+stood : (p : Pair) (name : List ℕ) (b : Bool) (standing : Standing) (added : List ColumnDef) → StandsAs b standing → (is_added standing || (not (is_gone standing) && nat_lt 0 (length added))) ≡ false → StaysAs p name b standing added
+stood p name true stands.Kept added stood h = (refl, none_long added h, refl)
+stood p name true (stands.Found next) added stood h = (refl, none_long added h, refl)
+stood p name true stands.Added added stood h = absurd stood
+stood p name true stands.Gone added stood h = absurd stood
+stood p name false stands.Added added stood h = yes_is_no true refl h
+stood p name false stands.Kept added stood h = absurd stood
+stood p name false (stands.Found next) added stood h = absurd stood
+stood p name false stands.Gone added stood h = absurd stood
+
+-- FROM A SCHEMA THAT HAS THE NEW COLUMNS
+
+module _ (takes : TakenPlacesHoldTheirText) (gives : GivenBackTakesOne) (p : Pair) (t : TransformDef) (passing : ErrorConditions) (is : made p ≡ Ok t) (can : CanHaveRecords p) (schema : SchemaInHand)
+    (columns : AllByRecursion (λ name. HasNewColumns p.old p.new name (table_in_hand p.old.database schema.tables name)) (told_names p.new))
+    (streams : AllByRecursion (HoldsStreams p.old) (told_names p.new)) (named : AreNamed p schema.tables schema.tables) (beside : Uses)
+    (enough : (n : ℕ) → cells_to_change p.old.database t.tables n + beside n ≤ room schema.pool.places n)
+    (texts : (n : ℕ) → 0 < cells_to_change p.old.database t.tables n + beside n → text_at schema.pool.places n ≡ text_at p.old.database.pool.places n)
+    (fits : length schema.pool.places + texts_to_come p t.tables ≤ 16777215) where
+  abbrev d : Database
+  d = p.old.database
+
+  abbrev change : SchemaChange
+  change = change_with p.old t passing
+
+  abbrev cells : Uses
+  cells = cells_to_change p.old.database t.tables
+
+  abbrev begun : TablesInHand
+  begun = tables_begun change schema
+
+  abbrev left : Uses
+  left n = room schema.pool.places n - cells n
+
+  changed : (after : TablesInHand) × (done : List TableAnew) × (tables_in_turn change schema.tables 0 begun t.tables ≡ Ok after) × AreChanged p t passing left t.tables begun after done
+  changed =
+      let Ready = λ (name : List ℕ). HasNewColumns p.old p.new name (table_in_hand d schema.tables name) × HoldsStreams p.old name in
+      let has = both_all (λ name. HasNewColumns p.old p.new name (table_in_hand d schema.tables name)) (HoldsStreams p.old) (told_names p.new) columns streams in
+      let in_transform = all_in_transform p t is (λ name. is_schema_table name ≡ false → Ready name) (of_tables p Ready has) in
+      let ready = texts_ready p schema.tables begun t.tables (λ n some. texts n (omega (arith, some))) in_transform in
+      let counted : CountsCellsOf cells left schema.pool.places = record {
+        counts = λ n one. omega (arith, enough n, room_at schema.pool.places n one);
+        from_one = omega (arith, enough 0);
+      } in
+      made_tables_are_changed_in_turn takes gives p t schema.tables passing left begun 0 is can ready counted fits
+
+  abbrev pub after : TablesInHand
+  after = changed.0
+
+  abbrev done : List TableAnew
+  done = changed.1
+
+  are : AreChanged p t passing left t.tables begun after done
+  are = changed.3
+
+  abbrev pub end : TablesInHand
+  end = with_lengthened change schema.tables after
+
+  abbrev alone : List TableAnew
+  alone = map (table_lengthened d) (lengthened_alone t schema.tables)
+
+  pub rows_ran : rows_changed change schema ≡ Ok (changed_with schema.tables end)
+  rows_ran = ap (λ (r : Result TablesInHand Refusal). (r >>= λ s. Ok (with_lengthened change schema.tables s)) >>= λ tables. Ok (changed_with schema.tables tables)) changed.2
+
+  -- the tables that are stored anew
+  abbrev IsNewAnew : TableAnew → Type 0
+  IsNewAnew table = is_schema_table table.name ≡ false → HasNewRows p t passing after.pool.places table
+
+  new_anew : (tables : List TableAnew) → AllByRecursion (HasNewRows p t passing after.pool.places) tables → AllByRecursion IsNewAnew tables
+  new_anew [] h = tt
+  new_anew (table ∷ tables) h = ((λ _. h.0), new_anew tables h.1)
+
+  systems_new : AllByRecursion IsNewAnew (systems_anew t schema)
+  systems_new = by_test (changes_schema t)
+      (λ b. rw b ((λ s. yes_is_no (is_schema_table tables_name) refl s), ((λ s. yes_is_no (is_schema_table columns_name) refl s), tt)))
+      (λ b. rw b tt)
+
+  pub end_anew : AllByRecursion IsNewAnew end.tables
+  end_anew = all_joined IsNewAnew after.tables alone
+      (subst (AllByRecursion IsNewAnew) (sym are.tables) (all_joined IsNewAnew (systems_anew t schema) done systems_new (new_anew done are.rows)))
+      (new_anew alone (alone_new p t passing after.pool.places schema.tables named columns (tables_without_records_stay p t is can) schema.tables named.each (each_found schema.tables named.sorted)))
+
+  -- texts that are left
+  module _ (good : List ℕ → Bool) (told : (name : List ℕ) → AllByRecursion (IsGoodTold good) (told_rows p.new name 0)) where
+    none_anew : (n : ℕ) → good (text_at after.pool.places n) ≡ false → (tables : List TableAnew) → AllByRecursion (HasNewRows p t passing after.pool.places) tables → cells_anew tables n ≡ 0
+    none_anew n bad [] h = refl
+    none_anew n bad (table ∷ tables) h = omega (
+      arith,
+      naming_cells (cells_of table.rows) n,
+      none_of_rows good after.pool.places n bad table.rows
+          (values_good good p.old.streams (table_change table.name table.columns t passing) after.pool.places table.rows (told_rows p.new table.name 0) h.0.1 (told table.name)),
+      none_anew n bad tables h.1,
+    )
+
+    pub end_good : HoldsGood good cells schema.pool.places → (n : ℕ) → 0 < room after.pool.places n → good (text_at after.pool.places n) ≡ true
+    end_good holds n some = by_test (good (text_at after.pool.places n))
+        (λ u. u)
+        (λ bad.
+        let total = counted_room (cells_anew done) left after.pool.places are.counted n in
+        let nothing = none_anew n bad done are.rows in
+        ap good (are.kept n (omega (arith, some, total, nothing))) ∙ holds n (omega (arith, some, total, nothing)))
+
+  -- tables that stay as they are
+  kept_text : (n : ℕ) → 0 < beside n → text_at after.pool.places n ≡ text_at d.pool.places n
+  kept_text n some = are.kept n (omega (arith, some, enough n)) ∙ texts n (omega (arith, some))
+
+  module _ (name : List ℕ) (plain : is_schema_table name ≡ false) (is_named : IsNamed p name) (not_anew : is_anew end name ≡ false) where
+    abbrev table : TableInHand
+    table = table_in_hand d schema.tables name
+
+    apart_now : (list_any (IsIt name) after.tables ≡ false) × (list_any (IsIt name) alone ≡ false)
+    apart_now = neither (list_any (IsIt name) after.tables) (list_any (IsIt name) alone) (sym (list_any-append (IsIt name) after.tables alone) ∙ not_anew)
+
+    apart_done : list_any (IsIt name) done ≡ false
+    apart_done = (neither (list_any (IsIt name) (systems_anew t schema)) (list_any (IsIt name) done)
+        (sym (list_any-append (IsIt name) (systems_anew t schema) done) ∙ ap (list_any (IsIt name)) (sym are.tables) ∙ apart_now.0)).1
+
+    pub without_record : is_some (find list_cmp name t.tables) ≡ false
+    without_record = no_entry name plain t.tables (ap (list_any (λ m. bytes_eq m name)) (sym are.names) ∙ list_any-map (λ m. bytes_eq m name) (λ (table : TableAnew). table.name) done ∙ apart_done)
+
+    none : records_for name t ≡ None
+    none = none_there (records_for name t) without_record
+
+    not_lengthened : is_lengthened table ≡ false
+    not_lengthened = by_found (find list_cmp name schema.tables) refl
+      where
+        by_found : (o : Option TableInHand) → find list_cmp name schema.tables ≡ o → is_lengthened (unwrap_or o (untold_table d name)) ≡ false
+        by_found None found = untold_not_longer name d
+        by_found (Some u) found = not_longer name d t u schema.tables found (ap is_none none) apart_now.1
+
+    has : HasNewColumns p.old p.new name table
+    has = at_name (λ name. HasNewColumns p.old p.new name (table_in_hand d schema.tables name)) name (told_names p.new) columns is_named
+
+    stays_as : StaysAs p name (has_table name d) table.standing table.added
+    stays_as = stood p name (has_table name d) table.standing table.added has.stands not_lengthened
+
+    same_shapes : shapes_of (columns_in_table p.old name) ≡ shapes_of (columns_in_table p.new name)
+    same_shapes = ap shapes_of (sym ((λ i. stays_as.2 i ++ stays_as.1 i) ∙ append-nil (columns_in_table p.old name))) ∙ has.columns
+
+    same_rows : told_rows p.old name 0 ≡ told_rows p.new name 0
+    same_rows =
+        let many : length (columns_in_table p.old name) ≡ length (columns_in_table p.new name) =
+        sym (many_shapes (columns_in_table p.old name)) ∙ ap (λ (l : List Shape). length l) same_shapes ∙ many_shapes (columns_in_table p.new name) in
+        let nothing : 0 ≡ length (columns_in_table p.new name) - columns_before d name = omega (arith, many) in
+        let there = stays_as.0 in
+        let stay : rows_before p.old p.new name ≡ told_rows p.new name 0 = (at_name (Stays p t) name (told_names p.new) (tables_without_records_stay p t is can) is_named none).0 in
+        ap (told_rows p.old name) nothing ∙ (rw there at stay)
+
+    pub stays_new : ((n : ℕ) → 0 < count_by (λ m. m == n) (numbers_of_rows (system_rows d name)) → 0 < beside n) → StaysNew p end name
+    stays_new among = record {
+      there = stays_as.0;
+      columns = same_shapes;
+      rows = same_rows;
+      texts = λ n some. kept_text n (among n some);
+    }
