@@ -11,6 +11,7 @@ pub mod RowsBegun
 pub mod SameColumns
 pub mod SchemaApplied
 pub mod SchemaMade
+pub mod StreamsAgree
 pub mod StreamsBrought
 pub mod TableApplied
 pub mod TableChanged

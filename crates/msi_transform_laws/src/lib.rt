@@ -14,6 +14,7 @@ pub mod rows_begun;
 pub mod same_columns;
 pub mod schema_applied;
 pub mod schema_made;
+pub mod streams_agree;
 pub mod streams_brought;
 pub mod table_applied;
 pub mod table_changed;
