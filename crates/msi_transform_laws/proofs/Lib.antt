@@ -22,6 +22,7 @@ pub mod OldTextsLemmas
 pub mod OneRecordLemmas
 pub mod PackagesInOrderLemmas
 pub mod PoolRoomLemmas
+pub mod PremisesMetLemmas
 pub mod RecordValuesLemmas
 pub mod RecordsInTransformLemmas
 pub mod RowsBegunLemmas
@@ -31,6 +32,7 @@ pub mod SchemaAppliedLemmas
 pub mod SchemaListsLemmas
 pub mod SchemaMadeLemmas
 pub mod StoredRecordsLemmas
+pub mod StreamsAgreeLemmas
 pub mod TableAppliedLemmas
 pub mod TableChangedLemmas
 pub mod TableFollowLemmas

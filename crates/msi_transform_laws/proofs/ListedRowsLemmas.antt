@@ -5,7 +5,6 @@ use Rattle.std.specs.FinMap.{put}
 use Rattle.std.specs.FinMap.Entries.{by_order}
 use Rattle.std.specs.List.{AllByRecursion, list_any, range_with_len}
 use Rattle.std.specs.Ordering.{eq_by_cmp, is_eq}
-use Rattle.std.specs.declared.cmp.Ordering.{Ordering}
 use Rattle.std.specs.declared.cmp.Ordering.TheVariants.{Less, Equal, Greater}
 use Rattle.std.proofs.lemmas.Bool.{cases_eq}
 use Rattle.msi_base.specs.Lists.{has_pair, list_cmp}
@@ -75,10 +74,10 @@ module _ (P : RowInHand → Type 0) where
 -- rows in the order of their keys
 module _ (P : List Value × RowInHand → Type 0) where
   all_put : (k : List Value) (row : RowInHand) (es : Rows) → ((q : List Value) → is_eq (key_cmp k q) ≡ true → P (q, row)) → AllByRecursion P es → AllByRecursion P (put key_cmp k row es)
-  all_put k row [] p h = (p k (tied_itself keys_total k), tt)
+  all_put k row [] p h = (p k (ap is_eq (tied_itself keys_total k)), tt)
   all_put k row (e ∷ es) p h =
       elim (key_cmp k e.0) as (λ o. key_cmp k e.0 ≡ o → AllByRecursion P (by_order o ((k, row) ∷ e ∷ es) ((e.0, row) ∷ es) (e ∷ put key_cmp k row es))) [
-        | Less ↦ λ o. (p k (tied_itself keys_total k), h)
+        | Less ↦ λ o. (p k (ap is_eq (tied_itself keys_total k)), h)
         | Equal ↦ λ o. (p e.0 (ap is_eq o), h.1)
         | Greater ↦ λ o. (h.0, all_put k row es p h.1)
       ] refl
@@ -115,6 +114,6 @@ numbered_among table number first (suc len) low high = by_test (same_key (column
   where
     later : same_key (column_key table first) (column_key table number) ≡ false → first + 1 ≤ number
     later t = elim (cases_eq first number) [
-      | inl e ↦ yes_is_no (same_key (column_key table first) (column_key table number)) (ap (λ (m : ℕ). same_key (column_key table first) (column_key table m)) (sym e) ∙ tied_itself keys_total (column_key table first)) t
+      | inl e ↦ yes_is_no (same_key (column_key table first) (column_key table number)) (ap (λ (m : ℕ). same_key (column_key table first) (column_key table m)) (sym e) ∙ ap is_eq (tied_itself keys_total (column_key table first))) t
       | inr e ↦ omega (arith, e, low)
     ]

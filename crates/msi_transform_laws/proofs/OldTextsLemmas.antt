@@ -6,7 +6,7 @@ use Rattle.std.specs.Cmp.{tied_itself}
 use Rattle.std.specs.FinMap.{find, is_sorted}
 use Rattle.std.specs.FinMap.Entries.{is_some-find}
 use Rattle.std.specs.List.{AllByRecursion, flat_map, list_any}
-use Rattle.std.specs.Ordering.{eq_by_cmp}
+use Rattle.std.specs.Ordering.{eq_by_cmp, is_eq}
 use Rattle.std.proofs.lemmas.Bool.{and_parts}
 use Rattle.msi_base.specs.Lists.{has_pair, list_cmp}
 use Rattle.msi_base.proofs.BoolLemmas.{by_test, yes_is_no}
@@ -255,7 +255,7 @@ module _ (p : Pair) (t : TransformDef) (is : made p ≡ Ok t) (can : CanHaveReco
     described_good : find key_cmp told.0 (told_rows p.old columns_name 0) ≡ Some told.1 → has_table names.table p.new.database ≡ true → Good row
     described_good found there =
         let all = if_of names.table (told_rows p.old columns_name 0) (old_described names.table (named_new names.table names.plain there) names.there) in
-        let of : IsOf names.table told.1.values ≡ true = ap (IsOf names.table) (told_values_are ∙ names.row_is) ∙ tied_itself value_cmp-total (Str names.table) in
+        let of : IsOf names.table told.1.values ≡ true = ap (IsOf names.table) (told_values_are ∙ names.row_is) ∙ ap is_eq (tied_itself value_cmp-total (Str names.table)) in
         subst (AreGood good) told_values_are (at_found key_cmp keys_total (λ (r : ToldRow). IsOf names.table r.values ≡ true → AreGood good r.values) told.0 told.1 (told_rows p.old columns_name 0) found all of)
 
     described_left : find key_cmp told.0 (told_rows p.old columns_name 0) ≡ Some told.1 → IsLeft (own_columns old) columns_columns row

@@ -109,14 +109,14 @@ abbrev StaysAs : Pair → List ℕ → Bool → Standing → List ColumnDef → 
 StaysAs p name b standing added = (b ≡ true) × (added ≡ []) × (columns_of_package p.old.database name standing ≡ columns_in_table p.old name)
 
 stood : (p : Pair) (name : List ℕ) (b : Bool) (standing : Standing) (added : List ColumnDef) → StandsAs b standing → (is_added standing || (not (is_gone standing) && nat_lt 0 (length added))) ≡ false → StaysAs p name b standing added
-stood p name true stands.Kept added stood h = (refl, none_long added h, refl)
-stood p name true (stands.Found next) added stood h = (refl, none_long added h, refl)
-stood p name true stands.Added added stood h = absurd stood
-stood p name true stands.Gone added stood h = absurd stood
-stood p name false stands.Added added stood h = yes_is_no true refl h
-stood p name false stands.Kept added stood h = absurd stood
-stood p name false (stands.Found next) added stood h = absurd stood
-stood p name false stands.Gone added stood h = absurd stood
+stood p name true stands.Kept added stands_so h = (refl, none_long added h, refl)
+stood p name true (stands.Found next) added stands_so h = (refl, none_long added h, refl)
+stood p name true stands.Added added stands_so h = absurd stands_so
+stood p name true stands.Gone added stands_so h = absurd stands_so
+stood p name false stands.Added added stands_so h = yes_is_no true refl h
+stood p name false stands.Kept added stands_so h = absurd stands_so
+stood p name false (stands.Found next) added stands_so h = absurd stands_so
+stood p name false stands.Gone added stands_so h = absurd stands_so
 
 -- FROM A SCHEMA THAT HAS THE NEW COLUMNS
 
@@ -141,7 +141,7 @@ module _ (takes : TakenPlacesHoldTheirText) (gives : GivenBackTakesOne) (p : Pai
   abbrev left : Uses
   left n = room schema.pool.places n - cells n
 
-  changed : (after : TablesInHand) × (done : List TableAnew) × (tables_in_turn change schema.tables 0 begun t.tables ≡ Ok after) × AreChanged p t passing left t.tables begun after done
+  pub changed : (after : TablesInHand) × (done : List TableAnew) × (tables_in_turn change schema.tables 0 begun t.tables ≡ Ok after) × AreChanged p t passing left t.tables begun after done
   changed =
       let Ready = λ (name : List ℕ). HasNewColumns p.old p.new name (table_in_hand d schema.tables name) × HoldsStreams p.old name in
       let has = both_all (λ name. HasNewColumns p.old p.new name (table_in_hand d schema.tables name)) (HoldsStreams p.old) (told_names p.new) columns streams in

@@ -213,8 +213,8 @@ abbrev pub own_columns : Database → List ℕ → List (List Value)
 own_columns d name = column_keys d name (record { standing = stands.Kept; added = [] })
 
 abbrev pub without_all : (List ℕ → List (List Value)) → List (List ℕ) → Rows → Rows
-without_all keys [] rows = rows
-without_all keys (name ∷ names) rows = without_all keys names (without_keys rows (keys name))
+without_all keys_of [] rows = rows
+without_all keys_of (name ∷ names) rows = without_all keys_of names (without_keys rows (keys_of name))
 
 -- tables that went gave back exactly their cells, and each place that is still in use has kept its text
 pub record Went (d : Database) (others : Uses) (names : List (List ℕ)) (before after : SchemaInHand) : Type 0 where

@@ -5,6 +5,7 @@ pub mod DescribedPackages
 pub mod ExactPackages
 pub mod MadeApplied
 pub mod NewTables
+pub mod PremisesMet
 pub mod RecordsRead
 pub mod RowsApplied
 pub mod RowsBegun

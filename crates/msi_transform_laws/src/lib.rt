@@ -8,6 +8,7 @@ pub mod carried_out;
 pub mod described_packages;
 pub mod made_applied;
 pub mod new_tables;
+pub mod premises_met;
 pub mod records_read;
 pub mod rows_applied;
 pub mod rows_begun;
