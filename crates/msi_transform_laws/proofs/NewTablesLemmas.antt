@@ -172,7 +172,7 @@ made_transforms_give_new_tables takes gives p t passing others is can adds chang
     let change = change_with p.old t passing in
     let cells = cells_to_change d t.tables in
     let beside : Uses = λ n. cells n + others n in
-    let (schema, schema_ran, columns, are, named, gone, stays) = whole_schema p t is can adds takes gives passing beside counts (omega (arith, fits)) in
+    let (schema, schema_ran, columns, are, named) = whole_schema p t is can adds takes gives passing beside counts (omega (arith, fits)) in
     let begun = tables_begun change schema in
     let has = both_all (λ name. HasNewColumns p.old p.new name (table_in_hand d schema.tables name)) (HoldsStreams p.old) (told_names p.new) columns streams in
     let in_transform = all_in_transform p t is (λ name. is_schema_table name ≡ false → HasNewColumns p.old p.new name (table_in_hand d schema.tables name) × HoldsStreams p.old name)

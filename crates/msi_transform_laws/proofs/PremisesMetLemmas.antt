@@ -1,16 +1,14 @@
 -- Two packages that meet the premises of the law on transforms that are made: one table, of one row, which differs.
-use Rattle.std.proofs.Common.{◌≡◌, ℕ, zero, suc, ◌+◌, ◌<◌, ◌≤◌, Bool, true, false, List, [], ◌∷◌, length, refl, sym, ap, subst, ◌∙◌, arith}
-use Rattle.std.specs.Prelude.{pos, Result, Ok, Err, Some, None, is_some, slice_get, codes}
-use Rattle.std.specs.FinMap.{find}
+use Rattle.std.proofs.Math.Utf8.{encode}
+use Rattle.std.proofs.Common.{◌≡◌, ℕ, zero, suc, ◌+◌, ◌≤◌, true, false, List, [], ◌∷◌, length, refl, sym, ap, subst, arith}
+use Rattle.std.specs.Prelude.{pos, Ok, Some, codes}
 use Rattle.std.specs.Ordering.{eq_by_cmp}
+use Rattle.std.specs.Str.{chars}
 use Rattle.msi_base.specs.Lists.{list_cmp}
 use Rattle.msi_base.specs.declared.codepage.CodePage.TheVariants.{Utf8}
-use Rattle.msi_base.specs.declared.errors.ErrorKind.{ErrorKind}
 use Rattle.msi_base.proofs.BoolLemmas.{by_test, yes_is_no}
 use Rattle.msi_base.proofs.ListLemmas.{same_head}
-use Rattle.msi_pool.specs.Pool.{Place, Pool, HaveUtf8Texts}
-use Rattle.msi_pool.specs.FirstFit.{count_of}
-use Rattle.msi_table_cells.specs.declared.cell.ValueRef.{ValueRef}
+use Rattle.msi_pool.specs.Pool.{Place, HaveUtf8Texts}
 use Rattle.msi_table_cells.specs.declared.cell.ValueRef.TheVariants as cell
 use Rattle.msi_table_values.specs.declared.value.Value.{Value}
 use Rattle.msi_table_values.specs.declared.value.Value.TheVariants.{Null, Int, Str, Binary}
@@ -18,14 +16,14 @@ use Rattle.msi_table_values.specs.declared.column.ColumnType.TheVariants as colt
 use Rattle.msi_table_values.specs.Columns.{ColumnDef}
 use Rattle.msi_database_schema.specs.Schema.{value_at}
 use Rattle.msi_database_schema.specs.System.{columns_columns, columns_name, is_schema_table, key, plain_column, tables_columns, tables_name}
-use Rattle.msi_database_changes.specs.Database.{CountsAreExact, Database, cells_naming, has_table}
+use Rattle.msi_database_changes.specs.Database.{CountsAreExact, Database, has_table}
 use Rattle.msi_database_storage.specs.Kept.{Kept}
 use Rattle.msi_transform.specs.Transforms.{TransformDef}
 use Rattle.msi_transform.specs.declared.conditions.ErrorConditions.{ErrorConditions}
 use Rattle.msi_transform_making.specs.Making.{Pair, ToldRows, columns_in_table, described_columns, made, told_rows}
 use Rattle.msi_transform_laws.specs.DescribedPackages.{ColumnsAreDescribed}
-use Rattle.msi_transform_laws.specs.ExactPackages.{IsExact, IsInOrder}
-use Rattle.msi_transform_laws.specs.PremisesMet.{PremisesAreMet, PremisesCanBeMet}
+use Rattle.msi_transform_laws.specs.ExactPackages.{IsInOrder}
+use Rattle.msi_transform_laws.specs.PremisesMet.{PremisesCanBeMet}
 use Rattle.msi_transform_laws.specs.SchemaMade.{AreDescribed, texts_of_schema}
 use Rattle.msi_transform_laws.specs.TablesChanged.{texts_to_come}
 use Rattle.msi_transform_laws.specs.TextsLeft.{CanTakeTransform}
@@ -67,12 +65,14 @@ packages = record { old_page = 0; old = kept_with (120 ∷ []); new_page = 0; ne
 abbrev all_pass : ErrorConditions
 all_pass = record { added_row_exists = true; removed_row_missing = true; added_table_exists = true; removed_table_missing = true; changed_row_missing = true; other_page = true }
 
-abbrev transform_in : Result TransformDef ErrorKind → TransformDef
-transform_in (Ok t) = t
-transform_in (Err kind) = record { page_id = 0; pool = record { page = Utf8; long = false; places = [] }; tables = [] }
-
+-- of the table's one row, the second column changes
 abbrev transform : TransformDef
-transform = transform_in (made packages)
+transform = record {
+  page_id = 0;
+  pool = record { page = Utf8; long = false; places = place (97 ∷ []) 1 ∷ place (121 ∷ []) 1 ∷ [] };
+  tables = (name, 2 ∷ 0 ∷ 1 ∷ 0 ∷ 2 ∷ 0 ∷ []) ∷ [];
+  streams = [];
+}
 
 -- THEY ARE IN ORDER
 
@@ -109,6 +109,7 @@ module _ (text : List ℕ) where
   )
 
   in_order : HaveUtf8Texts (places_with text) → IsInOrder (kept_with text)
+  unfolding chars
   in_order texts = record {
     well_formed = refl;
     sound = refl;
@@ -126,7 +127,7 @@ module _ (text : List ℕ) where
     listed = (refl, tt);
     described = described;
     unlisted = refl;
-    streams = (refl, tt);
+    streams = ((refl, tt), tt);
     texts = texts;
   }
 
@@ -139,10 +140,12 @@ module _ (text : List ℕ) where
   counted (suc (suc (suc (suc (suc i))))) h = absurd (omega (arith, h))
 
 old_texts : HaveUtf8Texts (places_with (120 ∷ []))
-old_texts = ((name, refl, refl), ((75 ∷ [], refl, refl), ((86 ∷ [], refl, refl), ((97 ∷ [], refl, refl), ((120 ∷ [], refl, refl), tt)))))
+unfolding encode
+old_texts = ((name, (refl, refl)), ((75 ∷ [], (refl, refl)), ((86 ∷ [], (refl, refl)), ((97 ∷ [], (refl, refl)), ((120 ∷ [], (refl, refl)), tt)))))
 
 new_texts : HaveUtf8Texts (places_with (121 ∷ []))
-new_texts = ((name, refl, refl), ((75 ∷ [], refl, refl), ((86 ∷ [], refl, refl), ((97 ∷ [], refl, refl), ((121 ∷ [], refl, refl), tt)))))
+unfolding encode
+new_texts = ((name, (refl, refl)), ((75 ∷ [], (refl, refl)), ((86 ∷ [], (refl, refl)), ((97 ∷ [], (refl, refl)), ((121 ∷ [], (refl, refl)), tt)))))
 
 -- AND A TRANSFORM IS MADE OF THEM
 
@@ -158,6 +161,7 @@ second_text [] = []
 second_text (e ∷ es) = text_of (value_at 1 e.1.values)
 
 made_of_them : made packages ≡ Ok transform
+unfolding chars
 made_of_them = refl
 
 few_texts : length (places_with (120 ∷ [])) + texts_of_schema packages + texts_to_come packages transform.tables ≤ 16777215

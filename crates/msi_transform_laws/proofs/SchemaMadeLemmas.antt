@@ -628,10 +628,10 @@ module _ (p : Pair) (t : TransformDef) (is : made p ≡ Ok t) (can : CanHaveReco
     all_gone [] g among = tt
     all_gone (m ∷ ms) g among = (one_gone m g.0 among.0, all_gone ms g.1 among.1)
 
-    pub whole_schema : (schema : SchemaInHand) × (schema_changed change ≡ Ok schema)
+    pub whole_schema_good : (schema : SchemaInHand) × (schema_changed change ≡ Ok schema)
         × AllByRecursion (λ name. HasNewColumns p.old p.new name (table_in_hand old schema.tables name)) (told_names p.new)
         × SchemaAfter beside schema.tables (texts_of_schema p) begun schema × AreNamed p schema.tables schema.tables × AllByRecursion (IsGone p schema.tables) gone × StaysGood schema
-    whole_schema =
+    whole_schema_good =
         let few = few_in_all p (told_names p.new) gets_columns in
         let (s, ran, are, stays) = first_list in
         let (u, ran_too, are_too, stays_too) = second_list s are.tables are.counted (omega (arith, fits, few, are.longer)) in
@@ -659,6 +659,16 @@ module _ (p : Pair) (t : TransformDef) (is : made p ≡ Ok t) (can : CanHaveReco
           (λ good rest names_good records_good holds. stays_too good rest records_good (stays good rest names_good records_good holds)),
         )
 
+    pub whole_schema_gone : (schema : SchemaInHand) × (schema_changed change ≡ Ok schema)
+        × AllByRecursion (λ name. HasNewColumns p.old p.new name (table_in_hand old schema.tables name)) (told_names p.new)
+        × SchemaAfter beside schema.tables (texts_of_schema p) begun schema × AreNamed p schema.tables schema.tables × AllByRecursion (IsGone p schema.tables) gone
+    whole_schema_gone = let (schema, ran, columns, are, named, none, stays) = whole_schema_good in (schema, ran, columns, are, named, none)
+
+    pub whole_schema : (schema : SchemaInHand) × (schema_changed change ≡ Ok schema)
+        × AllByRecursion (λ name. HasNewColumns p.old p.new name (table_in_hand old schema.tables name)) (told_names p.new)
+        × SchemaAfter beside schema.tables (texts_of_schema p) begun schema × AreNamed p schema.tables schema.tables
+    whole_schema = let (schema, ran, columns, are, named, none, stays) = whole_schema_good in (schema, ran, columns, are, named)
+
 pub made_schema_is_new : TakenPlacesHoldTheirText → GivenBackTakesOne → MadeSchemaIsNew
 made_schema_is_new takes gives p t passing others is can adds counts fits =
-    let (schema, ran, columns, are, named, gone, stays) = whole_schema p t is can adds takes gives passing others counts fits in (schema, ran, columns, are)
+    let (schema, ran, columns, are, named) = whole_schema p t is can adds takes gives passing others counts fits in (schema, ran, columns, are)
