@@ -1,5 +1,5 @@
 -- The tables and columns of the new package, once the records of `_Tables` and `_Columns` are applied.
-use Rattle.std.proofs.Common.{◌≡◌, ℕ, zero, suc, inl, inr, ◌⊎◌, ap₂, length-append, ◌+◌, ◌*◌, ◌≤◌, Bool, true, false, cond, not, ◌&&◌, ◌||◌, List, [], ◌∷◌, ◌++◌, length, map, filter, drop, take, refl, sym, ap, subst, ◌∙◌, arith, append-nil, T}
+use Rattle.std.proofs.Common.{◌≡◌, ℕ, zero, suc, inl, inr, ◌⊎◌, ap₂, length-append, ◌+◌, ◌*◌, ◌≤◌, Bool, true, false, cond, not, ◌&&◌, ◌||◌, List, [], ◌∷◌, ◌++◌, length, map, filter, drop, take, refl, sym, ap, subst, ◌∙◌, arith, append-nil, T, ◌<◌}
 use Rattle.std.specs.Prelude.{Option, Some, None, Result, Ok, option_map, unwrap_or, if◌then◌else◌, nat_lt, bytes_eq, ◌==◌}
 use Rattle.std.specs.Cmp.{eq_by_cmp_equiv, tied_itself}
 use Rattle.std.specs.Cmp.Lexicographic.{bytes_decides}
@@ -30,10 +30,11 @@ use Rattle.msi_transform_records.specs.declared.records.Record.{Record}
 use Rattle.msi_transform_records.specs.declared.shape.Shape.{Shape}
 use Rattle.msi_transform.specs.Transforms.{TransformDef, shapes_of}
 use Rattle.msi_transform.specs.declared.conditions.ErrorConditions.{ErrorConditions}
+use Rattle.msi_transform_rows.specs.KeyOfRows.{key_cmp}
 use Rattle.msi_transform_rows.specs.RecordRefusals.{Refusal, in_turn_from, nowhere, ◌>>=◌}
 use Rattle.msi_transform_rows.specs.TableRecords.{number_of}
 use Rattle.msi_transform_schema.specs.SchemaApplying.{complete_refusals, have_own_keys, records_applied, schema_begun, schema_changed, system_rows}
-use Rattle.msi_transform_schema.specs.SchemaChanges.{SchemaChange, SchemaInHand, TableInHand, TablesTold, are_complete, column_record_applied, columns_of_package, is_added, is_complete, is_name_to_list, is_unlisted, table_in_hand, table_record_applied, untold_table}
+use Rattle.msi_transform_schema.specs.SchemaChanges.{SchemaChange, SchemaInHand, TableInHand, TablesTold, are_complete, column_record_applied, column_key, columns_in_hand, columns_of_package, is_added, is_complete, is_name_to_list, is_unlisted, table_in_hand, table_record_applied, untold_table}
 use Rattle.msi_transform_schema.specs.declared.schema.Standing.{Standing}
 use Rattle.msi_transform_schema.specs.declared.schema.Standing.TheVariants as stands
 use Rattle.msi_transform_applying.specs.Applying.{change_with, is_broken}
@@ -54,7 +55,7 @@ use Rattle.msi_transform_laws.proofs.GoodTextsLemmas.{AreGood, HoldsGood}
 use Rattle.msi_transform_laws.proofs.ListedTablesLemmas.{exact_names}
 use Rattle.msi_transform_laws.proofs.MadeRecordsLemmas.{apart_passing}
 use Rattle.msi_transform_laws.proofs.RowsBegunLemmas.{has_key, key_shapes}
-use Rattle.msi_transform_laws.proofs.SchemaAppliedLemmas.{columns_put, listings, name_shapes, row_of}
+use Rattle.msi_transform_laws.proofs.SchemaAppliedLemmas.{DescribesNoMore, IsAbsent, IsExactly, columns_put, listings, name_shapes, row_of}
 use Rattle.msi_transform_laws.proofs.StoredRecordsLemmas.{names_total, other_name}
 use Rattle.msi_transform_laws.proofs.TablesRemovedLemmas.{Went, removals}
 use Rattle.msi_transform_laws.proofs.TableChangedLemmas.{all_there, broken_parts, each_among, whole}
@@ -583,14 +584,44 @@ module _ (p : Pair) (t : TransformDef) (is : made p ≡ Ok t) (can : CanHaveReco
         → AllByRecursion (λ (r : ToldRecord). AreGood good r.values) (flat_map (records_of_columns p.old p.new) (told_names p.new))
         → ((mid : SchemaInHand) → Went old beside gone begun mid → HoldsGood good rest mid.pool.places) → HoldsGood good rest after.pool.places
 
+    -- and where the places count just the cells of the rows that are left then, which list and describe no other tables and columns than
+    -- those that stay, they count just the cells of all rows in the end
+    abbrev pub most_columns : List ℕ → ℕ
+    most_columns table = if has_table table p.new.database then length (columns_in_table p.old table) else 0
+
+    abbrev pub DescribesOnly : SchemaInHand → Type 0
+    DescribesOnly mid = (table : List ℕ) (number : ℕ) → most_columns table < number → find key_cmp (column_key table number) mid.described ≡ None
+
+    abbrev pub IsLeftExactly : Type 0
+    IsLeftExactly = (mid : SchemaInHand) → Went old beside gone begun mid → AllByRecursion (IsAbsent mid.listed) come × DescribesOnly mid × IsExactly beside mid
+
+    hand_long : (table : List ℕ) (c : Bool) → has_table table old ≡ c → length (columns_in_table p.old table) ≤ length (columns_of_package old table (if c then stands.Kept else stands.Added) ++ [])
+    hand_long table true there = let same = ap (λ (l : List ColumnDef). length l) (append-nil (columns_in_table p.old table)) in omega (arith, same)
+    hand_long table false there =
+        let none = ap (λ (o : Option TableCells). length (unwrap_or (option_map (λ (t : TableCells). t.columns) o) [])) (none_there (table_at table old) there) in omega (arith, none)
+
+    most_in_hand : (table : List ℕ) (b : Bool) → has_table table p.new.database ≡ b → (if b then length (columns_in_table p.old table) else 0) ≤ length (columns_in_hand old table (table_in_hand old with_come table))
+    most_in_hand table true there =
+        let hand = in_hand_then old without_gone table names (not_gone_yet table there) (sym (is_some-find list_cmp table p.new.database.tables) ∙ there) in
+        let long = ap (λ (u : TableInHand). length (columns_in_hand old table u)) hand in
+        omega (arith, long, hand_long table (has_table table old) refl)
+    most_in_hand table false there = omega arith
+
+    no_more_described : (mid u : SchemaInHand) → DescribesOnly mid → u.described ≡ mid.described → u.tables ≡ with_come → DescribesNoMore old u
+    no_more_described mid u only same tables table number less =
+        let less_now : length (columns_in_hand old table (table_in_hand old with_come table)) < number =
+        subst (λ (l : TablesTold). length (columns_in_hand old table (table_in_hand old l table)) < number) tables less in
+        ap (find key_cmp (column_key table number)) same ∙ only table number (omega (arith, less_now, most_in_hand table (has_table table p.new.database) refl))
+
     first_list : (s : SchemaInHand) × (records_applied t tables_name tables_columns (table_record_applied change) begun ≡ Ok s) × SchemaAfter beside with_come (length come) begun s × StaysGood s
+        × (IsLeftExactly → DescribesNoMore old s × IsExactly beside s)
     first_list =
         let (stored, says, applies) = by_stored t (list_of_tables p) tables_columns refl (read_tables p t is can).0 (absent_tables p t is can) (table_record_applied change) begun in
         let number = number_of t tables_name in
         let (qs, rs, whole_stored, says_gone, says_come) = split_says t (map (listing_record Remove) gone) (map (listing_record (Add 1)) come) stored says in
         let (s, ran, are, went) = removals takes gives change beside number 0 gone begun qs says_gone
         (can_go old goes [] old_names adds.apart (may_go old_names (none_passes (is_odd_table p.old) (told_names p.old) (both_fit p t is).0) (each_among old_names)) (none_absent old old_names)) counts in
-        let (u, ran_too, are_too, stays) = listings takes gives change beside number (0 + length qs) come s rs says_come
+        let (u, ran_too, are_too, stays, exact) = listings takes gives change beside number (0 + length qs) come s rs says_come
         (subst (λ (l : TablesTold). CanAddTables old l come) (sym are.tables) (can_come old without_gone names can.apart (may_come names odd adds.unlisted) (all_absent names (new_there names (each_among names)))))
         are.counted (omega (arith, fits, are.longer)) in (
           u,
@@ -602,18 +633,23 @@ module _ (p : Pair) (t : TransformDef) (is : made p ≡ Ok t) (can : CanHaveReco
             longer = omega (arith, are.longer, are_too.longer);
           },
           (λ good rest names_good records_good holds. stays good rest names_good (holds s went)),
+          (λ left.
+              let (absent, only, exactly) = left s went in
+              let (exactly_too, same) = exact absent (apart_passing (is_new old) names can.apart) exactly in
+              (no_more_described s u only same (are_too.tables ∙ ap (λ (l : TablesTold). with_tables_added l come) are.tables), exactly_too)),
         )
 
     second_list : (s : SchemaInHand) → s.tables ≡ with_come → CountsSchema beside s → length s.pool.places + texts_of_columns adding_all ≤ 16777215
         → (u : SchemaInHand) × (records_applied t columns_name columns_columns (column_record_applied change) s ≡ Ok u) × SchemaAfter beside (with_columns_added old s.tables adding_all) (texts_of_columns adding_all) s u
         × ((good : List ℕ → Bool) (rest : Uses) → AllByRecursion (λ (r : ToldRecord). AreGood good r.values) (flat_map (records_of_columns p.old p.new) (told_names p.new)) → HoldsGood good rest s.pool.places
         → HoldsGood good rest u.pool.places)
+        × (DescribesNoMore old s → IsExactly beside s → IsExactly beside u)
     second_list s tables now room =
         let (stored, says, applies) = by_stored t (list_of_columns p) columns_columns refl (read_tables p t is can).1 (absent_columns p t is can) (column_record_applied change) s in
-        let (u, ran, are, stays) = columns_put takes gives change beside (number_of t columns_name) 0 adding_all s stored (says ∙ same_in_all p (told_names p.new) gets_columns)
+        let (u, ran, are, stays, exact) = columns_put takes gives change beside (number_of t columns_name) 0 adding_all s stored (says ∙ same_in_all p (told_names p.new) gets_columns)
         (subst (λ (l : TablesTold). CanAddColumns old l adding_all) (sym tables) columns_all.0) now room in
         (u, applies u ran, are, (λ good rest records_good holds.
-            stays good rest (good_columns good (flat_map (records_of_columns p.old p.new) (told_names p.new)) adding_all (same_in_all p (told_names p.new) gets_columns) records_good) holds))
+            stays good rest (good_columns good (flat_map (records_of_columns p.old p.new) (told_names p.new)) adding_all (same_in_all p (told_names p.new) gets_columns) records_good) holds), exact)
 
     -- a table that goes is gone in the end
     one_gone : (m : List ℕ) → goes m ≡ true → list_any (eq_by_cmp list_cmp m) gone ≡ true → IsGone p final m
@@ -630,11 +666,11 @@ module _ (p : Pair) (t : TransformDef) (is : made p ≡ Ok t) (can : CanHaveReco
 
     pub whole_schema_good : (schema : SchemaInHand) × (schema_changed change ≡ Ok schema)
         × AllByRecursion (λ name. HasNewColumns p.old p.new name (table_in_hand old schema.tables name)) (told_names p.new)
-        × SchemaAfter beside schema.tables (texts_of_schema p) begun schema × AreNamed p schema.tables schema.tables × AllByRecursion (IsGone p schema.tables) gone × StaysGood schema
+        × SchemaAfter beside schema.tables (texts_of_schema p) begun schema × AreNamed p schema.tables schema.tables × AllByRecursion (IsGone p schema.tables) gone × StaysGood schema × (IsLeftExactly → IsExactly beside schema)
     whole_schema_good =
         let few = few_in_all p (told_names p.new) gets_columns in
-        let (s, ran, are, stays) = first_list in
-        let (u, ran_too, are_too, stays_too) = second_list s are.tables are.counted (omega (arith, fits, few, are.longer)) in
+        let (s, ran, are, stays, exact) = first_list in
+        let (u, ran_too, are_too, stays_too, exact_too) = second_list s are.tables are.counted (omega (arith, fits, few, are.longer)) in
         let tables : u.tables ≡ final = are_too.tables ∙ ap (λ (l : TablesTold). with_columns_added old l adding_all) are.tables in
         let gone_then = all_gone gone (each_passing goes old_names) (each_among gone) in
         let named = named_columns p final with_come adding_all (named_all p (told_names p.new) gets_columns told_named)
@@ -657,17 +693,18 @@ module _ (p : Pair) (t : TransformDef) (is : made p ≡ Ok t) (can : CanHaveReco
           subst (λ (l : TablesTold). AreNamed p l l) (sym tables) named,
           subst (λ (l : TablesTold). AllByRecursion (IsGone p l) gone) (sym tables) gone_then,
           (λ good rest names_good records_good holds. stays_too good rest records_good (stays good rest names_good records_good holds)),
+          (λ left. let (no_more, exactly) = exact left in exact_too no_more exactly),
         )
 
     pub whole_schema_gone : (schema : SchemaInHand) × (schema_changed change ≡ Ok schema)
         × AllByRecursion (λ name. HasNewColumns p.old p.new name (table_in_hand old schema.tables name)) (told_names p.new)
         × SchemaAfter beside schema.tables (texts_of_schema p) begun schema × AreNamed p schema.tables schema.tables × AllByRecursion (IsGone p schema.tables) gone
-    whole_schema_gone = let (schema, ran, columns, are, named, none, stays) = whole_schema_good in (schema, ran, columns, are, named, none)
+    whole_schema_gone = let (schema, ran, columns, are, named, none, stays, exact) = whole_schema_good in (schema, ran, columns, are, named, none)
 
     pub whole_schema : (schema : SchemaInHand) × (schema_changed change ≡ Ok schema)
         × AllByRecursion (λ name. HasNewColumns p.old p.new name (table_in_hand old schema.tables name)) (told_names p.new)
         × SchemaAfter beside schema.tables (texts_of_schema p) begun schema × AreNamed p schema.tables schema.tables
-    whole_schema = let (schema, ran, columns, are, named, none, stays) = whole_schema_good in (schema, ran, columns, are, named)
+    whole_schema = let (schema, ran, columns, are, named, none, stays, exact) = whole_schema_good in (schema, ran, columns, are, named)
 
 pub made_schema_is_new : TakenPlacesHoldTheirText → GivenBackTakesOne → MadeSchemaIsNew
 made_schema_is_new takes gives p t passing others is can adds counts fits =

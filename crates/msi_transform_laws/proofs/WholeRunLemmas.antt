@@ -116,7 +116,7 @@ module _ (takes : TakenPlacesHoldTheirText) (gives : GivenBackTakesOne) (p : Pai
       let can = can_have p t passing is exact order ready in
       let adds = can_change p t passing is exact order ready in
       let others : Uses = λ n. cells n + beside p t is exact order n in
-      let (schema, schema_ran, columns, are, named, gone, stays) = whole_schema_good p t is can adds takes gives passing others (counts_begun p t is exact order) (omega (arith, ready.room)) in
+      let (schema, schema_ran, columns, are, named, gone, stays, exactly) = whole_schema_good p t is can adds takes gives passing others (counts_begun p t is exact order) (omega (arith, ready.room)) in
       let enough : (n : ℕ) → cells n + beside p t is exact order n ≤ room schema.pool.places n = λ n. omega (arith, enough_of others schema are.counted n) in
       let fits : length schema.pool.places + texts_to_come p t.tables ≤ 16777215 = omega (arith, ready.room, are.longer) in
       let streams = streams_held p t passing is exact order ready in
