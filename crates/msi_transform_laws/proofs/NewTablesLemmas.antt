@@ -80,7 +80,7 @@ module _ (p : Pair) (t : TransformDef) (passing : ErrorConditions) (name : List 
   gains : shapes_of (columns_in_table p.old name ++ table.added) ≡ shapes_of (columns_in_table p.new name) → nat_lt 0 (length table.added) ≡ true → 0 < length (columns_in_table p.new name) - length (columns_in_table p.old name)
   gains same longer = omega (arith, more_columns same, ltb-true 0 (length table.added) longer)
 
-  no_new_rows : (b : Bool) → has_table name d ≡ b → (standing : Standing) → StandsAs b standing → shapes_of (columns_of_package d name standing ++ table.added) ≡ shapes_of (columns_in_table p.new name)
+  pub no_new_rows : (b : Bool) → has_table name d ≡ b → (standing : Standing) → StandsAs b standing → shapes_of (columns_of_package d name standing ++ table.added) ≡ shapes_of (columns_in_table p.new name)
       → (is_added standing || (not (is_gone standing) && nat_lt 0 (length table.added))) ≡ true → told_rows p.new name 0 ≡ []
   no_new_rows true there stands.Kept stood same longer = (stays none).1 (gains same longer)
   no_new_rows true there (stands.Found next) stood same longer = (stays none).1 (gains same longer)
@@ -97,7 +97,7 @@ module _ (p : Pair) (t : TransformDef) (passing : ErrorConditions) (name : List 
       let told = told_row p.old name (columns_in_table p.old name) (length (columns_in_table p.new name) - columns_before d name) in
       none_mapped (row_values d.pool.places) (system_rows d name) (none_mapped told (values_in_table p.old name) (none_by_keys (map told (values_in_table p.old name)) before))
 
-  no_rows_begun : told_rows p.new name 0 ≡ [] → (b : Bool) → has_table name d ≡ b → (standing : Standing) → StandsAs b standing → rows_of_package d name standing ≡ []
+  pub no_rows_begun : told_rows p.new name 0 ≡ [] → (b : Bool) → has_table name d ≡ b → (standing : Standing) → StandsAs b standing → rows_of_package d name standing ≡ []
   no_rows_begun nothing true there stands.Kept stood = no_old_rows nothing there
   no_rows_begun nothing true there (stands.Found next) stood = no_old_rows nothing there
   no_rows_begun nothing true there stands.Added stood = absurd stood

@@ -535,7 +535,7 @@ module _ (p : Pair) (t : TransformDef) (is : made p ≡ Ok t) (can : CanHaveReco
   begins [] h = tt
   begins (n ∷ ns) h = (in_hand_then old without_gone n names (not_gone_yet n (is_some-find list_cmp n p.new.database.tables ∙ h.0)) h.0, begins ns h.1)
 
-  system_new : (name : List ℕ) → is_schema_table name ≡ true → has_table name p.new.database ≡ true
+  pub system_new : (name : List ℕ) → is_schema_table name ≡ true → has_table name p.new.database ≡ true
   system_new name h = elim (or_cases (bytes_eq name tables_name) (bytes_eq name columns_name) h) [
     | inl b ↦ ap (λ (n : List ℕ). has_table n p.new.database) ((bytes_decides name tables_name).0 b) ∙ adds.lists_too
     | inr b ↦ ap (λ (n : List ℕ). has_table n p.new.database) ((bytes_decides name columns_name).0 b) ∙ adds.describes_too

@@ -189,7 +189,7 @@ module _ (takes : TakenPlacesHoldTheirText) (gives : GivenBackTakesOne) (d : Dat
 -- A RECORD THAT REMOVES A TABLE
 
 module _ (change : SchemaChange) (r : Record) (name : List ℕ) (says : as_values change.by r ≡ (Remove, Str name ∷ [])) where
-  key_is : record_key change.by name_shapes r ≡ Str name ∷ []
+  pub key_is : record_key change.by name_shapes r ≡ Str name ∷ []
   key_is = key_seen change.by (zip (told name_shapes r.action) r.cells)
       ∙ ap (λ (l : List ((ℕ × Shape) × Value)). map (λ e. e.1) (filter is_of_key l)) (seen_beside change.by (told name_shapes r.action) r.cells)
       ∙ ap (λ (q : Action × List Value). map (λ e. e.1) (filter is_of_key (zip (told name_shapes q.0) q.1))) says
