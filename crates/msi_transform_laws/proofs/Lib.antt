@@ -5,7 +5,9 @@ pub mod BroughtStreamsLemmas
 pub mod CarriedOutLemmas
 pub mod ChangedCellsLemmas
 pub mod ChangedRowsLemmas
+pub mod CountsLeftLemmas
 pub mod DescribedPackagesLemmas
+pub mod ExactListsLemmas
 pub mod ExactPackagesLemmas
 pub mod FitPackagesLemmas
 pub mod FitStreamsLemmas

@@ -49,26 +49,23 @@ among_own keys name (m ∷ ms) q among own = by_test (list_any (λ k. same_key k
     (λ e. yes_is_no (list_any (λ k. same_key k q) (keys m)) (ap (λ (x : List ℕ). list_any (λ k. same_key k q) (keys x)) (sym (exact_names name m e)) ∙ own) t)
     (λ e. among_own keys name ms q (rw e at among) own)))
 
-module _ (P : RowInHand → Type 0) where
-  abbrev Holds : List Value × RowInHand → Type 0
-  Holds e = P e.1
-
+module _ (P : List Value × RowInHand → Type 0) where
   left_of_keys : (rest : List Value → Bool) (keys : List (List Value)) (rows : Rows)
-      → AllByRecursion (λ (e : List Value × RowInHand). (list_any (λ k. same_key k e.0) keys || rest e.0) ≡ false → P e.1) rows
-      → AllByRecursion (λ (e : List Value × RowInHand). rest e.0 ≡ false → P e.1) (without_keys rows keys)
+      → AllByRecursion (λ (e : List Value × RowInHand). (list_any (λ k. same_key k e.0) keys || rest e.0) ≡ false → P e) rows
+      → AllByRecursion (λ (e : List Value × RowInHand). rest e.0 ≡ false → P e) (without_keys rows keys)
   left_of_keys rest [] rows h = h
   left_of_keys rest (k ∷ ks) rows h = left_of_keys rest ks (without_row_at k rows) (left_one rows h)
     where
-      left_one : (es : Rows) → AllByRecursion (λ (e : List Value × RowInHand). (list_any (λ k. same_key k e.0) (k ∷ ks) || rest e.0) ≡ false → P e.1) es
-          → AllByRecursion (λ (e : List Value × RowInHand). (list_any (λ k. same_key k e.0) ks || rest e.0) ≡ false → P e.1) (without_row_at k es)
+      left_one : (es : Rows) → AllByRecursion (λ (e : List Value × RowInHand). (list_any (λ k. same_key k e.0) (k ∷ ks) || rest e.0) ≡ false → P e) es
+          → AllByRecursion (λ (e : List Value × RowInHand). (list_any (λ k. same_key k e.0) ks || rest e.0) ≡ false → P e) (without_row_at k es)
       left_one [] h = tt
       left_one (e ∷ es) h = by_test (eq_by_cmp key_cmp k e.0)
           (λ t. rw t (left_one es h.1))
           (λ t. rw t ((λ none. h.0 (rw t none)), left_one es h.1))
 
   pub left_of_names : (keys : List ℕ → List (List Value)) (names : List (List ℕ)) (rows : Rows)
-      → AllByRecursion (λ (e : List Value × RowInHand). among_keys keys names e.0 ≡ false → P e.1) rows → AllByRecursion Holds (without_all keys names rows)
-  left_of_names keys [] rows h = all_weaker (λ (e : List Value × RowInHand). false ≡ false → P e.1) Holds rows (λ e f. f refl) h
+      → AllByRecursion (λ (e : List Value × RowInHand). among_keys keys names e.0 ≡ false → P e) rows → AllByRecursion P (without_all keys names rows)
+  left_of_names keys [] rows h = all_weaker (λ (e : List Value × RowInHand). false ≡ false → P e) P rows (λ e f. f refl) h
   left_of_names keys (name ∷ names) rows h = left_of_names keys names (without_keys rows (keys name)) (left_of_keys (among_keys keys names) (keys name) rows h)
 
 -- rows in the order of their keys

@@ -99,7 +99,7 @@ module _ (p : Pair) (t : TransformDef) (is : made p ≡ Ok t) (exact : IsExact p
   pub all_parts : (n : ℕ) → room p.old.database.pool.places n ≡ uses_of p.old.database n tables_name + (uses_of p.old.database n columns_name + (cells_gone p n + (cells_to_change p.old.database t.tables n + beside n)))
   all_parts n = exact_parts p.old exact p.new.database order.has_tables order.has_columns t.tables (transform_sorted p t is) (new_in_transform p t is) n
 
-  uses_begun : (n : ℕ) → uses_in_schema (schema_begun p.old.database) n ≡ uses_of p.old.database n tables_name + uses_of p.old.database n columns_name
+  pub uses_begun : (n : ℕ) → uses_in_schema (schema_begun p.old.database) n ≡ uses_of p.old.database n tables_name + uses_of p.old.database n columns_name
   uses_begun n = omega (
     arith,
     uses_in_list tables_columns p.old.database.pool.places (system_rows p.old.database tables_name) n exact.order.own_tables,
@@ -310,7 +310,7 @@ module _ (p : Pair) (t : TransformDef) (is : made p ≡ Ok t) (can : CanHaveReco
         → rows_uses (cells_of (without_all keys gone (by_key (in_list columns places rows)))) n ≡ 0
     left_in_list keys columns rows h =
         none_of_rows good places n bad (without_all keys gone (by_key (in_list columns places rows)))
-        (left_of_names (λ (row : RowInHand). Good row.cells) keys gone (by_key (in_list columns places rows))
+        (left_of_names (λ (e : List Value × RowInHand). Good e.1.cells) keys gone (by_key (in_list columns places rows))
         (all_by_key (λ (e : List Value × RowInHand). among_keys keys gone e.0 ≡ false → Good e.1.cells) (in_list columns places rows) (in_turn rows h)))
       where
         in_turn : (rows : List (List ValueRef)) → AllByRecursion (IsLeft keys columns) rows → AllByRecursion (λ (e : List Value × RowInHand). among_keys keys gone e.0 ≡ false → Good e.1.cells) (in_list columns places rows)

@@ -167,11 +167,11 @@ same_first t r rs q qs h = (cc, cc)
 abbrev pub IsAbsent : Rows → List ℕ → Type 0
 IsAbsent rows name = find key_cmp (Str name ∷ []) rows ≡ None
 
-abbrev text_in_key : List Value → List ℕ
+abbrev pub text_in_key : List Value → List ℕ
 text_in_key (Str text ∷ vs) = text
 text_in_key _ = []
 
-abbrev number_in_key : List Value → ℕ
+abbrev pub number_in_key : List Value → ℕ
 number_in_key (v ∷ Int (pos n) ∷ vs) = n
 number_in_key _ = 0
 
@@ -342,8 +342,8 @@ module _ (d : Database) (c : ColumnToAdd) (s : SchemaInHand) (r : List ValueRef 
 
   one_more : length (columns_in_hand d c.table with_it) ≡ many + 1
   one_more =
-      let package = columns_of_package d c.table hand.standing in
-      omega (arith, length-append package (hand.added ++ c.column ∷ []), length-append hand.added (c.column ∷ []), length-append package hand.added)
+      let old_columns = columns_of_package d c.table hand.standing in
+      omega (arith, length-append old_columns (hand.added ++ c.column ∷ []), length-append hand.added (c.column ∷ []), length-append old_columns hand.added)
 
   hand_put : (table : List ℕ) (b : Bool) → eq_by_cmp list_cmp table c.table ≡ b → table_in_hand d (put list_cmp c.table with_it s.tables) table ≡ cond b with_it (table_in_hand d s.tables table)
   hand_put table b t =

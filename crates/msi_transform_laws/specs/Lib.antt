@@ -1,6 +1,7 @@
 -- The words of this crate.
 pub mod CanFollow
 pub mod CarriedOut
+pub mod CountsLeft
 pub mod DescribedPackages
 pub mod ExactPackages
 pub mod MadeApplied

@@ -5,6 +5,7 @@
 
 pub mod can_follow;
 pub mod carried_out;
+pub mod counts_left;
 pub mod described_packages;
 pub mod made_applied;
 pub mod new_tables;
