@@ -91,7 +91,7 @@ module _ (p : Pair) (t : TransformDef) (passing : ErrorConditions) (name : List 
   no_new_rows false there (stands.Found next) stood same longer = absurd stood
   no_new_rows false there stands.Gone stood same longer = absurd stood
 
-  no_old_rows : told_rows p.new name 0 ≡ [] → has_table name d ≡ true → system_rows d name ≡ []
+  pub no_old_rows : told_rows p.new name 0 ≡ [] → has_table name d ≡ true → system_rows d name ≡ []
   no_old_rows nothing there =
       let before : told_rows p.old name (length (columns_in_table p.new name) - columns_before d name) ≡ [] = (rw there at ((stays none).0)) ∙ nothing in
       let told = told_row p.old name (columns_in_table p.old name) (length (columns_in_table p.new name) - columns_before d name) in

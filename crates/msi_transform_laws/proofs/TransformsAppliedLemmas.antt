@@ -26,7 +26,7 @@ use Rattle.msi_transform_laws.specs.TransformsApplied.{MadeTransformsGiveNewPack
 use Rattle.msi_transform_laws.proofs.MadeAppliedLemmas.{unrefused}
 use Rattle.msi_transform_laws.proofs.OldTextsLemmas.{all_parts, beside, counts_begun}
 use Rattle.msi_transform_laws.proofs.PackagesInOrderLemmas.{can_change, can_have, same_columns, streams_held}
-use Rattle.msi_transform_laws.proofs.StreamsAgreeLemmas.{made_streams_agree, same_columns_streams_agree}
+use Rattle.msi_transform_laws.proofs.MadeStreamsLemmas.{made_streams_agree, same_columns_streams_agree}
 use Rattle.msi_transform_laws.proofs.WholeRunLemmas.{all_texts_read, whole_run}
 
 -- THE STREAMS
@@ -70,7 +70,7 @@ module _ (takes : TakenPlacesHoldTheirText) (gives : GivenBackTakesOne) (p : Pai
 
 pub made_transforms_give_new_package : TakenPlacesHoldTheirText → GivenBackTakesOne → MadeTransformsGiveNewPackage
 made_transforms_give_new_package takes gives p t passing is exact order ready =
-    let (told, after, ran, new, ends) = whole_run takes gives p t passing is exact order ready in
+    let (told, after, ran, new, ends, counts) = whole_run takes gives p t passing is exact order ready in
     let pool = pool_left p.old.database.pool t after.pool in
     let agreed : streams_agree p.old t told after pool.long ≡ true = agree takes gives p t passing is exact order ready (changed_with told after) pool.long ran in
     let read : texts_read_back pool ≡ true = all_texts_read p t passing is ready after ends in (

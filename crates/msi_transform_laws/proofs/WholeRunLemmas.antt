@@ -1,6 +1,12 @@
 -- The records of a transform that is made, all applied to the old package: what is in hand then.
+use Rattle.msi_transform_laws.proofs.ExactListsLemmas.{left_exactly}
+use Rattle.msi_transform_laws.specs.TablesRemoved.{cells_removed}
+use Rattle.msi_transform_laws.specs.SchemaMade.{cells_gone}
+use Rattle.msi_transform_rows.specs.RowChanges.{cells_of}
+use Rattle.std.specs.Cmp.Lexicographic.{bytes_decides}
+use Rattle.std.specs.Ordering.{eq_by_cmp}
 use Rattle.std.proofs.Common.{◌≡◌, inl, inr, ℕ, zero, suc, ◌+◌, ◌-◌, ◌<◌, ◌≤◌, Bool, true, false, not, ◌&&◌, ◌||◌, List, [], ◌∷◌, length, map, refl, sym, ap, subst, ◌∙◌, arith}
-use Rattle.std.specs.Prelude.{Option, Some, None, Result, Ok, is_some, if◌then◌else◌, nat_lt, count_by, ◌==◌, slice_get, unwrap_or}
+use Rattle.std.specs.Prelude.{Option, Some, None, Result, Ok, is_some, if◌then◌else◌, nat_lt, count_by, ◌==◌, slice_get, unwrap_or, bytes_eq}
 use Rattle.std.specs.FinMap.{find}
 use Rattle.std.specs.FinMap.Entries.{is_some-find}
 use Rattle.std.specs.List.{AllByRecursion, list_all, list_any}
@@ -17,7 +23,7 @@ use Rattle.msi_pool.specs.FirstFit.{count_of}
 use Rattle.msi_pool.specs.FirstFitLaws.{text_at, TakenPlacesHoldTheirText, GivenBackTakesOne}
 use Rattle.msi_table.specs.Census.{numbers_of_rows}
 use Rattle.msi_table_cells.specs.declared.cell.ValueRef.{ValueRef}
-use Rattle.msi_database_schema.specs.System.{is_schema_table}
+use Rattle.msi_database_schema.specs.System.{is_schema_table, columns_name, tables_name}
 use Rattle.msi_database_schema.proofs.AccountLemmas.{Uses, room}
 use Rattle.msi_database_changes.specs.Database.{Database, has_table}
 use Rattle.msi_database_changes.proofs.text_counts.RowsLemmas.{rows_uses}
@@ -28,26 +34,26 @@ use Rattle.msi_transform_rows.specs.TableRecords.{changes_schema}
 use Rattle.msi_transform_schema.specs.SchemaApplying.{schema_applied, schema_begun, schema_changed, schema_untouched, system_rows}
 use Rattle.msi_transform_schema.specs.SchemaChanges.{SchemaChange, SchemaInHand, TableInHand, TablesTold, is_gone, table_in_hand, untold_table}
 use Rattle.msi_transform_schema.specs.declared.schema.Standing.TheVariants as stands
-use Rattle.msi_transform_applying.specs.Applying.{TablesChanged, TablesInHand, change_with, changed_with, is_anew, page_after, reads_back, rows_changed, tables_begun, tables_changed}
+use Rattle.msi_transform_applying.specs.Applying.{TablesChanged, TablesInHand, change_with, changed_with, is_anew, page_after, reads_back, rows_changed, tables_begun, tables_changed, systems_anew, tables_left}
 use Rattle.msi_transform_making.specs.Making.{Pair, columns_in_table, is_lacking, made, names_beside, reasons, told_names, told_tables}
 use Rattle.msi_transform_laws.specs.ExactPackages.{IsExact, IsInOrder}
 use Rattle.msi_transform_laws.specs.RowsBegun.{HasNewColumns}
-use Rattle.msi_transform_laws.specs.TablesChanged.{cells_to_change, texts_to_come}
+use Rattle.msi_transform_laws.specs.TablesChanged.{cells_to_change, texts_to_come, cells_anew}
 use Rattle.msi_transform_laws.specs.TextsLeft.{CanTakeTransform}
 use Rattle.msi_transform_laws.specs.TransformsApplied.{HasNewTables, StaysNew}
 use Rattle.msi_transform_laws.proofs.AppliedRecordsLemmas.{naming_cells}
-use Rattle.msi_transform_laws.proofs.ExactPackagesLemmas.{no_rows_there, unchanged, uses_of}
+use Rattle.msi_transform_laws.proofs.ExactPackagesLemmas.{no_rows_there, unchanged, uses_of, names_turn, tables_sorted}
 use Rattle.msi_transform_laws.proofs.FitPackagesLemmas.{no_lack}
 use Rattle.msi_transform_laws.proofs.MadeAppliedLemmas.{all_read}
 use Rattle.msi_transform_laws.proofs.MadeRecordsLemmas.{made_by}
-use Rattle.msi_transform_laws.proofs.NamedSumsLemmas.{sum_found}
+use Rattle.msi_transform_laws.proofs.NamedSumsLemmas.{sum_found, named_sum, only_at, sum_at, sum_both, sum_same}
 use Rattle.msi_transform_laws.proofs.OldTextsLemmas.{all_parts, beside, columns_good, come_good, counts_begun, held_at_first, held_then, new_in_transform, new_told, transform_sorted}
 use Rattle.msi_transform_laws.proofs.PackagesInOrderLemmas.{can_change, can_have, none_gone, same_columns, streams_held}
-use Rattle.msi_transform_laws.proofs.RowsLeftLemmas.{end, end_anew, end_good, rows_ran, stays_new, without_record}
+use Rattle.msi_transform_laws.proofs.RowsLeftLemmas.{end, end_anew, end_good, rows_ran, stays_new, without_record, counts_end}
 use Rattle.msi_transform_laws.proofs.SameColumnsLemmas.{kept_by, page_is, page_unrefused}
-use Rattle.msi_transform_laws.proofs.SchemaAppliedLemmas.{enough_of}
+use Rattle.msi_transform_laws.proofs.SchemaAppliedLemmas.{enough_of, uses_in_schema}
 use Rattle.msi_transform_laws.proofs.SchemaListsLemmas.{each_passing}
-use Rattle.msi_transform_laws.proofs.SchemaMadeLemmas.{AreNamed, IsGone, IsNamed, whole_schema_good}
+use Rattle.msi_transform_laws.proofs.SchemaMadeLemmas.{AreNamed, IsGone, IsNamed, whole_schema_good, at_name, passes_among}
 use Rattle.msi_transform_laws.proofs.TableChangedLemmas.{all_there, each_among}
 
 not_true : (b : Bool) → not b ≡ true → b ≡ false
@@ -80,6 +86,7 @@ module _ (takes : TakenPlacesHoldTheirText) (gives : GivenBackTakesOne) (p : Pai
 
   abbrev pub Ran : Type 0
   Ran = (told : TablesTold) × (after : TablesInHand) × (tables_changed change p.old_page ≡ Ok (changed_with told after)) × HasNewTables p t passing told after × EndsGood p after
+      × ((n : ℕ) → room after.pool.places n ≡ cells_anew (tables_left d told after) n)
 
   -- the cells of a table that stays are among those that aren't changed
   among_beside : (name : List ℕ) → is_schema_table name ≡ false → has_table name p.new.database ≡ true → is_some (find list_cmp name t.tables) ≡ false → has_table name d ≡ true
@@ -108,6 +115,64 @@ module _ (takes : TakenPlacesHoldTheirText) (gives : GivenBackTakesOne) (p : Pai
   are_gone : (tables : TablesTold) (names : List (List ℕ)) → AllByRecursion (IsGone p tables) names → AllByRecursion (λ name. is_gone (table_in_hand d tables name).standing ≡ true) names
   are_gone tables [] h = tt
   are_gone tables (n ∷ ns) h = (ap (λ (o : Option TableInHand). is_gone (unwrap_or o (untold_table d n)).standing) h.0, are_gone tables ns h.1)
+
+  -- THE CELLS THAT ARE LEFT
+
+  among_gone : (m : List ℕ) → has_table m d ≡ true → has_table m p.new.database ≡ false → list_any (eq_by_cmp list_cmp m) (names_beside p.old.database p.new.database) ≡ true
+  among_gone m there goes = passes_among (λ name. not (has_table name p.new.database)) m (map (λ t. t.0) d.tables) (sym (is_some-find list_cmp m d.tables) ∙ there) (ap not goes)
+
+  gone_at : (tables : TablesTold) → AllByRecursion (IsGone p tables) (names_beside p.old.database p.new.database) → (m : List ℕ) → has_table m p.new.database ≡ false → has_table m d ≡ true
+      → is_gone (table_in_hand d tables m).standing ≡ true
+  gone_at tables gone m new there = ap (λ (o : Option TableInHand). is_gone (unwrap_or o (untold_table d m)).standing) (at_name (IsGone p tables) m (names_beside p.old.database p.new.database) gone (among_gone m there new))
+
+  abbrev rest : ℕ → List ℕ → ℕ
+  rest n m = if is_schema_table m then (if changes_schema t then 0 else uses_of d n m) else if not (has_table m p.new.database) then 0 else if is_some (find list_cmp m t.tables) then 0 else uses_of d n m
+
+  abbrev unchanged_at : ℕ → List ℕ → ℕ
+  unchanged_at n = unchanged p.old exact p.new.database order.has_tables order.has_columns t.tables (transform_sorted p t is) (new_in_transform p t is) n
+
+  changed_total : (schema : SchemaInHand) → changes_schema t ≡ true → (n : ℕ) → uses_in_schema schema n + (cells n + beside p t is exact order n) ≡ room schema.pool.places n
+      → room schema.pool.places n ≡ cells n + (cells_anew (systems_anew t schema) n + named_sum (rest n) d.tables)
+  changed_total schema changes n exactly =
+      let systems : cells_anew (systems_anew t schema) n ≡ uses_in_schema schema n = rw changes (omega (arith, naming_cells (cells_of schema.listed) n, naming_cells (cells_of schema.described) n)) in
+      omega (arith, exactly, systems, sum_same (rest n) (unchanged_at n) (λ m. rw changes refl) d.tables)
+
+  -- where the schema is untouched, `_Tables` and `_Columns` stay too
+  abbrev with_lists : ℕ → List ℕ → ℕ
+  with_lists n m = unchanged_at n m + (only_at tables_name (uses_of d n) m + only_at columns_name (uses_of d n) m)
+
+  list_parts : changes_schema t ≡ false → (n : ℕ) (m : List ℕ) → rest n m ≡ with_lists n m
+  list_parts untouched n m = by_test (bytes_eq m tables_name)
+      (λ a. subst (λ (x : List ℕ). rest n x ≡ with_lists n x) (sym ((bytes_decides m tables_name).0 a)) (rw untouched (omega arith)))
+      (λ a. by_test (bytes_eq m columns_name)
+      (λ b. subst (λ (x : List ℕ). rest n x ≡ with_lists n x) (sym ((bytes_decides m columns_name).0 b)) (rw untouched (omega arith)))
+      (λ b.
+      let first : eq_by_cmp list_cmp tables_name m ≡ false = names_turn m tables_name ∙ a in
+      let second : eq_by_cmp list_cmp columns_name m ≡ false = names_turn m columns_name ∙ b in
+      let plain : is_schema_table m ≡ false = (λ i. a i || b i) in
+      rw (first, second, plain) (omega arith)))
+
+  untouched_total : changes_schema t ≡ false → names_beside p.old.database p.new.database ≡ [] → (n : ℕ)
+      → room d.pool.places n ≡ cells n + (cells_anew (systems_anew t (schema_untouched d)) n + named_sum (rest n) d.tables)
+  untouched_total untouched none n =
+      let systems : cells_anew (systems_anew t (schema_untouched d)) n ≡ 0 = rw untouched refl in
+      let nothing : cells_gone p n ≡ 0 = ap (λ (names : List (List ℕ)). cells_removed d names n) none in
+      let tables_in = tables_sorted p.old exact.order in
+      let lists : (if is_some (find list_cmp tables_name d.tables) then uses_of d n tables_name else 0) ≡ uses_of d n tables_name = rw exact.order.has_tables refl in
+      let describes : (if is_some (find list_cmp columns_name d.tables) then uses_of d n columns_name else 0) ≡ uses_of d n columns_name = rw exact.order.has_columns refl in
+      omega (
+        arith,
+        systems,
+        nothing,
+        lists,
+        describes,
+        all_parts p t is exact order n,
+        sum_same (rest n) (with_lists n) (list_parts untouched n) d.tables,
+        sum_both (unchanged_at n) (λ m. only_at tables_name (uses_of d n) m + only_at columns_name (uses_of d n) m) d.tables,
+        sum_both (only_at tables_name (uses_of d n)) (only_at columns_name (uses_of d n)) d.tables,
+        sum_at tables_name (uses_of d n) d.tables tables_in,
+        sum_at columns_name (uses_of d n) d.tables tables_in,
+      )
 
   -- WHERE TABLES GO, COME OR GET COLUMNS
 
@@ -139,6 +204,9 @@ module _ (takes : TakenPlacesHoldTheirText) (gives : GivenBackTakesOne) (p : Pai
         (λ good reads. end_good takes gives p t passing is can schema columns streams named (beside p t is exact order) enough are.kept fits good
             (λ name. new_told p t is can exact order good reads name 0)
             (stays good cells (come_good p t is can exact order good reads adds) (columns_good p t is can exact order good reads (told_names p.new)) (held_then p t is can exact order good reads))),
+        (λ n. counts_end takes gives p t passing is can schema columns streams named (beside p t is exact order) enough are.kept fits n
+            (λ m new there. gone_at schema.tables gone m new there) (λ c m s there. yes_is_no (changes_schema t) changes c) (tables_sorted p.old exact.order)
+            (changed_total schema changes n (exactly (left_exactly p t is exact order) n))),
       )
 
   -- WHERE THE SCHEMA IS UNTOUCHED
@@ -176,6 +244,9 @@ module _ (takes : TakenPlacesHoldTheirText) (gives : GivenBackTakesOne) (p : Pai
         },
         (λ good reads. end_good takes gives p t passing is can schema columns same.streams named (beside p t is exact order) enough texts fits good
             (λ name. new_told p t is can exact order good reads name 0) (held_at_first p t is can exact order good reads none)),
+        (λ n. counts_end takes gives p t passing is can schema columns same.streams named (beside p t is exact order) enough texts fits n
+            (λ m new there. yes_is_no false (ap (list_any (eq_by_cmp list_cmp m)) (sym none) ∙ among_gone m there new) refl) (λ c m s there. rw there refl) (tables_sorted p.old exact.order)
+            (untouched_total unchanged none n)),
       )
 
   pub whole_run : Ran

@@ -1,4 +1,4 @@
--- The counts of the pool that is left once a transform that is made is applied: each place counts the cells that name it.
+-- The counts of the pool once a transform that is made is applied: each place counts the cells that name it.
 use Rattle.std.specs.Prelude.{◌≡◌, ℕ, ◌<◌, Ok}
 use Rattle.msi_pool.specs.FirstFitLaws.{count_at}
 use Rattle.msi_transform.specs.Transforms.{TransformDef}
