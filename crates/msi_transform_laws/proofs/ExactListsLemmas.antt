@@ -1,24 +1,21 @@
 -- What `_Tables` and `_Columns` of an exact package list and describe, once the tables that go are gone: no table that comes, and no
 -- column that does; and the places count just the cells that are left.
-use Rattle.std.proofs.Common.{◌≡◌, ℕ, ◌+◌, ◌<◌, Bool, true, false, not, List, [], ◌∷◌, length, map, filter, refl, sym, ap, subst, ◌∙◌, arith, append-nil}
-use Rattle.std.specs.Prelude.{pos, None, Ok, if◌then◌else◌}
-use Rattle.std.specs.Cmp.{tied_itself}
+use Rattle.std.proofs.Common.{◌≡◌, ℕ, ◌+◌, ◌<◌, Bool, true, false, not, List, [], ◌∷◌, length, map, refl, sym, ap, subst, ◌∙◌, arith, append-nil}
+use Rattle.std.specs.Prelude.{None, Ok, if◌then◌else◌}
 use Rattle.std.specs.FinMap.{find}
 use Rattle.std.specs.FinMap.Entries.{is_some-find}
 use Rattle.std.specs.List.{AllByRecursion, list_any}
-use Rattle.std.specs.Ordering.{eq_by_cmp, is_eq}
+use Rattle.std.specs.Ordering.{eq_by_cmp}
 use Rattle.msi_base.specs.Lists.{list_cmp}
 use Rattle.msi_base.proofs.BoolLemmas.{by_test, yes_is_no}
-use Rattle.msi_base.proofs.ListLemmas.{all_weaker}
 use Rattle.msi_pool.specs.Pool.{Place}
 use Rattle.msi_table_cells.specs.declared.cell.ValueRef.{ValueRef}
 use Rattle.msi_table_cells.specs.CellValues.{row_values}
 use Rattle.msi_table_cells.specs.KeyOrder.{key_of, same_key}
 use Rattle.msi_table_values.specs.declared.value.Value.{Value}
-use Rattle.msi_table_values.specs.declared.value.Value.TheVariants.{Int, Str}
+use Rattle.msi_table_values.specs.declared.value.Value.TheVariants.{Str}
 use Rattle.msi_table_values.specs.Columns.{ColumnDef}
 use Rattle.msi_database_schema.specs.System.{columns_columns, columns_name, tables_columns, tables_name}
-use Rattle.msi_database_schema.proofs.AccountLemmas.{Uses}
 use Rattle.msi_database_changes.specs.Database.{Database, has_table}
 use Rattle.msi_transform.specs.Transforms.{TransformDef}
 use Rattle.msi_transform_rows.specs.KeyOfRows.{key_cmp}
@@ -30,7 +27,7 @@ use Rattle.msi_transform_schema.specs.declared.schema.Standing.TheVariants as st
 use Rattle.msi_transform_making.specs.Making.{Pair, columns_in_table, made, names_beside}
 use Rattle.msi_transform_laws.specs.ExactPackages.{IsExact, IsInOrder, NamesColumn, NamesTable}
 use Rattle.msi_transform_laws.specs.TablesChanged.{cells_to_change}
-use Rattle.msi_transform_laws.proofs.CarriedOutLemmas.{keys_total, same}
+use Rattle.msi_transform_laws.proofs.CarriedOutLemmas.{same}
 use Rattle.msi_transform_laws.proofs.ListedRowsLemmas.{all_by_key, among_keys, among_own, in_list, left_of_names, numbered_among}
 use Rattle.msi_transform_laws.proofs.OldTextsLemmas.{all_parts, beside, uses_begun}
 use Rattle.msi_transform_laws.proofs.SchemaAppliedLemmas.{IsAbsent, IsExactly, number_in_key, text_in_key}

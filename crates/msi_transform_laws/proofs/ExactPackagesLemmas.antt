@@ -1,6 +1,6 @@
 -- Packages in order, and the cells of an exact one: those of the tables that go, of those that change, and of the others.
-use Rattle.std.proofs.Common.{◌≡◌, ℕ, ◌+◌, ◌<◌, ◌≤◌, Bool, true, false, not, ◌&&◌, ◌||◌, T, List, [], ◌∷◌, map, filter, refl, sym, ap, subst, ◌∙◌, arith}
-use Rattle.std.specs.Prelude.{Option, Some, None, is_some, option_map, unwrap_or, if◌then◌else◌, bytes_eq, count_by, ◌==◌}
+use Rattle.std.proofs.Common.{◌≡◌, ℕ, ◌+◌, ◌≤◌, Bool, true, false, not, ◌&&◌, ◌||◌, T, List, [], ◌∷◌, refl, sym, ap, subst, ◌∙◌, arith}
+use Rattle.std.specs.Prelude.{Option, Some, None, is_some, option_map, unwrap_or, if◌then◌else◌, bytes_eq}
 use Rattle.std.specs.Cmp.{eq_by_cmp_equiv}
 use Rattle.std.specs.Cmp.Lexicographic.{bytes_decides}
 use Rattle.std.specs.FinMap.{find, is_sorted}
@@ -10,12 +10,10 @@ use Rattle.std.proofs.lemmas.Bool.{and_parts}
 use Rattle.std.proofs.lemmas.Map.Text.{is_eq-slice_cmp}
 use Rattle.msi_base.specs.Lists.{list_cmp}
 use Rattle.msi_base.proofs.BoolLemmas.{by_test, yes_is_no}
-use Rattle.msi_base.proofs.OptionLemmas.{none_there}
-use Rattle.msi_table.specs.Census.{numbers_of_rows}
 use Rattle.msi_table_cells.specs.declared.cell.ValueRef.{ValueRef}
 use Rattle.msi_table_cells.specs.TableCells.{TableCells}
 use Rattle.msi_database_schema.specs.System.{columns_name, is_schema_table, tables_name}
-use Rattle.msi_database_schema.proofs.AccountLemmas.{Enough, Uses, room}
+use Rattle.msi_database_schema.proofs.AccountLemmas.{Enough, room}
 use Rattle.msi_database_changes.specs.Database.{Database, Tables, counts_suffice, has_table, names_are_numbers, names_stay_in_pool, pool_fits_width, rows_of, table_at, table_is_full, tables_are_readable}
 use Rattle.msi_database_changes.proofs.soundness.SoundLemmas.{enough_from_sound, exact_from}
 use Rattle.msi_database_changes.proofs.text_counts.RowsLemmas.{rows_uses}
@@ -30,6 +28,7 @@ use Rattle.msi_transform_laws.proofs.AppliedRecordsLemmas.{naming_cells}
 use Rattle.msi_transform_laws.proofs.GoodTextsLemmas.{each_found}
 use Rattle.msi_transform_laws.proofs.NamedSumsLemmas.{if_among, if_passing, named_sum, only_at, sum_among, sum_at, sum_both, sum_passing, sum_same}
 use Rattle.msi_transform_laws.proofs.StoredRecordsLemmas.{names_total}
+use Rattle.msi_transform_laws.proofs.TablesChangedLemmas.{no_rows_there}
 
 true_is : (b : Bool) → b ≡ true → T b
 true_is true h = tt
@@ -62,9 +61,6 @@ module _ (k : Kept) (order : IsInOrder k) where
 
   pub rows_in_use : (name : List ℕ) (n : ℕ) → rows_uses (system_rows d name) n ≤ room d.pool.places n
   rows_in_use name n = omega (arith, rows_within name n (table_at name d) refl, enough n)
-
-pub no_rows_there : (d : Database) (name : List ℕ) → has_table name d ≡ false → system_rows d name ≡ []
-no_rows_there d name none = ap (λ (o : Option TableCells). unwrap_or (option_map rows_of o) []) (none_there (table_at name d) none)
 
 -- THE PARTS OF AN EXACT PACKAGE
 

@@ -1,9 +1,9 @@
 -- The texts of the old package that are left, where a transform is made of it and of another: those of rows that the new
 -- package has too.
-use Rattle.std.proofs.Common.{◌≡◌, ℕ, ◌+◌, ◌-◌, ◌<◌, Bool, true, false, not, ◌&&◌, T, List, [], ◌∷◌, length, map, filter, drop, refl, sym, ap, subst, ◌∙◌, arith, append-nil}
+use Rattle.std.proofs.Common.{◌≡◌, ℕ, ◌+◌, ◌-◌, ◌<◌, Bool, true, false, not, ◌&&◌, List, [], ◌∷◌, length, map, filter, drop, refl, sym, ap, subst, ◌∙◌, arith, append-nil}
 use Rattle.std.specs.Prelude.{pos, Some, Ok, is_some}
 use Rattle.std.specs.Cmp.{tied_itself}
-use Rattle.std.specs.FinMap.{find, is_sorted}
+use Rattle.std.specs.FinMap.{find}
 use Rattle.std.specs.FinMap.Entries.{is_some-find}
 use Rattle.std.specs.List.{AllByRecursion, flat_map, list_any}
 use Rattle.std.specs.Ordering.{eq_by_cmp, is_eq}
@@ -12,9 +12,7 @@ use Rattle.msi_base.specs.Lists.{has_pair, list_cmp}
 use Rattle.msi_base.proofs.BoolLemmas.{by_test, yes_is_no}
 use Rattle.msi_base.proofs.ListLemmas.{all_dropped, all_joined, all_kept, all_weaker}
 use Rattle.msi_base.proofs.OptionLemmas.{none_there}
-use Rattle.msi_base.specs.Refusals.{first_refusal}
 use Rattle.msi_pool.specs.Pool.{Place}
-use Rattle.msi_pool.specs.FirstFit.{is_long_with}
 use Rattle.msi_pool.specs.FirstFitLaws.{text_at}
 use Rattle.msi_table_cells.specs.declared.cell.ValueRef.{ValueRef}
 use Rattle.msi_table_cells.specs.CellValues.{row_values}
@@ -33,13 +31,13 @@ use Rattle.msi_database_changes.proofs.text_counts.RowsLemmas.{rows_uses}
 use Rattle.msi_database_storage.specs.Kept.{Kept}
 use Rattle.msi_transform.specs.Transforms.{TransformDef, records_for}
 use Rattle.msi_transform_rows.specs.KeyOfRows.{key_cmp}
-use Rattle.msi_transform_rows.specs.RowChanges.{Rows, by_key, cells_of, keyed, without_row_at}
+use Rattle.msi_transform_rows.specs.RowChanges.{Rows, by_key, cells_of}
 use Rattle.msi_transform_rows.specs.declared.row.RowInHand.{RowInHand}
-use Rattle.msi_transform_schema.specs.SchemaApplying.{have_own_keys, schema_begun, system_rows, system_rows_by_key}
-use Rattle.msi_transform_schema.specs.SchemaChanges.{SchemaInHand, column_key, columns_in_hand, plain_row, without_keys}
+use Rattle.msi_transform_schema.specs.SchemaApplying.{schema_begun, system_rows}
+use Rattle.msi_transform_schema.specs.SchemaChanges.{SchemaInHand, column_key, columns_in_hand}
 use Rattle.msi_transform_schema.specs.declared.schema.Standing.TheVariants as stands
-use Rattle.msi_transform_making.specs.Making.{Pair, ToldRecord, ToldRow, ToldRows, begin_alike, by_keys, columns_before, columns_in_table, described_columns, describing_record, keeps_columns, made, names_beside, reasons, records_of_columns, same_row, table_records, told_names, told_row, told_rows, told_tables, with_number_if}
-use Rattle.msi_transform_laws.specs.CarriedOut.{IsTellable, rows_before}
+use Rattle.msi_transform_making.specs.Making.{Pair, ToldRecord, ToldRow, ToldRows, begin_alike, columns_before, columns_in_table, described_columns, describing_record, keeps_columns, made, names_beside, records_of_columns, same_row, told_names, told_row, told_rows, with_number_if}
+use Rattle.msi_transform_laws.specs.CarriedOut.{IsTellable}
 use Rattle.msi_transform_laws.specs.ExactPackages.{IsExact, IsInOrder, IsListed, NamesColumn, NamesTable}
 use Rattle.msi_transform_laws.specs.RowsBegun.{HoldsStreams}
 use Rattle.msi_transform_laws.specs.SchemaApplied.{CountsSchema}
@@ -48,18 +46,16 @@ use Rattle.msi_transform_laws.specs.TableApplied.{CanHaveRecords}
 use Rattle.msi_transform_laws.specs.TablesChanged.{TableOfRecords, cells_to_change}
 use Rattle.msi_transform_laws.specs.TablesRemoved.{cells_removed}
 use Rattle.msi_transform_laws.proofs.CarriedOutLemmas.{keys_total, same}
-use Rattle.msi_transform_laws.proofs.ExactPackagesLemmas.{exact_parts, no_rows_there, rows_in_use, unchanged, uses_of}
+use Rattle.msi_transform_laws.proofs.ExactPackagesLemmas.{exact_parts, rows_in_use, unchanged, uses_of}
 use Rattle.msi_transform_laws.proofs.FitPackagesLemmas.{no_changed_columns}
 use Rattle.msi_transform_laws.proofs.GoodTextsLemmas.{AreGood, HoldsGood, IsGoodRow, IsGoodTold, at_found, each_told, keys_told, none_named_in, none_of_rows, rows_good, told_rows_good, told_were_good}
 use Rattle.msi_transform_laws.proofs.ListedRowsLemmas.{all_by_key, among_keys, among_own, in_list, left_of_names, numbered_among, uses_in_list}
 use Rattle.msi_transform_laws.proofs.ListedTablesLemmas.{exact_names}
-use Rattle.msi_transform_laws.proofs.MadeRecordsLemmas.{made_by}
 use Rattle.msi_transform_laws.proofs.NamedSumsLemmas.{named_sum, sum_none}
 use Rattle.msi_transform_laws.proofs.SchemaAppliedLemmas.{counts_from, uses_in_schema}
 use Rattle.msi_transform_laws.proofs.SchemaMadeLemmas.{IsNamed, at_name, come_named, passes_among}
-use Rattle.msi_transform_laws.proofs.StoredRecordsLemmas.{names_total}
 use Rattle.msi_transform_laws.proofs.TableChangedLemmas.{all_there, each_among, of_tables}
-use Rattle.msi_transform_laws.proofs.TablesChangedLemmas.{all_in_transform, own_keys, sorted_by_key, sorted_by_names}
+use Rattle.msi_transform_laws.proofs.TablesChangedLemmas.{all_in_transform, own_keys, sorted_by_key, no_rows_there, sorted_in_transform}
 use Rattle.msi_transform_laws.proofs.TablesRemovedLemmas.{Went, own_columns, own_key, without_all}
 use Rattle.msi_transform_laws.proofs.WithoutRecordsLemmas.{Stays, tables_without_records_stay}
 
@@ -79,11 +75,6 @@ at_entry P m (e ∷ es) h found = by_test (eq_by_cmp list_cmp m e.0)
     (λ u. subst P (sym (exact_names m e.0 u)) h.0)
     (λ u. at_entry P m es h.1 (rw u at found))
 
-pub transform_sorted : (p : Pair) (t : TransformDef) → made p ≡ Ok t → T (is_sorted list_cmp t.tables)
-transform_sorted p t is =
-    let s = made_by p.new_page p.new (told_tables p.old p.new) t (first_refusal (reasons p)) is in
-    subst (λ (u : TransformDef). T (is_sorted list_cmp u.tables)) s.2 (sorted_by_names (map (table_records (is_long_with false s.0.1.places)) s.0.0))
-
 pub new_in_transform : (p : Pair) (t : TransformDef) → made p ≡ Ok t → (m : List ℕ) → is_schema_table m ≡ false → is_some (find list_cmp m t.tables) ≡ true → has_table m p.new.database ≡ true
 new_in_transform p t is m plain found =
     at_entry (λ name. is_schema_table name ≡ false → has_table name p.new.database ≡ true) m t.tables
@@ -94,10 +85,10 @@ new_in_transform p t is m plain found =
 module _ (p : Pair) (t : TransformDef) (is : made p ≡ Ok t) (exact : IsExact p.old) (order : IsInOrder p.new) where
   -- the cells of the tables that aren't changed
   abbrev pub beside : Uses
-  beside n = named_sum (unchanged p.old exact p.new.database order.has_tables order.has_columns t.tables (transform_sorted p t is) (new_in_transform p t is) n) p.old.database.tables
+  beside n = named_sum (unchanged p.old exact p.new.database order.has_tables order.has_columns t.tables (sorted_in_transform p t is) (new_in_transform p t is) n) p.old.database.tables
 
   pub all_parts : (n : ℕ) → room p.old.database.pool.places n ≡ uses_of p.old.database n tables_name + (uses_of p.old.database n columns_name + (cells_gone p n + (cells_to_change p.old.database t.tables n + beside n)))
-  all_parts n = exact_parts p.old exact p.new.database order.has_tables order.has_columns t.tables (transform_sorted p t is) (new_in_transform p t is) n
+  all_parts n = exact_parts p.old exact p.new.database order.has_tables order.has_columns t.tables (sorted_in_transform p t is) (new_in_transform p t is) n
 
   pub uses_begun : (n : ℕ) → uses_in_schema (schema_begun p.old.database) n ≡ uses_of p.old.database n tables_name + uses_of p.old.database n columns_name
   uses_begun n = omega (
@@ -292,9 +283,9 @@ module _ (p : Pair) (t : TransformDef) (is : made p ≡ Ok t) (can : CanHaveReco
     no_uses_of m h = none_named_in good places n bad (system_rows old m) h
 
     none_beside : beside p t is exact order n ≡ 0
-    none_beside = sum_none (unchanged p.old exact p.new.database order.has_tables order.has_columns t.tables (transform_sorted p t is) (new_in_transform p t is) n) none_of old.tables
+    none_beside = sum_none (unchanged p.old exact p.new.database order.has_tables order.has_columns t.tables (sorted_in_transform p t is) (new_in_transform p t is) n) none_of old.tables
       where
-        none_of : (m : List ℕ) → unchanged p.old exact p.new.database order.has_tables order.has_columns t.tables (transform_sorted p t is) (new_in_transform p t is) n m ≡ 0
+        none_of : (m : List ℕ) → unchanged p.old exact p.new.database order.has_tables order.has_columns t.tables (sorted_in_transform p t is) (new_in_transform p t is) n m ≡ 0
         none_of m = by_test (is_schema_table m)
             (λ s. rw s refl)
             (λ s. by_test (has_table m p.new.database)

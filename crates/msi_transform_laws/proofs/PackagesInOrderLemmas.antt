@@ -1,26 +1,23 @@
 -- Two packages in order of which a transform is made: what has to hold of them so that it can be applied.
 use Rattle.std.proofs.Common.{◌≡◌, ℕ, ◌+◌, Bool, true, false, not, ◌&&◌, ◌||◌, List, [], ◌∷◌, ◌++◌, length, map, filter, drop, take, refl, sym, ap, subst, ◌∙◌, arith, append-nil}
-use Rattle.std.specs.Prelude.{Some, None, Ok, is_some, bytes_eq, ◌==◌}
+use Rattle.std.specs.Prelude.{Some, Ok, is_some, bytes_eq, ◌==◌}
 use Rattle.std.specs.FinMap.Entries.{is_some-find}
 use Rattle.std.specs.List.{AllByRecursion, flat_map}
 use Rattle.msi_base.specs.Lists.{list_cmp}
 use Rattle.msi_base.proofs.BoolLemmas.{by_test, yes_is_no}
-use Rattle.msi_base.proofs.OptionLemmas.{none_is}
 use Rattle.msi_table_cells.specs.declared.cell.ValueRef.{ValueRef}
 use Rattle.msi_table_cells.specs.CellValues.{row_values}
 use Rattle.msi_table_values.specs.declared.value.Value.{Value}
 use Rattle.msi_table_values.specs.Columns.{ColumnDef}
 use Rattle.msi_database_schema.specs.System.{columns_name, is_schema_table, tables_name, validation_name}
 use Rattle.msi_database_changes.specs.Database.{has_table}
-use Rattle.msi_database_storage.specs.Kept.{Kept}
 use Rattle.msi_transform_records.specs.declared.action.Action.TheVariants.{Add, Remove}
 use Rattle.msi_transform_records.specs.declared.shape.Shape.{Shape}
 use Rattle.msi_transform.specs.Transforms.{TransformDef, records_for, shapes_of}
 use Rattle.msi_transform.specs.declared.conditions.ErrorConditions.{ErrorConditions}
 use Rattle.msi_transform_rows.specs.TableRecords.{changes_schema}
-use Rattle.msi_transform_schema.specs.SchemaApplying.{system_rows}
 use Rattle.msi_transform_schema.specs.SchemaChanges.{is_unlisted}
-use Rattle.msi_transform_making.specs.Making.{Pair, ToldRecord, ToldTable, columns_before, columns_in_table, described_columns, describing_record, is_told, listing_record, made, names_beside, records_of_columns, told_names}
+use Rattle.msi_transform_making.specs.Making.{Pair, ToldTable, columns_before, columns_in_table, described_columns, describing_record, is_told, listing_record, made, names_beside, records_of_columns, told_names}
 use Rattle.msi_transform_laws.specs.CarriedOut.{IsTellable}
 use Rattle.msi_transform_laws.specs.DescribedPackages.{TablesCanHaveRecords}
 use Rattle.msi_transform_laws.specs.ExactPackages.{IsExact, IsInOrder}
@@ -32,12 +29,12 @@ use Rattle.msi_transform_laws.specs.SchemaMade.{AreDescribed, NewColumnsAreDescr
 use Rattle.msi_transform_laws.specs.TableApplied.{CanHaveRecords}
 use Rattle.msi_transform_laws.specs.TextsLeft.{CanTakeTransform}
 use Rattle.msi_transform_laws.proofs.DescribedPackagesLemmas.{apart_sorted, described_tables_can_have_records}
-use Rattle.msi_transform_laws.proofs.ExactPackagesLemmas.{no_rows_there, tables_sorted}
+use Rattle.msi_transform_laws.proofs.ExactPackagesLemmas.{tables_sorted}
 use Rattle.msi_transform_laws.proofs.NewTablesLemmas.{none_mapped}
 use Rattle.msi_transform_laws.proofs.SchemaListsLemmas.{each_passing, list_of_columns, list_of_tables, not_told_is, read_tables}
 use Rattle.msi_transform_laws.proofs.SchemaMadeLemmas.{at_name, passes_among, shapes_dropped, taken_dropped}
 use Rattle.msi_transform_laws.proofs.TableAppliedLemmas.{read_of}
-use Rattle.msi_transform_laws.proofs.TableChangedLemmas.{each_among}
+use Rattle.msi_transform_laws.proofs.TablesChangedLemmas.{no_rows_there}
 
 not_true : (b : Bool) → not b ≡ true → b ≡ false
 not_true true h = sym h

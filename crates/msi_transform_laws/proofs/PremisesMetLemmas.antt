@@ -48,10 +48,13 @@ abbrev database_with : List ℕ → Database
 database_with text = record {
   pool = record { page = Utf8; long = false; places = places_with text };
   tables = (name, record { columns = columns_of_table; rows = Some ((cell.Str 4 ∷ cell.Str 5 ∷ []) ∷ []) })
-      ∷ (columns_name, record {
-        columns = columns_columns;
-        rows = Some ((cell.Str 1 ∷ cell.Int (pos 1) ∷ cell.Str 2 ∷ cell.Int (pos 11592) ∷ []) ∷ (cell.Str 1 ∷ cell.Int (pos 2) ∷ cell.Str 3 ∷ cell.Int (pos 3583) ∷ []) ∷ []);
-      })
+      ∷ (
+        columns_name,
+        record {
+          columns = columns_columns;
+          rows = Some ((cell.Str 1 ∷ cell.Int (pos 1) ∷ cell.Str 2 ∷ cell.Int (pos 11592) ∷ []) ∷ (cell.Str 1 ∷ cell.Int (pos 2) ∷ cell.Str 3 ∷ cell.Int (pos 3583) ∷ []) ∷ []);
+        },
+      )
       ∷ (tables_name, record { columns = tables_columns; rows = Some ((cell.Str 1 ∷ []) ∷ []) }) ∷ [];
   unlisted_validation = [];
 }
@@ -97,15 +100,18 @@ module _ (text : List ℕ) where
       same_shape = refl;
       same_name = refl;
     },
-    (record {
-      name = Str (86 ∷ []);
-      bits = Int (pos 3583);
-      column = plain_column (86 ∷ []) (coltype.Str 255);
-      row_is = refl;
-      column_is = refl;
-      same_shape = refl;
-      same_name = refl;
-    }, tt),
+    (
+      record {
+        name = Str (86 ∷ []);
+        bits = Int (pos 3583);
+        column = plain_column (86 ∷ []) (coltype.Str 255);
+        row_is = refl;
+        column_is = refl;
+        same_shape = refl;
+        same_name = refl;
+      },
+      tt,
+    ),
   )
 
   in_order : HaveUtf8Texts (places_with text) → IsInOrder (kept_with text)

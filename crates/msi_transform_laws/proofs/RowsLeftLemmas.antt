@@ -15,13 +15,13 @@ use Rattle.std.proofs.lemmas.Bool.{ltb-false, and_parts, or_cases}
 use Rattle.std.proofs.lemmas.List.Folds.{list_any-append}
 use Rattle.msi_base.specs.Lists.{list_cmp}
 use Rattle.msi_base.proofs.BoolLemmas.{by_test, yes_is_no}
-use Rattle.msi_base.proofs.ListLemmas.{list_any-map}
+use Rattle.msi_base.proofs.ListLemmas.{list_any-map, all_kept}
 use Rattle.msi_base.proofs.OptionLemmas.{none_is, none_there, some_is}
 use Rattle.msi_pool.specs.Pool.{Place}
 use Rattle.msi_pool.specs.FirstFitLaws.{text_at, TakenPlacesHoldTheirText, GivenBackTakesOne}
 use Rattle.msi_table.specs.Census.{numbers_of_rows}
 use Rattle.msi_table_values.specs.Columns.{ColumnDef}
-use Rattle.msi_database_schema.specs.System.{columns_columns, columns_name, is_schema_table, tables_columns, tables_name}
+use Rattle.msi_database_schema.specs.System.{columns_name, is_schema_table, tables_name}
 use Rattle.msi_database_schema.proofs.AccountLemmas.{Uses, room, room_at}
 use Rattle.msi_database_changes.specs.Database.{Database, has_table, Tables, rows_of}
 use Rattle.msi_transform_records.specs.declared.shape.Shape.{Shape}
@@ -34,23 +34,23 @@ use Rattle.msi_transform_schema.specs.SchemaApplying.{system_rows}
 use Rattle.msi_transform_schema.specs.SchemaChanges.{SchemaChange, SchemaInHand, TableInHand, TablesTold, columns_in_hand, columns_of_package, is_added, is_gone, table_in_hand, untold_table, plain_row}
 use Rattle.msi_transform_schema.specs.declared.schema.Standing.{Standing}
 use Rattle.msi_transform_schema.specs.declared.schema.Standing.TheVariants as stands
-use Rattle.msi_transform_applying.specs.Applying.{TableAnew, TablesInHand, change_with, changed_with, is_anew, is_lengthened, lengthened_alone, rows_changed, system_anew, systems_anew, table_lengthened, tables_begun, tables_in_turn, with_lengthened, lengthened_row, stays, table_staying, tables_left}
+use Rattle.msi_transform_applying.specs.Applying.{TableAnew, TablesInHand, change_with, changed_with, is_anew, is_lengthened, lengthened_alone, rows_changed, systems_anew, table_lengthened, tables_begun, tables_in_turn, with_lengthened, lengthened_row, stays, table_staying, tables_left}
 use Rattle.msi_transform_making.specs.Making.{Pair, columns_before, columns_in_table, made, told_names, told_rows}
 use Rattle.msi_transform_laws.specs.CarriedOut.{rows_before}
-use Rattle.msi_transform_laws.specs.RowsBegun.{HasNewColumns, HoldsStreams, StandsAs, TextsOfTableStay}
+use Rattle.msi_transform_laws.specs.RowsBegun.{HasNewColumns, HoldsStreams, StandsAs}
 use Rattle.msi_transform_laws.specs.TableApplied.{CanHaveRecords, table_change}
 use Rattle.msi_transform_laws.specs.TablesChanged.{AreChanged, CountsCellsOf, HasNewRows, TableOfRecords, cells_anew, cells_to_change, texts_to_come}
 use Rattle.msi_transform_laws.specs.TransformsApplied.{StaysNew}
 use Rattle.msi_transform_laws.proofs.AppliedRecordsLemmas.{naming_cells}
-use Rattle.msi_transform_laws.proofs.ExactPackagesLemmas.{names_turn, no_rows_there, uses_of}
+use Rattle.msi_transform_laws.proofs.ExactPackagesLemmas.{names_turn, uses_of}
 use Rattle.msi_transform_laws.proofs.GoodTextsLemmas.{HoldsGood, IsGoodTold, none_of_rows, values_good}
 use Rattle.msi_transform_laws.proofs.ListedTablesLemmas.{exact_names}
 use Rattle.msi_transform_laws.proofs.NewTablesLemmas.{all_joined, alone_new, both_all, texts_ready, no_new_rows, no_old_rows, no_rows_begun}
 use Rattle.msi_transform_laws.proofs.RowsBegunLemmas.{many_shapes}
 use Rattle.msi_transform_laws.proofs.SchemaListsLemmas.{each_passing}
 use Rattle.msi_transform_laws.proofs.SchemaMadeLemmas.{AreNamed, IsNamed, at_name, each_found, IsKnown, passes_among}
-use Rattle.msi_transform_laws.proofs.TableChangedLemmas.{each_among, of_tables}
-use Rattle.msi_transform_laws.proofs.TablesChangedLemmas.{all_in_transform, made_tables_are_changed_in_turn}
+use Rattle.msi_transform_laws.proofs.TableChangedLemmas.{of_tables, all_there}
+use Rattle.msi_transform_laws.proofs.TablesChangedLemmas.{all_in_transform, made_tables_are_changed_in_turn, no_rows_there}
 use Rattle.msi_transform_laws.proofs.WithoutRecordsLemmas.{Stays, tables_without_records_stay}
 
 not_true : (b : Bool) → not b ≡ true → b ≡ false
@@ -318,17 +318,17 @@ module _ (takes : TakenPlacesHoldTheirText) (gives : GivenBackTakesOne) (p : Pai
   -- tables that get columns and have no records have no rows
   alone_empty : (name : List ℕ) (table : TableInHand) → find list_cmp name schema.tables ≡ Some table → is_lengthened table ≡ true → is_none (records_for name t) ≡ true → IsKnown p schema.tables name
       → ((table_lengthened d (name, table)).rows ≡ []) × (has_table name d ≡ true → system_rows d name ≡ [])
-  alone_empty name table found longer none (inl is_named) =
+  alone_empty name table found longer untold (inl is_named) =
       let at : table_in_hand d schema.tables name ≡ table = ap (λ (o : Option TableInHand). unwrap_or o (untold_table d name)) found in
       let has = subst (HasNewColumns p.old p.new name) at (at_name (λ name. HasNewColumns p.old p.new name (table_in_hand d schema.tables name)) name (told_names p.new) columns is_named) in
       let stays = at_name (Stays p t) name (told_names p.new) (tables_without_records_stay p t is can) is_named in
-      let absent = none_there (records_for name t) (not_true (is_some (records_for name t)) none) in
+      let absent = none_there (records_for name t) (not_true (is_some (records_for name t)) untold) in
       let nothing = no_new_rows p t passing name table has stays absent (has_table name d) refl table.standing has.stands has.columns longer in
       let begun_none = no_rows_begun p t passing name table has stays absent nothing (has_table name d) refl table.standing has.stands in (
         ap (λ (rows : List (List ValueRef)). map (keyed (columns_in_hand d name table) d.pool.places) (map (lengthened_row (columns_of_package d name table.standing) table.added) rows)) begun_none,
         no_old_rows p t passing name table has stays absent nothing,
       )
-  alone_empty name table found longer none (inr gone) =
+  alone_empty name table found longer untold (inr gone) =
       let at : record { standing = stands.Gone; added = [] } ≡ table = some_is (record { standing = stands.Gone; added = [] }) table (sym gone ∙ found) in
       yes_is_no (is_lengthened table) longer (ap is_lengthened (sym at))
 
@@ -491,3 +491,46 @@ module _ (takes : TakenPlacesHoldTheirText) (gives : GivenBackTakesOne) (p : Pai
       sum_staying d (stays d schema.tables end) n d.tables (each_found d.tables sorted),
       sum_same staying_uses rest each_rest d.tables,
     )
+
+  -- WHICH TABLES THEY ARE
+
+  abbrev IsOfNew : List ℕ → Type 0
+  IsOfNew name = is_schema_table name ≡ false → has_table name p.new.database ≡ true
+
+  abbrev IsNewTable : TableAnew → Type 0
+  IsNewTable table = IsOfNew table.name
+
+  first_names : (es : List TableOfRecords) → AllByRecursion (λ (e : TableOfRecords). IsOfNew e.0) es → AllByRecursion IsOfNew (map (λ (e : TableOfRecords). e.0) es)
+  first_names [] h = tt
+  first_names (e ∷ es) h = (h.0, first_names es h.1)
+
+  of_names : (tables : List TableAnew) → AllByRecursion IsOfNew (map (λ (table : TableAnew). table.name) tables) → AllByRecursion IsNewTable tables
+  of_names [] h = tt
+  of_names (table ∷ tables) h = (h.0, of_names tables h.1)
+
+  done_new : AllByRecursion IsNewTable done
+  done_new = of_names done (subst (AllByRecursion IsOfNew) (sym are.names)
+      (all_kept IsOfNew (λ name. not (is_schema_table name)) (map (λ (e : TableOfRecords). e.0) t.tables)
+      (first_names t.tables (all_in_transform p t is IsOfNew (of_tables p (λ name. has_table name p.new.database ≡ true) (all_there p.new))))))
+
+  known_new : (name : List ℕ) (table : TableInHand) → IsKnown p schema.tables name → find list_cmp name schema.tables ≡ Some table → is_lengthened table ≡ true → has_table name p.new.database ≡ true
+  known_new name table (inl is_named) found longer = at_name (λ name. has_table name p.new.database ≡ true) name (told_names p.new) (all_there p.new) is_named
+  known_new name table (inr gone) found longer =
+      let at : record { standing = stands.Gone; added = [] } ≡ table = some_is (record { standing = stands.Gone; added = [] }) table (sym gone ∙ found) in
+      yes_is_no (is_lengthened table) longer (ap is_lengthened (sym at))
+
+  alone_are_new : (es : TablesTold) → AllByRecursion Known es → AllByRecursion Found es → AllByRecursion IsNewTable (map (table_lengthened d) (filter is_alone es))
+  alone_are_new [] known found = tt
+  alone_are_new (e ∷ es) known found = by_test (is_alone e)
+      (λ b. rw b ((λ _. known_new e.0 e.1 known.0 found.0 (and_parts (is_lengthened e.1) (is_none (records_for e.0 t)) b).0), alone_are_new es known.1 found.1))
+      (λ b. rw b (alone_are_new es known.1 found.1))
+
+  systems_of_new : AllByRecursion IsNewTable (systems_anew t schema)
+  systems_of_new = by_test (changes_schema t)
+      (λ b. rw b ((λ s. yes_is_no (is_schema_table tables_name) refl s), ((λ s. yes_is_no (is_schema_table columns_name) refl s), tt)))
+      (λ b. rw b tt)
+
+  pub end_new : AllByRecursion IsNewTable end.tables
+  end_new = all_joined IsNewTable after.tables alone
+      (subst (AllByRecursion IsNewTable) (sym are.tables) (all_joined IsNewTable (systems_anew t schema) done systems_of_new done_new))
+      (alone_are_new schema.tables named.each all_found)

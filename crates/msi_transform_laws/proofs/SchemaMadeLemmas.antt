@@ -647,9 +647,14 @@ module _ (p : Pair) (t : TransformDef) (is : made p ≡ Ok t) (can : CanHaveReco
     second_list s tables now room =
         let (stored, says, applies) = by_stored t (list_of_columns p) columns_columns refl (read_tables p t is can).1 (absent_columns p t is can) (column_record_applied change) s in
         let (u, ran, are, stays, exact) = columns_put takes gives change beside (number_of t columns_name) 0 adding_all s stored (says ∙ same_in_all p (told_names p.new) gets_columns)
-        (subst (λ (l : TablesTold). CanAddColumns old l adding_all) (sym tables) columns_all.0) now room in
-        (u, applies u ran, are, (λ good rest records_good holds.
-            stays good rest (good_columns good (flat_map (records_of_columns p.old p.new) (told_names p.new)) adding_all (same_in_all p (told_names p.new) gets_columns) records_good) holds), exact)
+        (subst (λ (l : TablesTold). CanAddColumns old l adding_all) (sym tables) columns_all.0) now room in (
+          u,
+          applies u ran,
+          are,
+          (λ good rest records_good holds.
+              stays good rest (good_columns good (flat_map (records_of_columns p.old p.new) (told_names p.new)) adding_all (same_in_all p (told_names p.new) gets_columns) records_good) holds),
+          exact,
+        )
 
     -- a table that goes is gone in the end
     one_gone : (m : List ℕ) → goes m ≡ true → list_any (eq_by_cmp list_cmp m) gone ≡ true → IsGone p final m

@@ -5,8 +5,8 @@ use Rattle.msi_transform_laws.specs.SchemaMade.{cells_gone}
 use Rattle.msi_transform_rows.specs.RowChanges.{cells_of}
 use Rattle.std.specs.Cmp.Lexicographic.{bytes_decides}
 use Rattle.std.specs.Ordering.{eq_by_cmp}
-use Rattle.std.proofs.Common.{◌≡◌, inl, inr, ℕ, zero, suc, ◌+◌, ◌-◌, ◌<◌, ◌≤◌, Bool, true, false, not, ◌&&◌, ◌||◌, List, [], ◌∷◌, length, map, refl, sym, ap, subst, ◌∙◌, arith}
-use Rattle.std.specs.Prelude.{Option, Some, None, Result, Ok, is_some, if◌then◌else◌, nat_lt, count_by, ◌==◌, slice_get, unwrap_or, bytes_eq}
+use Rattle.std.proofs.Common.{◌≡◌, inl, inr, ℕ, zero, suc, ◌+◌, ◌-◌, ◌<◌, ◌≤◌, Bool, true, false, not, ◌||◌, List, [], ◌∷◌, length, map, refl, sym, ap, subst, ◌∙◌, arith}
+use Rattle.std.specs.Prelude.{Option, Result, Ok, is_some, if◌then◌else◌, count_by, ◌==◌, slice_get, unwrap_or, bytes_eq}
 use Rattle.std.specs.FinMap.{find}
 use Rattle.std.specs.FinMap.Entries.{is_some-find}
 use Rattle.std.specs.List.{AllByRecursion, list_all, list_any}
@@ -31,10 +31,10 @@ use Rattle.msi_transform.specs.Transforms.{TransformDef, shapes_of}
 use Rattle.msi_transform.specs.declared.conditions.ErrorConditions.{ErrorConditions}
 use Rattle.msi_transform_rows.specs.RecordRefusals.{Refusal, nowhere, ◌>>=◌}
 use Rattle.msi_transform_rows.specs.TableRecords.{changes_schema}
-use Rattle.msi_transform_schema.specs.SchemaApplying.{schema_applied, schema_begun, schema_changed, schema_untouched, system_rows}
+use Rattle.msi_transform_schema.specs.SchemaApplying.{schema_applied, schema_changed, schema_untouched, system_rows}
 use Rattle.msi_transform_schema.specs.SchemaChanges.{SchemaChange, SchemaInHand, TableInHand, TablesTold, is_gone, table_in_hand, untold_table}
 use Rattle.msi_transform_schema.specs.declared.schema.Standing.TheVariants as stands
-use Rattle.msi_transform_applying.specs.Applying.{TablesChanged, TablesInHand, change_with, changed_with, is_anew, page_after, reads_back, rows_changed, tables_begun, tables_changed, systems_anew, tables_left}
+use Rattle.msi_transform_applying.specs.Applying.{TablesInHand, change_with, changed_with, is_anew, page_after, reads_back, rows_changed, tables_begun, tables_changed, systems_anew, tables_left}
 use Rattle.msi_transform_making.specs.Making.{Pair, columns_in_table, is_lacking, made, names_beside, reasons, told_names, told_tables}
 use Rattle.msi_transform_laws.specs.ExactPackages.{IsExact, IsInOrder}
 use Rattle.msi_transform_laws.specs.RowsBegun.{HasNewColumns}
@@ -42,19 +42,20 @@ use Rattle.msi_transform_laws.specs.TablesChanged.{cells_to_change, texts_to_com
 use Rattle.msi_transform_laws.specs.TextsLeft.{CanTakeTransform}
 use Rattle.msi_transform_laws.specs.TransformsApplied.{HasNewTables, StaysNew}
 use Rattle.msi_transform_laws.proofs.AppliedRecordsLemmas.{naming_cells}
-use Rattle.msi_transform_laws.proofs.ExactPackagesLemmas.{no_rows_there, unchanged, uses_of, names_turn, tables_sorted}
+use Rattle.msi_transform_laws.proofs.ExactPackagesLemmas.{unchanged, uses_of, names_turn, tables_sorted}
 use Rattle.msi_transform_laws.proofs.FitPackagesLemmas.{no_lack}
 use Rattle.msi_transform_laws.proofs.MadeAppliedLemmas.{all_read}
 use Rattle.msi_transform_laws.proofs.MadeRecordsLemmas.{made_by}
 use Rattle.msi_transform_laws.proofs.NamedSumsLemmas.{sum_found, named_sum, only_at, sum_at, sum_both, sum_same}
-use Rattle.msi_transform_laws.proofs.OldTextsLemmas.{all_parts, beside, columns_good, come_good, counts_begun, held_at_first, held_then, new_in_transform, new_told, transform_sorted}
+use Rattle.msi_transform_laws.proofs.OldTextsLemmas.{all_parts, beside, columns_good, come_good, counts_begun, held_at_first, held_then, new_in_transform, new_told}
 use Rattle.msi_transform_laws.proofs.PackagesInOrderLemmas.{can_change, can_have, none_gone, same_columns, streams_held}
-use Rattle.msi_transform_laws.proofs.RowsLeftLemmas.{end, end_anew, end_good, rows_ran, stays_new, without_record, counts_end}
+use Rattle.msi_transform_laws.proofs.RowsLeftLemmas.{end, end_anew, end_good, rows_ran, stays_new, without_record, counts_end, end_new}
 use Rattle.msi_transform_laws.proofs.SameColumnsLemmas.{kept_by, page_is, page_unrefused}
 use Rattle.msi_transform_laws.proofs.SchemaAppliedLemmas.{enough_of, uses_in_schema}
 use Rattle.msi_transform_laws.proofs.SchemaListsLemmas.{each_passing}
 use Rattle.msi_transform_laws.proofs.SchemaMadeLemmas.{AreNamed, IsGone, IsNamed, whole_schema_good, at_name, passes_among}
 use Rattle.msi_transform_laws.proofs.TableChangedLemmas.{all_there, each_among}
+use Rattle.msi_transform_laws.proofs.TablesChangedLemmas.{no_rows_there, sorted_in_transform}
 
 not_true : (b : Bool) → not b ≡ true → b ≡ false
 not_true true h = sym h
@@ -92,7 +93,7 @@ module _ (takes : TakenPlacesHoldTheirText) (gives : GivenBackTakesOne) (p : Pai
   among_beside : (name : List ℕ) → is_schema_table name ≡ false → has_table name p.new.database ≡ true → is_some (find list_cmp name t.tables) ≡ false → has_table name d ≡ true
       → (n : ℕ) → 0 < count_by (λ m. m == n) (numbers_of_rows (system_rows d name)) → 0 < beside p t is exact order n
   among_beside name plain new absent there n some =
-      let f = unchanged p.old exact p.new.database order.has_tables order.has_columns t.tables (transform_sorted p t is) (new_in_transform p t is) n in
+      let f = unchanged p.old exact p.new.database order.has_tables order.has_columns t.tables (sorted_in_transform p t is) (new_in_transform p t is) n in
       let here : f name ≡ uses_of d n name = rw (plain, new, absent) refl in
       omega (arith, some, naming_cells (system_rows d name) n, here, sum_found name f d.tables there)
 
@@ -129,7 +130,7 @@ module _ (takes : TakenPlacesHoldTheirText) (gives : GivenBackTakesOne) (p : Pai
   rest n m = if is_schema_table m then (if changes_schema t then 0 else uses_of d n m) else if not (has_table m p.new.database) then 0 else if is_some (find list_cmp m t.tables) then 0 else uses_of d n m
 
   abbrev unchanged_at : ℕ → List ℕ → ℕ
-  unchanged_at n = unchanged p.old exact p.new.database order.has_tables order.has_columns t.tables (transform_sorted p t is) (new_in_transform p t is) n
+  unchanged_at n = unchanged p.old exact p.new.database order.has_tables order.has_columns t.tables (sorted_in_transform p t is) (new_in_transform p t is) n
 
   changed_total : (schema : SchemaInHand) → changes_schema t ≡ true → (n : ℕ) → uses_in_schema schema n + (cells n + beside p t is exact order n) ≡ room schema.pool.places n
       → room schema.pool.places n ≡ cells n + (cells_anew (systems_anew t schema) n + named_sum (rest n) d.tables)
@@ -194,6 +195,7 @@ module _ (takes : TakenPlacesHoldTheirText) (gives : GivenBackTakesOne) (p : Pai
             ∙ rows_ran takes gives p t passing is can schema columns streams named (beside p t is exact order) enough are.kept fits,
         record {
           columns = columns;
+          names = end_new takes gives p t passing is can schema columns streams named (beside p t is exact order) enough are.kept fits;
           anew = end_anew takes gives p t passing is can schema columns streams named (beside p t is exact order) enough are.kept fits;
           stay = each_stays after (λ name plain is_named new not_anew.
               let absent = without_record takes gives p t passing is can schema columns streams named (beside p t is exact order) enough are.kept fits name plain is_named not_anew in
@@ -235,6 +237,7 @@ module _ (takes : TakenPlacesHoldTheirText) (gives : GivenBackTakesOne) (p : Pai
             ∙ rows_ran takes gives p t passing is can schema columns same.streams named (beside p t is exact order) enough texts fits,
         record {
           columns = columns;
+          names = end_new takes gives p t passing is can schema columns same.streams named (beside p t is exact order) enough texts fits;
           anew = end_anew takes gives p t passing is can schema columns same.streams named (beside p t is exact order) enough texts fits;
           stay = each_stays after (λ name plain is_named new not_anew.
               let absent = without_record takes gives p t passing is can schema columns same.streams named (beside p t is exact order) enough texts fits name plain is_named not_anew in

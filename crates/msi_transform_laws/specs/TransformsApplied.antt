@@ -23,12 +23,15 @@ pub record StaysNew (p : Pair) (after : TablesInHand) (name : List ℕ) : Type 0
   pub rows : told_rows p.old name 0 ≡ told_rows p.new name 0
   pub texts : TextsOfTableStay p.old name after
 
--- What is left has the new package's tables: each table of it has its columns; those that are stored anew, beside
--- `_Tables` and `_Columns`, have its rows, and so have those that aren't; and each other table of the old package goes
+-- What is left has the new package's tables, and no other: each table of it has its columns; those that are stored
+-- anew, beside `_Tables` and `_Columns`, are tables of it and have its rows; those that aren't have them too; and each
+-- other table of the old package goes
 pub record HasNewTables (p : Pair) (t : TransformDef) (passing : ErrorConditions) (told : TablesTold)
     (after : TablesInHand) : Type 0 where
   pub columns : AllByRecursion
       (λ name. HasNewColumns p.old p.new name (table_in_hand p.old.database told name)) (told_names p.new)
+  pub names : AllByRecursion (λ (table : TableAnew). is_schema_table table.name ≡ false
+      → has_table table.name p.new.database ≡ true) after.tables
   pub anew : AllByRecursion (λ (table : TableAnew). is_schema_table table.name ≡ false
       → HasNewRows p t passing after.pool.places table) after.tables
   pub stay : AllByRecursion (λ name. is_anew after name ≡ false → StaysNew p after name) (told_names p.new)
