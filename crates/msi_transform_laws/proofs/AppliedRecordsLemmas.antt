@@ -50,7 +50,7 @@ counts_of others places rows accounts = record {
 abbrev answer : {S : Type 0} → S → Result S Refusal
 answer s = Ok s
 
-same_answer : {S : Type 0} (s u : S) → answer s ≡ answer u → s ≡ u
+pub same_answer : {S : Type 0} (s u : S) → answer s ≡ answer u → s ≡ u
 same_answer s u is = cc
 
 answered_first : {S : Type 0} (r : Result S Refusal) (f : S → Result S Refusal) (u : S) → (r >>= f) ≡ answer u → (x : S) × (r ≡ answer x) × (f x ≡ answer u)

@@ -1,6 +1,6 @@
 -- The streams of a transform that is made are those of the new package's rows.
 use Rattle.std.proofs.Common.{◌≡◌, ℕ, ◌-◌, Bool, true, false, cond, ◌&&◌, List, [], ◌∷◌, ◌++◌, length, map, filter, fold, drop, refl, sym, ap, subst, ◌∙◌}
-use Rattle.std.specs.Prelude.{Option, Some, None, is_some, if◌then◌else◌, option_and_then, nat_lt, ◌==◌}
+use Rattle.std.specs.Prelude.{Ok, Option, Some, None, is_some, if◌then◌else◌, option_and_then, nat_lt, ◌==◌}
 use Rattle.std.specs.FinMap.{find}
 use Rattle.std.specs.FinMap.Entries.{find-put, find_tied}
 use Rattle.std.specs.List.{AllByRecursion, cons_option, flat_map}
@@ -26,7 +26,7 @@ use Rattle.msi_transform_records.specs.declared.action.Action.TheVariants.{Add, 
 use Rattle.msi_transform.specs.Transforms.{TransformDef}
 use Rattle.msi_transform_rows.specs.KeyOfRows.{key_cmp}
 use Rattle.msi_transform_rows.specs.RowStreams.{has_streams, row_stream}
-use Rattle.msi_transform_making.specs.Making.{ToldRecord, ToldRow, ToldRows, ToldTable, addition, can_be_marked, change_of_row, changes, changing, columns_before, columns_in_table, described_columns, describing_record, differences, differing, first_told, has_bit_for, is_replaced, is_told, listing_record, marked_values, names_beside, or_first_told, reasons, records_of_columns, records_of_table, removal, stream_of_row, tells_stream, told_names, told_row, told_rows, told_table, told_tables, values_in_table, with_told_stream, with_told_streams}
+use Rattle.msi_transform_making.specs.Making.{Pair, ToldRecord, ToldRow, ToldRows, ToldTable, addition, can_be_marked, change_of_row, changes, changing, columns_before, columns_in_table, described_columns, describing_record, differences, differing, first_told, has_bit_for, is_replaced, is_told, listing_record, made, marked_values, names_beside, or_first_told, reasons, records_of_columns, records_of_table, removal, stream_of_row, tells_stream, told_names, told_row, told_rows, told_table, told_tables, values_in_table, with_told_stream, with_told_streams}
 use Rattle.msi_transform_laws.specs.CarriedOut.{AreNewRows, AreOldRows, IsTellable, carried_out}
 use Rattle.msi_transform_laws.specs.StreamsBrought.{HasItsStream, MadeStreamsAreBrought}
 use Rattle.msi_transform_laws.proofs.CarriedOutLemmas.{differences_give_new_rows}
@@ -266,3 +266,12 @@ made_streams_are_brought p t is are =
     let own = tables_own p.new p.old are in
     let put = tables_put p.new [] tables own (λ name bytes at. none_is at) in
     tables_brought t p.new (subst (AreOfNew p.new) streams_are put.0) tables own (subst (λ (streams : Streams). AllByRecursion (AreThere p.new streams) tables) streams_are put.2)
+
+-- and each of its streams is one of the new package
+pub made_streams_are_new : (p : Pair) (t : TransformDef) → made p ≡ Ok t → AllByRecursion (IsTellable p.old p.new) (told_names p.new) → (name bytes : List ℕ) → stream_at name t.streams ≡ Some bytes
+    → stream_at name p.new.streams ≡ Some bytes
+made_streams_are_new p t is are =
+    let tables = told_tables p.old p.new in
+    let s = made_by p.new_page p.new tables t (first_refusal (reasons p)) is in
+    let streams_are : fold with_told_streams [] tables ≡ t.streams = ap (λ (u : TransformDef). u.streams) s.2 in
+    subst (AreOfNew p.new) streams_are (tables_put p.new [] tables (tables_own p.new p.old are) (λ name bytes at. none_is at)).0

@@ -41,7 +41,7 @@ none_like name (e ∷ es) h =
     let apart : bytes_eq name e.0 ≡ false = sym (is_eq-slice_cmp name e.0) ∙ less (list_cmp name e.0) q.0 in
     rw (apart, none_like name es q.1) refl
 
-apart_sorted : (es : Tables) → T (is_sorted list_cmp es) → has_pair bytes_eq (map (λ (e : List ℕ × TableCells). e.0) es) ≡ false
+pub apart_sorted : (es : Tables) → T (is_sorted list_cmp es) → has_pair bytes_eq (map (λ (e : List ℕ × TableCells). e.0) es) ≡ false
 apart_sorted [] h = refl
 apart_sorted (e ∷ es) h =
     let q = T_parts (below_all list_cmp e.0 es) (is_sorted list_cmp es) h in

@@ -50,6 +50,23 @@ no_other_reason p t h =
     let four = not_first (lacks_text p.new) _ _ three.1 in
     (not_first (shares_stream p) _ _ four.1).1
 
+-- it loses no page, and lacks no text
+pub no_lack : (p : Pair) (t : TransformDef) → made p ≡ Ok t → (loses_page p ≡ false) × (lacks_text p.new ≡ false)
+no_lack p t h =
+    let one = not_first (is_unfit p.old) _ _ (no_reason p t h) in
+    let two = not_first (is_unfit p.new) _ _ one.1 in
+    let three = not_first (loses_page p) _ _ two.1 in
+    (three.0, (not_first (lacks_text p.new) _ _ three.1).0)
+
+-- no two texts name the stream of one row or another
+pub no_shared_stream : (p : Pair) (t : TransformDef) → made p ≡ Ok t → shares_stream p ≡ false
+no_shared_stream p t h =
+    let one = not_first (is_unfit p.old) _ _ (no_reason p t h) in
+    let two = not_first (is_unfit p.new) _ _ one.1 in
+    let three = not_first (loses_page p) _ _ two.1 in
+    let four = not_first (lacks_text p.new) _ _ three.1 in
+    (not_first (shares_stream p) _ _ four.1).0
+
 no_change_of : (p : Pair) (ns : List (List ℕ)) → first_refusal (flat_map (table_reasons p) ns) ≡ None
     → AllByRecursion (λ name. (has_table name p.old.database && not (keeps_columns p.old p.new name)) ≡ false) ns
 no_change_of p [] h = tt

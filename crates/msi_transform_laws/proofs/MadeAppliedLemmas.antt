@@ -48,11 +48,11 @@ all_staying : (d : Database) (es : Tables) → AllByRecursion IsPlainTable es �
 all_staying d [] h = tt
 all_staying d (e ∷ es) h = (h.0, all_staying d es h.1)
 
-all_read : (places : List Place) → list_all (λ (p : Place). (p.count == 0) || reads_back Utf8 p.text) places ≡ true
+pub all_read : (places : List Place) → list_all (λ (p : Place). (p.count == 0) || reads_back Utf8 p.text) places ≡ true
 all_read [] = refl
 all_read (p ∷ ps) = by_test (p.count == 0) (λ b. rw b (all_read ps)) (λ b. rw b (all_read ps))
 
-unrefused : (agree read : Bool) → agree ≡ true → read ≡ true → first_refusal ((not agree, InvalidInput) ∷ (not read, InvalidInput) ∷ []) ≡ None
+pub unrefused : (agree read : Bool) → agree ≡ true → read ≡ true → first_refusal ((not agree, InvalidInput) ∷ (not read, InvalidInput) ∷ []) ≡ None
 unrefused agree read a r = rw (a, r) refl
 
 pub tables_without_streams_are_stored : TablesWithoutStreamsAreStored

@@ -63,7 +63,7 @@ apart_passing p (x ∷ xs) h =
     let q = neither (list_any (bytes_eq x) xs) (has_pair bytes_eq xs) h in
     by_test (p x) (λ t. rw (t, none_passing (bytes_eq x) p xs q.0) (apart_passing p xs q.1)) (λ t. rw t (apart_passing p xs q.1))
 
-turned_name : (a b : List ℕ) → bytes_eq b a ≡ false → bytes_eq a b ≡ false
+pub turned_name : (a b : List ℕ) → bytes_eq b a ≡ false → bytes_eq a b ≡ false
 turned_name a b h = by_test (bytes_eq a b)
     (λ t. yes_is_no (bytes_eq b a) ((bytes_decides b a).1 (sym ((bytes_decides a b).0 t))) h)
     (λ t. t)

@@ -62,7 +62,7 @@ none_by_keys : (es : ToldRows) → by_keys es ≡ [] → es ≡ []
 none_by_keys [] h = refl
 none_by_keys (e ∷ es) h = let long = ap (λ (l : ToldRows). length l) h in absurd (omega (arith, long, some_put e.0 e.1 (by_keys es)))
 
-none_mapped : {X Y : Type 0} (f : X → Y) (xs : List X) → map f xs ≡ [] → xs ≡ []
+pub none_mapped : {X Y : Type 0} (f : X → Y) (xs : List X) → map f xs ≡ [] → xs ≡ []
 none_mapped f [] h = refl
 none_mapped {X} {Y} f (x ∷ xs) h = let long = ap (λ (l : List Y). length l) h in absurd (omega (arith, long))
 
@@ -80,7 +80,7 @@ module _ (p : Pair) (t : TransformDef) (passing : ErrorConditions) (name : List 
   gains : shapes_of (columns_in_table p.old name ++ table.added) ≡ shapes_of (columns_in_table p.new name) → nat_lt 0 (length table.added) ≡ true → 0 < length (columns_in_table p.new name) - length (columns_in_table p.old name)
   gains same longer = omega (arith, more_columns same, ltb-true 0 (length table.added) longer)
 
-  no_new_rows : (b : Bool) → has_table name d ≡ b → (standing : Standing) → StandsAs b standing → shapes_of (columns_of_package d name standing ++ table.added) ≡ shapes_of (columns_in_table p.new name)
+  pub no_new_rows : (b : Bool) → has_table name d ≡ b → (standing : Standing) → StandsAs b standing → shapes_of (columns_of_package d name standing ++ table.added) ≡ shapes_of (columns_in_table p.new name)
       → (is_added standing || (not (is_gone standing) && nat_lt 0 (length table.added))) ≡ true → told_rows p.new name 0 ≡ []
   no_new_rows true there stands.Kept stood same longer = (stays none).1 (gains same longer)
   no_new_rows true there (stands.Found next) stood same longer = (stays none).1 (gains same longer)
@@ -91,13 +91,13 @@ module _ (p : Pair) (t : TransformDef) (passing : ErrorConditions) (name : List 
   no_new_rows false there (stands.Found next) stood same longer = absurd stood
   no_new_rows false there stands.Gone stood same longer = absurd stood
 
-  no_old_rows : told_rows p.new name 0 ≡ [] → has_table name d ≡ true → system_rows d name ≡ []
+  pub no_old_rows : told_rows p.new name 0 ≡ [] → has_table name d ≡ true → system_rows d name ≡ []
   no_old_rows nothing there =
       let before : told_rows p.old name (length (columns_in_table p.new name) - columns_before d name) ≡ [] = (rw there at ((stays none).0)) ∙ nothing in
       let told = told_row p.old name (columns_in_table p.old name) (length (columns_in_table p.new name) - columns_before d name) in
       none_mapped (row_values d.pool.places) (system_rows d name) (none_mapped told (values_in_table p.old name) (none_by_keys (map told (values_in_table p.old name)) before))
 
-  no_rows_begun : told_rows p.new name 0 ≡ [] → (b : Bool) → has_table name d ≡ b → (standing : Standing) → StandsAs b standing → rows_of_package d name standing ≡ []
+  pub no_rows_begun : told_rows p.new name 0 ≡ [] → (b : Bool) → has_table name d ≡ b → (standing : Standing) → StandsAs b standing → rows_of_package d name standing ≡ []
   no_rows_begun nothing true there stands.Kept stood = no_old_rows nothing there
   no_rows_begun nothing true there (stands.Found next) stood = no_old_rows nothing there
   no_rows_begun nothing true there stands.Added stood = absurd stood
@@ -134,7 +134,7 @@ module _ (p : Pair) (t : TransformDef) (passing : ErrorConditions) (places : Lis
       let at : record { standing = stands.Gone; added = [] } ≡ table = some_is (record { standing = stands.Gone; added = [] }) table (sym gone ∙ found) in
       yes_is_no (is_lengthened table) longer (ap is_lengthened (sym at))
 
-  alone_new : (es : TablesTold) → AllByRecursion (λ (e : List ℕ × TableInHand). IsKnown p tables e.0) es
+  pub alone_new : (es : TablesTold) → AllByRecursion (λ (e : List ℕ × TableInHand). IsKnown p tables e.0) es
       → AllByRecursion (λ (e : List ℕ × TableInHand). find list_cmp e.0 tables ≡ Some e.1) es → AllByRecursion (HasNewRows p t passing places) (alone_in es)
   alone_new [] h found = tt
   alone_new (e ∷ es) h found = by_test (is_lengthened e.1 && is_none (records_for e.0 t))
@@ -152,7 +152,7 @@ left_by : (cells others : Uses) (schema : SchemaInHand) → CountsSchema (λ n. 
 left_by cells others schema counts zero some = omega (arith, some, counts.from_one)
 left_by cells others schema counts (suc i) some = omega (arith, some, counts.counts (suc i) (omega arith), room_at schema.pool.places (suc i) (omega arith))
 
-texts_ready : (p : Pair) (known : TablesTold) (s : TablesInHand) (es : List TableOfRecords)
+pub texts_ready : (p : Pair) (known : TablesTold) (s : TablesInHand) (es : List TableOfRecords)
     → ((n : ℕ) → 0 < cells_to_change p.old.database es n → text_at s.pool.places n ≡ text_at p.old.database.pool.places n)
     → AllByRecursion (λ (e : TableOfRecords). is_schema_table e.0 ≡ false → HasNewColumns p.old p.new e.0 (table_in_hand p.old.database known e.0) × HoldsStreams p.old e.0) es
     → AllByRecursion (IsReady p known s) es
@@ -162,7 +162,7 @@ texts_ready p known s (e ∷ es) stay h = (
   texts_ready p known s es (λ n some. stay n (omega (arith, some))) h.1,
 )
 
-both_all : (P Q : List ℕ → Type 0) (xs : List (List ℕ)) → AllByRecursion P xs → AllByRecursion Q xs → AllByRecursion (λ x. P x × Q x) xs
+pub both_all : (P Q : List ℕ → Type 0) (xs : List (List ℕ)) → AllByRecursion P xs → AllByRecursion Q xs → AllByRecursion (λ x. P x × Q x) xs
 both_all P Q [] h g = tt
 both_all P Q (x ∷ xs) h g = ((h.0, g.0), both_all P Q xs h.1 g.1)
 

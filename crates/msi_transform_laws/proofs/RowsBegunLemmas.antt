@@ -97,7 +97,7 @@ or_later : (a b c : Bool) → (a || (b || c)) ≡ ((a || b) || c)
 or_later true b c = refl
 or_later false b c = refl
 
-streams_beside : (columns added : List ColumnDef) → has_streams (columns ++ added) ≡ (has_streams columns || has_streams added)
+pub streams_beside : (columns added : List ColumnDef) → has_streams (columns ++ added) ≡ (has_streams columns || has_streams added)
 streams_beside [] added = refl
 streams_beside (c ∷ columns) added = ap (λ b. is_of_streams c.coltype || b) (streams_beside columns added) ∙ or_later (is_of_streams c.coltype) (has_streams columns) (has_streams added)
 

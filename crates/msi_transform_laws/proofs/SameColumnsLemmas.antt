@@ -32,7 +32,7 @@ page_passes false true c other h = refl
 page_passes false false true other h = refl
 page_passes false false false other h = rw (h refl) refl
 
-page_is : (p : Pair) (t : TransformDef) → made p ≡ Ok t → t.page_id ≡ p.new_page
+pub page_is : (p : Pair) (t : TransformDef) → made p ≡ Ok t → t.page_id ≡ p.new_page
 page_is p t is = let s = made_by p.new_page p.new (told_tables p.old p.new) t (first_refusal (reasons p)) is in ap (λ (u : TransformDef). u.page_id) (sym s.2)
 
 pub page_unrefused : (p : Pair) (t : TransformDef) (passing : ErrorConditions) → made p ≡ Ok t → PassesPage p passing → first_refusal (page_refusals p.old_page t passing) ≡ None
@@ -46,7 +46,7 @@ module _ (p : Pair) (s : TablesInHand) (same_places : s.pool.places ≡ p.old.da
   abbrev d : Database
   d = p.old.database
 
-  kept_by : (name : List ℕ) (b : Bool) → b ≡ true → has_table name d ≡ b → shapes_of (columns_in_table p.old name) ≡ shapes_of (columns_in_table p.new name)
+  pub kept_by : (name : List ℕ) (b : Bool) → b ≡ true → has_table name d ≡ b → shapes_of (columns_in_table p.old name) ≡ shapes_of (columns_in_table p.new name)
       → HasNewColumns p.old p.new name (record { standing = if b then stands.Kept else stands.Gone; added = [] })
   kept_by name true t there same = record {
     stands = subst (λ b. StandsAs b stands.Kept) (sym there) tt;

@@ -1,17 +1,23 @@
 -- Records of `_Tables` and of `_Columns` applied: tables that come, and columns that are added.
-use Rattle.std.proofs.Common.{◌≡◌, ℕ, ℤ, zero, suc, ◌+◌, ◌<◌, ◌≤◌, Bool, true, false, not, ◌&&◌, T, List, [], ◌∷◌, length, map, filter, zip, refl, sym, ap, ◌∙◌, arith}
-use Rattle.std.specs.Prelude.{pos, Option, Some, None, Ok, option_and_then, unwrap_or, if◌then◌else◌, int_lt, nat_le}
+use Rattle.std.proofs.Common.{◌≡◌, ℕ, ℤ, zero, suc, ◌+◌, ◌<◌, ◌≤◌, Bool, true, false, not, ◌&&◌, T, List, [], ◌∷◌, length, map, filter, zip, refl, sym, ap, subst, ◌∙◌, arith, cond, ◌++◌, length-append}
+use Rattle.std.specs.Prelude.{pos, Option, Some, None, Ok, option_and_then, unwrap_or, if◌then◌else◌, int_lt, nat_le, bytes_eq}
 use Rattle.std.specs.Cmp.{int_cmp_total, tied_itself}
-use Rattle.std.specs.FinMap.{is_sorted, put}
-use Rattle.std.specs.FinMap.Entries.{is_sorted-put}
-use Rattle.std.specs.Ordering.{is_eq}
+use Rattle.std.specs.FinMap.{find, is_sorted, put}
+use Rattle.std.specs.FinMap.Entries.{find-put, is_sorted-put}
+use Rattle.std.specs.List.{AllByRecursion, list_any}
+use Rattle.std.specs.Ordering.{eq_by_cmp, is_eq}
 use Rattle.std.specs.declared.cmp.Ordering.{Ordering}
-use Rattle.std.proofs.lemmas.Bool.{lt-leb}
+use Rattle.std.proofs.lemmas.Bool.{lt-leb, or_parts}
+use Rattle.std.proofs.lemmas.Map.Text.{is_eq-slice_cmp}
+use Rattle.msi_base.specs.Lists.{has_pair, list_cmp}
 use Rattle.msi_base.specs.declared.errors.ErrorKind.{ErrorKind}
 use Rattle.msi_base.specs.declared.errors.ErrorKind.TheVariants.{AlreadyExists, InvalidData, InvalidInput}
 use Rattle.msi_base.specs.Refusals.{first_refusal, or_refused, unless, unless_refused, ◌>>=◌}
+use Rattle.msi_base.proofs.BoolLemmas.{by_test, yes_is_no}
+use Rattle.msi_base.proofs.ListLemmas.{same_head}
 use Rattle.msi_pool.specs.FirstFitLaws.{text_at, TakenPlacesHoldTheirText, GivenBackTakesOne}
 use Rattle.msi_table_cells.specs.declared.cell.ValueRef.{ValueRef}
+use Rattle.msi_table_cells.specs.CellValues.{row_values}
 use Rattle.msi_table_values.specs.declared.value.Value.{Value}
 use Rattle.msi_table_values.specs.declared.value.Value.TheVariants.{Null, Int, Str, Binary}
 use Rattle.msi_table_values.specs.Columns.{ColumnDef, has_column}
@@ -30,7 +36,8 @@ use Rattle.msi_transform.specs.Transforms.{TransformDef, record_key, shapes_of, 
 use Rattle.msi_transform_rows.specs.KeyOfRows.{key_cmp}
 use Rattle.msi_transform_rows.specs.RecordRefusals.{in_turn_from}
 use Rattle.msi_transform_rows.specs.RowChanges.{Rows, cells_of}
-use Rattle.msi_transform_schema.specs.SchemaChanges.{SchemaChange, SchemaInHand, TableInHand, column_added, column_put, column_record_applied, column_row_added, columns_in_hand, counted_on, describing_applied, has_number, is_added, is_described, is_gone, is_name_to_list, is_next, listing_applied, name_to_list, new_column_refusals, number_told, old_column_refusals, plain_row, table_added, table_in_hand, table_put, table_record_applied, untold_table, with_column, with_table}
+use Rattle.msi_transform_rows.specs.declared.row.RowInHand.{RowInHand}
+use Rattle.msi_transform_schema.specs.SchemaChanges.{SchemaChange, SchemaInHand, TableInHand, column_added, column_key, column_put, column_record_applied, column_row_added, columns_in_hand, columns_of_package, counted_on, describing_applied, has_number, is_added, is_described, is_gone, is_name_to_list, is_next, listing_applied, name_to_list, new_column_refusals, number_told, old_column_refusals, plain_row, table_added, table_in_hand, table_put, table_record_applied, untold_table, with_column, with_table}
 use Rattle.msi_transform_schema.specs.SchemaChanges as schema
 use Rattle.msi_transform_schema.specs.declared.schema.Standing.{Standing}
 use Rattle.msi_transform_schema.specs.declared.schema.Standing.TheVariants as stands
@@ -43,10 +50,13 @@ use Rattle.msi_transform_laws.specs.RowsApplied.{SaySame, texts_in}
 use Rattle.msi_transform_laws.specs.SchemaApplied.{CanAddColumn, CanAddColumns, CanAddTable, CanAddTables, ColumnRecordsAreApplied, ColumnToAdd, CountsSchema, IsKeptOrAdded, IsNumber, ListingRecordsAreApplied, SchemaAfter, record_of_column, texts_of_columns, with_columns_added, with_tables_added}
 use Rattle.msi_transform_laws.proofs.AlikeRowsLemmas.{uses_in, uses_of_rows}
 use Rattle.msi_transform_laws.proofs.AppliedRecordsLemmas.{first_applied, naming_cells}
-use Rattle.msi_transform_laws.proofs.CarriedOutLemmas.{keys_total}
-use Rattle.msi_transform_laws.proofs.KeyedEntriesLemmas.{sum_of-put}
+use Rattle.msi_transform_laws.proofs.CarriedOutLemmas.{keys_total, same}
+use Rattle.msi_transform_laws.proofs.GoodTextsLemmas.{AreGood, HoldsGood, none_named}
+use Rattle.msi_transform_laws.proofs.KeyedEntriesLemmas.{held, sum_of-put}
+use Rattle.msi_transform_laws.proofs.ListedTablesLemmas.{exact_names}
 use Rattle.msi_transform_laws.proofs.PoolRoomLemmas.{all_put_there}
 use Rattle.msi_transform_laws.proofs.RecordValuesLemmas.{key_seen, padded, padded_cells, seen_beside}
+use Rattle.msi_transform_laws.proofs.StoredRecordsLemmas.{names_total}
 
 -- A ROW OF A SYSTEM TABLE THAT COMES
 
@@ -67,34 +77,58 @@ counts_from others s listed described enough = record {
   from_one = omega (arith, enough 0, naming_cells (cells_of s.listed) 0, naming_cells (cells_of s.described) 0);
 }
 
+-- the places count just these cells, beside others
+abbrev pub IsExactly : Uses → SchemaInHand → Type 0
+IsExactly others s = (n : ℕ) → uses_in_schema s n + others n ≡ room s.pool.places n
+
 -- a row that is put has no more cells than come
 put_within : (key : List Value) (cells : List ValueRef) (rows : Rows) (n : ℕ) → T (is_sorted key_cmp rows)
     → rows_uses (cells_of (put key_cmp key (plain_row cells) rows)) n ≤ rows_uses (cells_of rows) n + row_uses cells n
 put_within key cells rows n h = omega (arith, uses_of_rows rows n, uses_of_rows (put key_cmp key (plain_row cells) rows) n, sum_of-put (uses_in n) key (plain_row cells) rows h)
 
+-- and just these where there was none of its key
+put_exactly : (key : List Value) (cells : List ValueRef) (rows : Rows) (n : ℕ) → T (is_sorted key_cmp rows) → find key_cmp key rows ≡ None
+    → rows_uses (cells_of (put key_cmp key (plain_row cells) rows)) n ≡ rows_uses (cells_of rows) n + row_uses cells n
+put_exactly key cells rows n h none =
+    let nothing : held (uses_in n) (find key_cmp key rows) ≡ 0 = ap (held (uses_in n)) none in
+    omega (arith, uses_of_rows rows n, uses_of_rows (put key_cmp key (plain_row cells) rows) n, sum_of-put (uses_in n) key (plain_row cells) rows h, nothing)
+
 module _ (takes : TakenPlacesHoldTheirText) (gives : GivenBackTakesOne) (others : Uses) where
   -- the cells of a row that are put in the pool
-  pub record Put (s : SchemaInHand) (texts : ℕ) (r : List ValueRef × PoolInUse) : Type 0 where
+  pub record Put (s : SchemaInHand) (row : List Value) (r : List ValueRef × PoolInUse) : Type 0 where
     pub balance : (n : ℕ) → room r.1.places n ≡ room s.pool.places n + row_uses r.0 n
     pub kept : (n : ℕ) → 0 < others n → text_at r.1.places n ≡ text_at s.pool.places n
-    pub longer : length r.1.places ≤ length s.pool.places + texts
+    pub still : (n : ℕ) → 0 < room s.pool.places n → text_at r.1.places n ≡ text_at s.pool.places n
+    pub values : row_values r.1.places r.0 ≡ row
+    pub longer : length r.1.places ≤ length s.pool.places + texts_in row
 
   row_put : (s : SchemaInHand) (row : List Value) → CountsSchema others s → length s.pool.places + texts_in row ≤ 16777215
-      → (r : List ValueRef × PoolInUse) × (in_turn (cell_put true) s.pool row ≡ Some r) × Put s (texts_in row) r
+      → (r : List ValueRef × PoolInUse) × (in_turn (cell_put true) s.pool row ≡ Some r) × Put s row r
   row_put s row counts fits =
       let there = all_put_there s.pool row fits in
       let r = there.0 in
       let enough = enough_of others s counts in
-      let moved = rows_put_moves takes gives true others (row ∷ []) s.pool (r.0 ∷ [], r.1) (λ n. omega (arith, enough n))
+      let moved = rows_put_moves takes gives true (room s.pool.places) (row ∷ []) s.pool (r.0 ∷ [], r.1) (λ n. omega arith)
       (ap (option_and_then (λ (q : List ValueRef × PoolInUse). Some (q.0 ∷ [], q.1))) there.1) in (
         r,
         there.1,
         record {
           balance = λ n. omega (arith, moved.moved.balance n);
-          kept = moved.moved.texts;
+          kept = λ n some. moved.moved.texts n (omega (arith, some, enough n));
+          still = moved.moved.texts;
+          values = same_head (row_values r.1.places r.0) row [] [] moved.values;
           longer = there.2;
         },
       )
+
+  -- where its texts are good, so are those that are held
+  put_good : (good : List ℕ → Bool) (rest : Uses) (s : SchemaInHand) (row : List Value) (r : List ValueRef × PoolInUse) → Put s row r → AreGood good row → HoldsGood good rest s.pool.places
+      → HoldsGood good rest r.1.places
+  put_good good rest s row r moved fine holds n more = by_test (good (text_at r.1.places n))
+      (λ t. t)
+      (λ bad.
+      let none = none_named good r.1.places n bad r.0 (subst (AreGood good) (sym moved.values) fine) in
+      ap good (moved.still n (omega (arith, more, none, moved.balance n))) ∙ holds n (omega (arith, more, none, moved.balance n)))
 
 -- A RECORD OF `_Tables`
 
@@ -129,11 +163,40 @@ added_anew change s name can r put_is =
 pub same_first : (t : TransformDef) (r : ToldRecord) (rs : List ToldRecord) (q : Record) (qs : List Record) → SaySame t (r ∷ rs) (q ∷ qs) → (as_values t q ≡ action_and_values r) × SaySame t rs qs
 same_first t r rs q qs h = (cc, cc)
 
+-- no row lists the table
+abbrev pub IsAbsent : Rows → List ℕ → Type 0
+IsAbsent rows name = find key_cmp (Str name ∷ []) rows ≡ None
+
+abbrev pub text_in_key : List Value → List ℕ
+text_in_key (Str text ∷ vs) = text
+text_in_key _ = []
+
+abbrev pub number_in_key : List Value → ℕ
+number_in_key (v ∷ Int (pos n) ∷ vs) = n
+number_in_key _ = 0
+
+names_tied : (name : List ℕ) → bytes_eq name name ≡ true
+names_tied name = sym (is_eq-slice_cmp name name) ∙ ap is_eq (tied_itself names_total name)
+
+keys_apart : (name m : List ℕ) → bytes_eq name m ≡ false → eq_by_cmp key_cmp (Str m ∷ []) (Str name ∷ []) ≡ false
+keys_apart name m apart = by_test (eq_by_cmp key_cmp (Str m ∷ []) (Str name ∷ []))
+    (λ t. yes_is_no (bytes_eq name m) (ap (bytes_eq name) (ap text_in_key (same (Str m ∷ []) (Str name ∷ []) t)) ∙ names_tied name) apart)
+    (λ t. t)
+
+absent_later : (name : List ℕ) (row : RowInHand) (rows : Rows) (names : List (List ℕ)) → list_any (bytes_eq name) names ≡ false → AllByRecursion (IsAbsent rows) names → AllByRecursion (IsAbsent (put key_cmp (Str name ∷ []) row rows)) names
+absent_later name row rows [] apart h = tt
+absent_later name row rows (m ∷ ms) apart h =
+    let q = or_parts (bytes_eq name m) (list_any (bytes_eq name) ms) apart in
+    (find-put key_cmp keys_total (Str m ∷ []) (Str name ∷ []) row rows ∙ rw (keys_apart name m q.0) h.0, absent_later name row rows ms q.1 h.1)
+
 module _ (takes : TakenPlacesHoldTheirText) (gives : GivenBackTakesOne) (change : SchemaChange) (others : Uses) where
-  listings : (table number : ℕ) (names : List (List ℕ)) (before : SchemaInHand) (stored : List Record) → SaySame change.by (map (listing_record (Add 1)) names) stored
+  pub listings : (table number : ℕ) (names : List (List ℕ)) (before : SchemaInHand) (stored : List Record) → SaySame change.by (map (listing_record (Add 1)) names) stored
       → CanAddTables change.database before.tables names → CountsSchema others before → length before.pool.places + length names ≤ 16777215
       → (after : SchemaInHand) × (in_turn_from table (table_record_applied change name_shapes) number before stored ≡ Ok after) × SchemaAfter others (with_tables_added before.tables names) (length names) before after
-  listings table number [] before [] same can counts fits = (before, refl, record { tables = refl; counted = counts; kept = λ n some. refl; longer = omega arith })
+      × ((good : List ℕ → Bool) (rest : Uses) → AllByRecursion (λ name. good name ≡ true) names → HoldsGood good rest before.pool.places → HoldsGood good rest after.pool.places)
+      × (AllByRecursion (IsAbsent before.listed) names → has_pair bytes_eq names ≡ false → IsExactly others before → IsExactly others after × (after.described ≡ before.described))
+  listings table number [] before [] same can counts fits =
+      (before, refl, record { tables = refl; counted = counts; kept = λ n some. refl; longer = omega arith }, (λ good rest fine holds. holds), (λ absent apart exactly. (exactly, refl)))
   listings table number [] before (q ∷ qs) same can counts fits = absurd cc
   listings table number (name ∷ names) before [] same can counts fits = absurd cc
   listings table number (name ∷ names) before (q ∷ qs) same can counts fits =
@@ -144,14 +207,20 @@ module _ (takes : TakenPlacesHoldTheirText) (gives : GivenBackTakesOne) (change 
       let enough = enough_of others before counts in
       let now = counts_from others s (is_sorted-put key_cmp keys_total (Str name ∷ []) (plain_row r.0) before.listed counts.listed) counts.described
       (λ n. omega (arith, enough n, moved.balance n, put_within (Str name ∷ []) r.0 before.listed n counts.listed)) in
-      let (after, ran, are) = listings table (number + 1) names s qs says.1 can.1 now (omega (arith, fits, moved.longer)) in (
+      let (after, ran, are, stays, exact) = listings table (number + 1) names s qs says.1 can.1 now (omega (arith, fits, moved.longer)) in (
         after,
         first_applied table number (table_record_applied change name_shapes) before s q qs step ∙ ran,
         record { tables = are.tables; counted = are.counted; kept = λ n some. are.kept n some ∙ moved.kept n some; longer = omega (arith, are.longer, moved.longer) },
+        (λ good rest fine holds. stays good rest fine.1 (put_good takes gives others good rest before (Str name ∷ []) r moved (fine.0, tt) holds)),
+        (λ absent apart exactly.
+            let q = or_parts (list_any (bytes_eq name) names) (has_pair bytes_eq names) apart in
+            exact (absent_later name (plain_row r.0) before.listed names q.0 absent.1) q.1
+            (λ n. omega (arith, exactly n, moved.balance n, put_exactly (Str name ∷ []) r.0 before.listed n counts.listed absent.0))),
       )
 
 pub listing_records_are_applied : TakenPlacesHoldTheirText → GivenBackTakesOne → ListingRecordsAreApplied
-listing_records_are_applied takes gives change others before names stored table number same can counts fits = listings takes gives change others table number names before stored same can counts fits
+listing_records_are_applied takes gives change others before names stored table number same can counts fits =
+    let (after, ran, are, stays, exact) = listings takes gives change others table number names before stored same can counts fits in (after, ran, are)
 
 -- A RECORD OF `_Columns`
 
@@ -166,7 +235,7 @@ four_cells t (w ∷ x ∷ []) a b c d h = let long = ap (λ (l : List Value). le
 four_cells t (w ∷ x ∷ y ∷ []) a b c d h = let long = ap (λ (l : List Value). length l) h in absurd (omega (arith, long))
 four_cells t (w ∷ x ∷ y ∷ z ∷ u ∷ us) a b c d h = let long = ap (λ (l : List Value). length l) h in absurd (omega (arith, long))
 
-abbrev row_of : ColumnToAdd → List Value
+abbrev pub row_of : ColumnToAdd → List Value
 row_of c = Str c.table ∷ c.number ∷ c.name ∷ c.bits ∷ []
 
 -- neither its number nor its table's standing is out of the way
@@ -254,12 +323,65 @@ module _ (change : SchemaChange) (c : ColumnToAdd) (s : SchemaInHand) (can : Can
       ap (describing_applied change column_shapes s r) action
       ∙ ap (λ (row : List Value). column_row_added change row s) (ap (map (value_in change.by)) (padded_cells columns_columns r.cells) ∙ four_cells change.by r.cells (Str c.table) c.number c.name c.bits values)
 
+-- no row describes a column of a table behind those that it has in hand
+abbrev pub DescribesNoMore : Database → SchemaInHand → Type 0
+DescribesNoMore d s = (table : List ℕ) (number : ℕ) → length (columns_in_hand d table (table_in_hand d s.tables table)) < number → find key_cmp (column_key table number) s.described ≡ None
+
+module _ (d : Database) (c : ColumnToAdd) (s : SchemaInHand) (r : List ValueRef × PoolInUse) (no_more : DescribesNoMore d s) where
+  abbrev hand : TableInHand
+  hand = table_in_hand d s.tables c.table
+
+  abbrev with_it : TableInHand
+  with_it = record { standing = hand.standing; added = hand.added ++ c.column ∷ [] }
+
+  abbrev many : ℕ
+  many = length (columns_in_hand d c.table hand)
+
+  abbrev its_key : List Value
+  its_key = Str c.table ∷ Int (pos (many + 1)) ∷ []
+
+  one_more : length (columns_in_hand d c.table with_it) ≡ many + 1
+  one_more =
+      let old_columns = columns_of_package d c.table hand.standing in
+      omega (arith, length-append old_columns (hand.added ++ c.column ∷ []), length-append hand.added (c.column ∷ []), length-append old_columns hand.added)
+
+  hand_put : (table : List ℕ) (b : Bool) → eq_by_cmp list_cmp table c.table ≡ b → table_in_hand d (put list_cmp c.table with_it s.tables) table ≡ cond b with_it (table_in_hand d s.tables table)
+  hand_put table b t =
+      ap (λ (o : Option TableInHand). unwrap_or o (untold_table d table)) (find-put list_cmp names_total table c.table with_it s.tables ∙ ap (λ b. cond b (Some with_it) (find list_cmp table s.tables)) t) ∙ by_side b
+    where
+      by_side : (b : Bool) → unwrap_or (cond b (Some with_it) (find list_cmp table s.tables)) (untold_table d table) ≡ cond b with_it (table_in_hand d s.tables table)
+      by_side true = refl
+      by_side false = refl
+
+  pub no_more_later : DescribesNoMore d (with_column c.table hand c.column (pos (many + 1)) s r)
+  no_more_later table number less =
+      let put_found = find-put key_cmp keys_total (column_key table number) its_key (plain_row r.0) s.described in
+      by_test (eq_by_cmp list_cmp table c.table)
+      (λ t.
+      let same_table : table ≡ c.table = exact_names table c.table t in
+      let less_now : length (columns_in_hand d table with_it) < number = subst (λ (u : TableInHand). length (columns_in_hand d table u) < number) (hand_put table true t) less in
+      let now : length (columns_in_hand d table with_it) ≡ many + 1 = ap (λ (x : List ℕ). length (columns_in_hand d x with_it)) same_table ∙ one_more in
+      let before : length (columns_in_hand d table (table_in_hand d s.tables table)) ≡ many = ap (λ (x : List ℕ). length (columns_in_hand d x (table_in_hand d s.tables x))) same_table in
+      let differ : eq_by_cmp key_cmp (column_key table number) its_key ≡ false = by_test (eq_by_cmp key_cmp (column_key table number) its_key)
+      (λ u. let numbers : number ≡ many + 1 = ap number_in_key (same (column_key table number) its_key u) in absurd (omega (arith, less_now, now, numbers)))
+      (λ u. u) in
+      put_found ∙ rw differ (no_more table number (omega (arith, less_now, now, before))))
+      (λ t.
+      let less_now : length (columns_in_hand d table (table_in_hand d s.tables table)) < number = subst (λ (u : TableInHand). length (columns_in_hand d table u) < number) (hand_put table false t) less in
+      let differ : eq_by_cmp key_cmp (column_key table number) its_key ≡ false = by_test (eq_by_cmp key_cmp (column_key table number) its_key)
+      (λ u. yes_is_no (eq_by_cmp list_cmp table c.table) (ap (eq_by_cmp list_cmp table) (sym (ap text_in_key (same (column_key table number) its_key u))) ∙ ap is_eq (tied_itself names_total table)) t)
+      (λ u. u) in
+      put_found ∙ rw differ (no_more table number less_now))
+
 module _ (takes : TakenPlacesHoldTheirText) (gives : GivenBackTakesOne) (change : SchemaChange) (others : Uses) where
-  columns_put : (table number : ℕ) (cs : List ColumnToAdd) (before : SchemaInHand) (stored : List Record) → SaySame change.by (map record_of_column cs) stored
+  pub columns_put : (table number : ℕ) (cs : List ColumnToAdd) (before : SchemaInHand) (stored : List Record) → SaySame change.by (map record_of_column cs) stored
       → CanAddColumns change.database before.tables cs → CountsSchema others before → length before.pool.places + texts_of_columns cs ≤ 16777215
       → (after : SchemaInHand) × (in_turn_from table (column_record_applied change column_shapes) number before stored ≡ Ok after)
       × SchemaAfter others (with_columns_added change.database before.tables cs) (texts_of_columns cs) before after
-  columns_put table number [] before [] same can counts fits = (before, refl, record { tables = refl; counted = counts; kept = λ n some. refl; longer = omega arith })
+      × ((good : List ℕ → Bool) (rest : Uses) → AllByRecursion (λ c. AreGood good (row_of c)) cs → HoldsGood good rest before.pool.places → HoldsGood good rest after.pool.places)
+      × (DescribesNoMore change.database before → IsExactly others before → IsExactly others after)
+  columns_put table number [] before [] same can counts fits =
+      (before, refl, record { tables = refl; counted = counts; kept = λ n some. refl; longer = omega arith }, (λ good rest fine holds. holds), (λ no_more exactly. exactly))
   columns_put table number [] before (q ∷ qs) same can counts fits = absurd cc
   columns_put table number (c ∷ cs) before [] same can counts fits = absurd cc
   columns_put table number (c ∷ cs) before (q ∷ qs) same can counts fits =
@@ -272,12 +394,15 @@ module _ (takes : TakenPlacesHoldTheirText) (gives : GivenBackTakesOne) (change 
       let enough = enough_of others before counts in
       let now = counts_from others s counts.listed (is_sorted-put key_cmp keys_total key (plain_row r.0) before.described counts.described)
       (λ n. omega (arith, enough n, moved.balance n, put_within key r.0 before.described n counts.described)) in
-      let (after, ran, are) = columns_put table (number + 1) cs s qs says.1 can.1 now (omega (arith, fits, moved.longer)) in (
+      let (after, ran, are, stays, exact) = columns_put table (number + 1) cs s qs says.1 can.1 now (omega (arith, fits, moved.longer)) in (
         after,
         first_applied table number (column_record_applied change column_shapes) before s q qs step ∙ ran,
         record { tables = are.tables; counted = are.counted; kept = λ n some. are.kept n some ∙ moved.kept n some; longer = omega (arith, are.longer, moved.longer) },
+        (λ good rest fine holds. stays good rest fine.1 (put_good takes gives others good rest before row r moved (fine.0.0, (refl, (fine.0.1.1.0, (fine.0.1.1.1.0, tt)))) holds)),
+        (λ no_more exactly. exact (no_more_later change.database c before r no_more)
+            (λ n. omega (arith, exactly n, moved.balance n, put_exactly key r.0 before.described n counts.described (no_more c.table (length (columns_in_hand change.database c.table (table_in_hand change.database before.tables c.table)) + 1) (omega arith))))),
       )
 
 pub column_records_are_applied : TakenPlacesHoldTheirText → GivenBackTakesOne → ColumnRecordsAreApplied
 column_records_are_applied takes gives change others before columns stored table number same can counts fits =
-    columns_put takes gives change others table number columns before stored same can counts fits
+    let (after, ran, are, stays, exact) = columns_put takes gives change others table number columns before stored same can counts fits in (after, ran, are)

@@ -1,5 +1,5 @@
 -- The tables and columns of the new package, once the records of `_Tables` and `_Columns` are applied.
-use Rattle.std.proofs.Common.{◌≡◌, ℕ, zero, suc, inl, inr, ◌⊎◌, ap₂, length-append, ◌+◌, ◌*◌, ◌≤◌, Bool, true, false, cond, not, ◌&&◌, ◌||◌, List, [], ◌∷◌, ◌++◌, length, map, filter, drop, take, refl, sym, ap, subst, ◌∙◌, arith, append-nil, T}
+use Rattle.std.proofs.Common.{◌≡◌, ℕ, zero, suc, inl, inr, ◌⊎◌, ap₂, length-append, ◌+◌, ◌*◌, ◌≤◌, Bool, true, false, cond, not, ◌&&◌, ◌||◌, List, [], ◌∷◌, ◌++◌, length, map, filter, drop, take, refl, sym, ap, subst, ◌∙◌, arith, append-nil, T, ◌<◌}
 use Rattle.std.specs.Prelude.{Option, Some, None, Result, Ok, option_map, unwrap_or, if◌then◌else◌, nat_lt, bytes_eq, ◌==◌}
 use Rattle.std.specs.Cmp.{eq_by_cmp_equiv, tied_itself}
 use Rattle.std.specs.Cmp.Lexicographic.{bytes_decides}
@@ -15,7 +15,7 @@ use Rattle.msi_base.specs.declared.errors.ErrorKind.{ErrorKind}
 use Rattle.msi_base.specs.declared.errors.ErrorKind.TheVariants.{InvalidData}
 use Rattle.msi_base.specs.Refusals.{first_refusal, unless}
 use Rattle.msi_base.proofs.BoolLemmas.{T_parts, by_test, yes_is_no}
-use Rattle.msi_base.proofs.ListLemmas.{none_passes}
+use Rattle.msi_base.proofs.ListLemmas.{none_passes, same_head, same_tail}
 use Rattle.msi_base.proofs.OptionLemmas.{none_there, some_is}
 use Rattle.msi_pool.specs.FirstFitLaws.{TakenPlacesHoldTheirText, GivenBackTakesOne}
 use Rattle.msi_table_values.specs.declared.value.Value.{Value}
@@ -30,10 +30,11 @@ use Rattle.msi_transform_records.specs.declared.records.Record.{Record}
 use Rattle.msi_transform_records.specs.declared.shape.Shape.{Shape}
 use Rattle.msi_transform.specs.Transforms.{TransformDef, shapes_of}
 use Rattle.msi_transform.specs.declared.conditions.ErrorConditions.{ErrorConditions}
+use Rattle.msi_transform_rows.specs.KeyOfRows.{key_cmp}
 use Rattle.msi_transform_rows.specs.RecordRefusals.{Refusal, in_turn_from, nowhere, ◌>>=◌}
 use Rattle.msi_transform_rows.specs.TableRecords.{number_of}
 use Rattle.msi_transform_schema.specs.SchemaApplying.{complete_refusals, have_own_keys, records_applied, schema_begun, schema_changed, system_rows}
-use Rattle.msi_transform_schema.specs.SchemaChanges.{SchemaChange, SchemaInHand, TableInHand, TablesTold, are_complete, column_record_applied, columns_of_package, is_added, is_complete, is_name_to_list, is_unlisted, table_in_hand, table_record_applied, untold_table}
+use Rattle.msi_transform_schema.specs.SchemaChanges.{SchemaChange, SchemaInHand, TableInHand, TablesTold, are_complete, column_record_applied, column_key, columns_in_hand, columns_of_package, is_added, is_complete, is_name_to_list, is_unlisted, table_in_hand, table_record_applied, untold_table}
 use Rattle.msi_transform_schema.specs.declared.schema.Standing.{Standing}
 use Rattle.msi_transform_schema.specs.declared.schema.Standing.TheVariants as stands
 use Rattle.msi_transform_applying.specs.Applying.{change_with, is_broken}
@@ -50,12 +51,13 @@ use Rattle.msi_transform_laws.proofs.AddedColumnsLemmas.{all_added, columns_to_a
 use Rattle.msi_transform_laws.proofs.AppliedRecordsLemmas.{joined_applied}
 use Rattle.msi_transform_laws.proofs.CarriedOutLemmas.{less}
 use Rattle.msi_transform_laws.proofs.FitPackagesLemmas.{both_fit, no_table_reason}
+use Rattle.msi_transform_laws.proofs.GoodTextsLemmas.{AreGood, HoldsGood}
 use Rattle.msi_transform_laws.proofs.ListedTablesLemmas.{exact_names}
 use Rattle.msi_transform_laws.proofs.MadeRecordsLemmas.{apart_passing}
 use Rattle.msi_transform_laws.proofs.RowsBegunLemmas.{has_key, key_shapes}
-use Rattle.msi_transform_laws.proofs.SchemaAppliedLemmas.{column_records_are_applied, listing_records_are_applied, name_shapes}
+use Rattle.msi_transform_laws.proofs.SchemaAppliedLemmas.{DescribesNoMore, IsAbsent, IsExactly, columns_put, listings, name_shapes, row_of}
 use Rattle.msi_transform_laws.proofs.StoredRecordsLemmas.{names_total, other_name}
-use Rattle.msi_transform_laws.proofs.TablesRemovedLemmas.{removing_records_are_applied}
+use Rattle.msi_transform_laws.proofs.TablesRemovedLemmas.{Went, removals}
 use Rattle.msi_transform_laws.proofs.TableChangedLemmas.{all_there, broken_parts, each_among, whole}
 use Rattle.msi_transform_laws.proofs.SchemaListsLemmas.{AreAbsent, MayCome, MayGo, absent_columns, absent_tables, all_passing, by_stored, can_come, can_go, each_passing, found_added, found_removed, in_hand_then, is_new, list_of_columns, list_of_tables, names_differ, neither, none_absent, not_false, not_true, read_tables, standing_of}
 
@@ -66,12 +68,12 @@ names_taken zero columns = refl
 names_taken (suc n) [] = refl
 names_taken (suc n) (c ∷ columns) = ap (λ (l : List (List ℕ)). c.name ∷ l) (names_taken n columns)
 
-shapes_dropped : (n : ℕ) (columns : List ColumnDef) → shapes_of (drop n columns) ≡ drop n (shapes_of columns)
+pub shapes_dropped : (n : ℕ) (columns : List ColumnDef) → shapes_of (drop n columns) ≡ drop n (shapes_of columns)
 shapes_dropped zero columns = refl
 shapes_dropped (suc n) [] = refl
 shapes_dropped (suc n) (c ∷ columns) = shapes_dropped n columns
 
-taken_dropped : {X : Type 0} (n : ℕ) (xs : List X) → take n xs ++ drop n xs ≡ xs
+pub taken_dropped : {X : Type 0} (n : ℕ) (xs : List X) → take n xs ++ drop n xs ≡ xs
 taken_dropped zero xs = refl
 taken_dropped (suc n) [] = refl
 taken_dropped {X} (suc n) (x ∷ xs) = ap (λ (l : List X). x ∷ l) (taken_dropped n xs)
@@ -319,7 +321,7 @@ at_name P name (n ∷ ns) h among = by_test (eq_by_cmp list_cmp name n)
     (λ t. subst P (sym (exact_names name n t)) h.0)
     (λ t. at_name P name ns h.1 (rw t at among))
 
-passes_among : (q : List ℕ → Bool) (name : List ℕ) (names : List (List ℕ)) → list_any (eq_by_cmp list_cmp name) names ≡ true → q name ≡ true → list_any (eq_by_cmp list_cmp name) (filter q names) ≡ true
+pub passes_among : (q : List ℕ → Bool) (name : List ℕ) (names : List (List ℕ)) → list_any (eq_by_cmp list_cmp name) names ≡ true → q name ≡ true → list_any (eq_by_cmp list_cmp name) (filter q names) ≡ true
 passes_among q name [] among passes = yes_is_no false among refl
 passes_among q name (n ∷ ns) among passes = by_test (eq_by_cmp list_cmp name n)
     (λ t. let here : q n ≡ true = ap q (sym (exact_names name n t)) ∙ passes in rw (here, t) refl)
@@ -404,6 +406,17 @@ module _ (p : Pair) where
 
 -- THE SCHEMA OF A TRANSFORM THAT IS MADE
 
+-- columns that say the same as records with good texts
+good_columns : (good : List ℕ → Bool) (rs : List ToldRecord) (cs : List ColumnToAdd) → map action_and_values rs ≡ map action_and_values (map record_of_column cs)
+    → AllByRecursion (λ (r : ToldRecord). AreGood good r.values) rs → AllByRecursion (λ (c : ColumnToAdd). AreGood good (row_of c)) cs
+good_columns good [] [] same h = tt
+good_columns good [] (c ∷ cs) same h = absurd cc
+good_columns good (r ∷ rs) [] same h = absurd cc
+good_columns good (r ∷ rs) (c ∷ cs) same h = (
+  subst (λ (q : Action × List Value). AreGood good q.1) (same_head (action_and_values r) (action_and_values (record_of_column c)) (map action_and_values rs) (map action_and_values (map record_of_column cs)) same) h.0,
+  good_columns good rs cs (same_tail (action_and_values r) (action_and_values (record_of_column c)) (map action_and_values rs) (map action_and_values (map record_of_column cs)) same) h.1,
+)
+
 schema_unrefused : (tables columns : Bool) → tables ≡ true → columns ≡ true → first_refusal ((not tables, InvalidData) ∷ (not columns, InvalidData) ∷ []) ≡ None
 schema_unrefused tables columns t c = rw (t, c) refl
 
@@ -474,7 +487,7 @@ module _ (p : Pair) (t : TransformDef) (is : made p ≡ Ok t) (can : CanHaveReco
       (λ b. let g = rw b at h in let v = rw b at u in
       ((λ new. (not_false (is_name_to_list n) (neither (not (is_name_to_list n)) (has_table n p.new.database && is_broken p.new.database (columns_in_table p.new n) (system_rows p.new.database n)) g.0).0, v.0)), may_come ns g.1 v.1))
 
-  come_named : (ns : List (List ℕ)) → AllByRecursion (λ name. list_any (eq_by_cmp list_cmp name) names ≡ true) ns → AllByRecursion (IsNamed p) (filter (is_new old) ns)
+  pub come_named : (ns : List (List ℕ)) → AllByRecursion (λ name. list_any (eq_by_cmp list_cmp name) names ≡ true) ns → AllByRecursion (IsNamed p) (filter (is_new old) ns)
   come_named [] h = tt
   come_named (n ∷ ns) h = by_test (is_new old n)
       (λ b. rw b (passes_among (λ name. not (is_schema_table name)) n names h.0 (plain_new n b), come_named ns h.1))
@@ -522,7 +535,7 @@ module _ (p : Pair) (t : TransformDef) (is : made p ≡ Ok t) (can : CanHaveReco
   begins [] h = tt
   begins (n ∷ ns) h = (in_hand_then old without_gone n names (not_gone_yet n (is_some-find list_cmp n p.new.database.tables ∙ h.0)) h.0, begins ns h.1)
 
-  system_new : (name : List ℕ) → is_schema_table name ≡ true → has_table name p.new.database ≡ true
+  pub system_new : (name : List ℕ) → is_schema_table name ≡ true → has_table name p.new.database ≡ true
   system_new name h = elim (or_cases (bytes_eq name tables_name) (bytes_eq name columns_name) h) [
     | inl b ↦ ap (λ (n : List ℕ). has_table n p.new.database) ((bytes_decides name tables_name).0 b) ∙ adds.lists_too
     | inr b ↦ ap (λ (n : List ℕ). has_table n p.new.database) ((bytes_decides name columns_name).0 b) ∙ adds.describes_too
@@ -565,14 +578,50 @@ module _ (p : Pair) (t : TransformDef) (is : made p ≡ Ok t) (can : CanHaveReco
     abbrev final : TablesTold
     final = with_columns_added old with_come adding_all
 
-    first_list : (s : SchemaInHand) × (records_applied t tables_name tables_columns (table_record_applied change) begun ≡ Ok s) × SchemaAfter beside with_come (length come) begun s
+    -- where the texts that come are good, and those that are left once the tables that go are gone, so are those in the end
+    abbrev pub StaysGood : SchemaInHand → Type 0
+    StaysGood after = (good : List ℕ → Bool) (rest : Uses) → AllByRecursion (λ name. good name ≡ true) come
+        → AllByRecursion (λ (r : ToldRecord). AreGood good r.values) (flat_map (records_of_columns p.old p.new) (told_names p.new))
+        → ((mid : SchemaInHand) → Went old beside gone begun mid → HoldsGood good rest mid.pool.places) → HoldsGood good rest after.pool.places
+
+    -- and where the places count just the cells of the rows that are left then, which list and describe no other tables and columns than
+    -- those that stay, they count just the cells of all rows in the end
+    abbrev pub most_columns : List ℕ → ℕ
+    most_columns table = if has_table table p.new.database then length (columns_in_table p.old table) else 0
+
+    abbrev pub DescribesOnly : SchemaInHand → Type 0
+    DescribesOnly mid = (table : List ℕ) (number : ℕ) → most_columns table < number → find key_cmp (column_key table number) mid.described ≡ None
+
+    abbrev pub IsLeftExactly : Type 0
+    IsLeftExactly = (mid : SchemaInHand) → Went old beside gone begun mid → AllByRecursion (IsAbsent mid.listed) come × DescribesOnly mid × IsExactly beside mid
+
+    hand_long : (table : List ℕ) (c : Bool) → has_table table old ≡ c → length (columns_in_table p.old table) ≤ length (columns_of_package old table (if c then stands.Kept else stands.Added) ++ [])
+    hand_long table true there = let same = ap (λ (l : List ColumnDef). length l) (append-nil (columns_in_table p.old table)) in omega (arith, same)
+    hand_long table false there =
+        let none = ap (λ (o : Option TableCells). length (unwrap_or (option_map (λ (t : TableCells). t.columns) o) [])) (none_there (table_at table old) there) in omega (arith, none)
+
+    most_in_hand : (table : List ℕ) (b : Bool) → has_table table p.new.database ≡ b → (if b then length (columns_in_table p.old table) else 0) ≤ length (columns_in_hand old table (table_in_hand old with_come table))
+    most_in_hand table true there =
+        let hand = in_hand_then old without_gone table names (not_gone_yet table there) (sym (is_some-find list_cmp table p.new.database.tables) ∙ there) in
+        let long = ap (λ (u : TableInHand). length (columns_in_hand old table u)) hand in
+        omega (arith, long, hand_long table (has_table table old) refl)
+    most_in_hand table false there = omega arith
+
+    no_more_described : (mid u : SchemaInHand) → DescribesOnly mid → u.described ≡ mid.described → u.tables ≡ with_come → DescribesNoMore old u
+    no_more_described mid u only same tables table number less =
+        let less_now : length (columns_in_hand old table (table_in_hand old with_come table)) < number =
+        subst (λ (l : TablesTold). length (columns_in_hand old table (table_in_hand old l table)) < number) tables less in
+        ap (find key_cmp (column_key table number)) same ∙ only table number (omega (arith, less_now, most_in_hand table (has_table table p.new.database) refl))
+
+    first_list : (s : SchemaInHand) × (records_applied t tables_name tables_columns (table_record_applied change) begun ≡ Ok s) × SchemaAfter beside with_come (length come) begun s × StaysGood s
+        × (IsLeftExactly → DescribesNoMore old s × IsExactly beside s)
     first_list =
         let (stored, says, applies) = by_stored t (list_of_tables p) tables_columns refl (read_tables p t is can).0 (absent_tables p t is can) (table_record_applied change) begun in
         let number = number_of t tables_name in
         let (qs, rs, whole_stored, says_gone, says_come) = split_says t (map (listing_record Remove) gone) (map (listing_record (Add 1)) come) stored says in
-        let (s, ran, are) = removing_records_are_applied takes gives change beside begun gone qs number 0 says_gone
+        let (s, ran, are, went) = removals takes gives change beside number 0 gone begun qs says_gone
         (can_go old goes [] old_names adds.apart (may_go old_names (none_passes (is_odd_table p.old) (told_names p.old) (both_fit p t is).0) (each_among old_names)) (none_absent old old_names)) counts in
-        let (u, ran_too, are_too) = listing_records_are_applied takes gives change beside s come rs number (0 + length qs) says_come
+        let (u, ran_too, are_too, stays, exact) = listings takes gives change beside number (0 + length qs) come s rs says_come
         (subst (λ (l : TablesTold). CanAddTables old l come) (sym are.tables) (can_come old without_gone names can.apart (may_come names odd adds.unlisted) (all_absent names (new_there names (each_among names)))))
         are.counted (omega (arith, fits, are.longer)) in (
           u,
@@ -583,15 +632,29 @@ module _ (p : Pair) (t : TransformDef) (is : made p ≡ Ok t) (can : CanHaveReco
             kept = λ n some. are_too.kept n some ∙ are.kept n some;
             longer = omega (arith, are.longer, are_too.longer);
           },
+          (λ good rest names_good records_good holds. stays good rest names_good (holds s went)),
+          (λ left.
+              let (absent, only, exactly) = left s went in
+              let (exactly_too, same) = exact absent (apart_passing (is_new old) names can.apart) exactly in
+              (no_more_described s u only same (are_too.tables ∙ ap (λ (l : TablesTold). with_tables_added l come) are.tables), exactly_too)),
         )
 
     second_list : (s : SchemaInHand) → s.tables ≡ with_come → CountsSchema beside s → length s.pool.places + texts_of_columns adding_all ≤ 16777215
         → (u : SchemaInHand) × (records_applied t columns_name columns_columns (column_record_applied change) s ≡ Ok u) × SchemaAfter beside (with_columns_added old s.tables adding_all) (texts_of_columns adding_all) s u
+        × ((good : List ℕ → Bool) (rest : Uses) → AllByRecursion (λ (r : ToldRecord). AreGood good r.values) (flat_map (records_of_columns p.old p.new) (told_names p.new)) → HoldsGood good rest s.pool.places
+        → HoldsGood good rest u.pool.places)
+        × (DescribesNoMore old s → IsExactly beside s → IsExactly beside u)
     second_list s tables now room =
         let (stored, says, applies) = by_stored t (list_of_columns p) columns_columns refl (read_tables p t is can).1 (absent_columns p t is can) (column_record_applied change) s in
-        let (u, ran, are) = column_records_are_applied takes gives change beside s adding_all stored (number_of t columns_name) 0 (says ∙ same_in_all p (told_names p.new) gets_columns)
-        (subst (λ (l : TablesTold). CanAddColumns old l adding_all) (sym tables) columns_all.0) now room in
-        (u, applies u ran, are)
+        let (u, ran, are, stays, exact) = columns_put takes gives change beside (number_of t columns_name) 0 adding_all s stored (says ∙ same_in_all p (told_names p.new) gets_columns)
+        (subst (λ (l : TablesTold). CanAddColumns old l adding_all) (sym tables) columns_all.0) now room in (
+          u,
+          applies u ran,
+          are,
+          (λ good rest records_good holds.
+              stays good rest (good_columns good (flat_map (records_of_columns p.old p.new) (told_names p.new)) adding_all (same_in_all p (told_names p.new) gets_columns) records_good) holds),
+          exact,
+        )
 
     -- a table that goes is gone in the end
     one_gone : (m : List ℕ) → goes m ≡ true → list_any (eq_by_cmp list_cmp m) gone ≡ true → IsGone p final m
@@ -606,13 +669,13 @@ module _ (p : Pair) (t : TransformDef) (is : made p ≡ Ok t) (can : CanHaveReco
     all_gone [] g among = tt
     all_gone (m ∷ ms) g among = (one_gone m g.0 among.0, all_gone ms g.1 among.1)
 
-    pub whole_schema : (schema : SchemaInHand) × (schema_changed change ≡ Ok schema)
+    pub whole_schema_good : (schema : SchemaInHand) × (schema_changed change ≡ Ok schema)
         × AllByRecursion (λ name. HasNewColumns p.old p.new name (table_in_hand old schema.tables name)) (told_names p.new)
-        × SchemaAfter beside schema.tables (texts_of_schema p) begun schema × AreNamed p schema.tables schema.tables
-    whole_schema =
+        × SchemaAfter beside schema.tables (texts_of_schema p) begun schema × AreNamed p schema.tables schema.tables × AllByRecursion (IsGone p schema.tables) gone × StaysGood schema × (IsLeftExactly → IsExactly beside schema)
+    whole_schema_good =
         let few = few_in_all p (told_names p.new) gets_columns in
-        let (s, ran, are) = first_list in
-        let (u, ran_too, are_too) = second_list s are.tables are.counted (omega (arith, fits, few, are.longer)) in
+        let (s, ran, are, stays, exact) = first_list in
+        let (u, ran_too, are_too, stays_too, exact_too) = second_list s are.tables are.counted (omega (arith, fits, few, are.longer)) in
         let tables : u.tables ≡ final = are_too.tables ∙ ap (λ (l : TablesTold). with_columns_added old l adding_all) are.tables in
         let gone_then = all_gone gone (each_passing goes old_names) (each_among gone) in
         let named = named_columns p final with_come adding_all (named_all p (told_names p.new) gets_columns told_named)
@@ -633,7 +696,20 @@ module _ (p : Pair) (t : TransformDef) (is : made p ≡ Ok t) (can : CanHaveReco
             longer = omega (arith, are.longer, are_too.longer, few);
           },
           subst (λ (l : TablesTold). AreNamed p l l) (sym tables) named,
+          subst (λ (l : TablesTold). AllByRecursion (IsGone p l) gone) (sym tables) gone_then,
+          (λ good rest names_good records_good holds. stays_too good rest records_good (stays good rest names_good records_good holds)),
+          (λ left. let (no_more, exactly) = exact left in exact_too no_more exactly),
         )
+
+    pub whole_schema_gone : (schema : SchemaInHand) × (schema_changed change ≡ Ok schema)
+        × AllByRecursion (λ name. HasNewColumns p.old p.new name (table_in_hand old schema.tables name)) (told_names p.new)
+        × SchemaAfter beside schema.tables (texts_of_schema p) begun schema × AreNamed p schema.tables schema.tables × AllByRecursion (IsGone p schema.tables) gone
+    whole_schema_gone = let (schema, ran, columns, are, named, none, stays, exact) = whole_schema_good in (schema, ran, columns, are, named, none)
+
+    pub whole_schema : (schema : SchemaInHand) × (schema_changed change ≡ Ok schema)
+        × AllByRecursion (λ name. HasNewColumns p.old p.new name (table_in_hand old schema.tables name)) (told_names p.new)
+        × SchemaAfter beside schema.tables (texts_of_schema p) begun schema × AreNamed p schema.tables schema.tables
+    whole_schema = let (schema, ran, columns, are, named, none, stays, exact) = whole_schema_good in (schema, ran, columns, are, named)
 
 pub made_schema_is_new : TakenPlacesHoldTheirText → GivenBackTakesOne → MadeSchemaIsNew
 made_schema_is_new takes gives p t passing others is can adds counts fits =

@@ -111,7 +111,7 @@ module _ (k : Kept) (name : List ℕ) (odd : is_odd_table k name ≡ false) wher
   parts : (not (is_name_to_list name) ≡ false) × ((has_table name k.database && is_broken k.database (columns_in_table k name) (system_rows k.database name)) ≡ false)
   parts = neither (not (is_name_to_list name)) (has_table name k.database && is_broken k.database (columns_in_table k name) (system_rows k.database name)) odd
 
-  named : is_table_name name ≡ true
+  pub named : is_table_name name ≡ true
   named = (and_parts (is_table_name name) (not (is_schema_table name)) (not_false (is_name_to_list name) parts.0)).0
 
   pub whole : has_table name k.database ≡ true → is_broken k.database (columns_in_table k name) (system_rows k.database name) ≡ false

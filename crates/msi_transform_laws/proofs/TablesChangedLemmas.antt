@@ -60,11 +60,11 @@ use Rattle.msi_transform_laws.proofs.TableChangedLemmas.{broken_parts, fit_at, m
 
 -- THE CELLS OF A TABLE'S ROWS IN HAND ARE THOSE OF ITS ROWS, since no two rows share a key
 
-sorted_by_key : (es : Rows) → T (is_sorted key_cmp (by_key es))
+pub sorted_by_key : (es : Rows) → T (is_sorted key_cmp (by_key es))
 sorted_by_key [] = tt
 sorted_by_key (e ∷ es) = is_sorted-put key_cmp keys_total e.0 e.1 (by_key es) (sorted_by_key es)
 
-found_by_key : (q : List Value) (es : Rows) → find key_cmp q (by_key es) ≡ find key_cmp q es
+pub found_by_key : (q : List Value) (es : Rows) → find key_cmp q (by_key es) ≡ find key_cmp q es
 found_by_key q [] = refl
 found_by_key q (e ∷ es) = find-put key_cmp keys_total q e.0 e.1 (by_key es) ∙ by_test (eq_by_cmp key_cmp q e.0) (λ t. rw t refl) (λ t. rw t (found_by_key q es))
 
@@ -72,7 +72,7 @@ neither : (a b : Bool) → (a || b) ≡ false → (a ≡ false) × (b ≡ false)
 neither true b h = yes_is_no true refl h
 neither false b h = (refl, h)
 
-uses_by_key : (es : Rows) (n : ℕ) → has_pair same_key (map (λ e. e.0) es) ≡ false → sum_of (uses_in n) (by_key es) ≡ sum_of (uses_in n) es
+pub uses_by_key : (es : Rows) (n : ℕ) → has_pair same_key (map (λ e. e.0) es) ≡ false → sum_of (uses_in n) (by_key es) ≡ sum_of (uses_in n) es
 uses_by_key [] n apart = refl
 uses_by_key (e ∷ es) n apart =
     let p = neither (list_any (same_key e.0) (map (λ e. e.0) es)) (has_pair same_key (map (λ e. e.0) es)) apart in
@@ -92,7 +92,7 @@ module _ (places : List Place) (columns added : List ColumnDef) (n : ℕ) where
   uses_lengthened [] = refl
   uses_lengthened (row ∷ rows) = omega (arith, total-append cell_uses row (map null_in added) n, no_uses added n, uses_lengthened rows)
 
-  keys_lengthened : (rows : List (List ValueRef)) → AllByRecursion (λ (row : List ValueRef). length row ≡ length columns) rows → has_key added ≡ false
+  pub keys_lengthened : (rows : List (List ValueRef)) → AllByRecursion (λ (row : List ValueRef). length row ≡ length columns) rows → has_key added ≡ false
       → map (λ e. e.0) (lengthened rows) ≡ keys_of_rows places columns rows
   keys_lengthened [] whole plain = refl
   keys_lengthened (row ∷ rows) whole plain =
@@ -105,7 +105,7 @@ not_true : (b : Bool) → not b ≡ true → b ≡ false
 not_true true h = sym h
 not_true false h = refl
 
-no_rows_there : (d : Database) (name : List ℕ) → has_table name d ≡ false → system_rows d name ≡ []
+pub no_rows_there : (d : Database) (name : List ℕ) → has_table name d ≡ false → system_rows d name ≡ []
 no_rows_there d name none = ap (λ (o : Option TableCells). unwrap_or (option_map rows_of o) []) (none_there (table_at name d) none)
 
 module _ (p : Pair) (name : List ℕ) (added : List ColumnDef) (n : ℕ) (tellable : IsTellable p.old p.new name)
@@ -319,7 +319,7 @@ module _ (Q : List ℕ → Type 0) where
   all_stored_names places long (table ∷ tables) (e ∷ es) each h =
       (subst (λ (u : ToldTable). Q u.name) (sym each.0.0) h.0, all_stored_names places long tables es each.1 h.1)
 
-sorted_by_names : (es : List TableOfRecords) → T (is_sorted list_cmp (by_names es))
+pub sorted_by_names : (es : List TableOfRecords) → T (is_sorted list_cmp (by_names es))
 sorted_by_names [] = tt
 sorted_by_names (e ∷ es) = is_sorted-put list_cmp names_total e.0 e.1 (by_names es) (sorted_by_names es)
 
@@ -341,7 +341,7 @@ module _ (p : Pair) (t : TransformDef) where
   abbrev Named : List ℕ → Type 0
   Named name = is_schema_table name ≡ false → IsTellable p.old p.new name × Own p name × TableIsChanged p t (told_table p.old p.new name)
 
-  own_keys : made p ≡ Ok t → (name : List ℕ) → is_schema_table name ≡ false → Own p name
+  pub own_keys : made p ≡ Ok t → (name : List ℕ) → is_schema_table name ≡ false → Own p name
   own_keys is name s there =
       let columns = columns_in_table p.old name in
       (broken_parts (has_key columns) (list_any is_key_of_streams columns) (have_own_keys p.old.database.pool.places columns (system_rows p.old.database name))
@@ -366,7 +366,12 @@ all_in_transform p t is Q h =
     subst (λ (u : TransformDef). AllByRecursion (λ (e : TableOfRecords). Q e.0) u.tables) s.2
     (all_by_names Q (map (table_records long) s.0.0) (all_stored_names Q s.0.1.places long tables s.0.0 all.1 h))
 
-found_in_transform : (p : Pair) (t : TransformDef) → made p ≡ Ok t → AllByRecursion (λ (e : TableOfRecords). records_for e.0 t ≡ Some e.1) t.tables
+pub sorted_in_transform : (p : Pair) (t : TransformDef) → made p ≡ Ok t → T (is_sorted list_cmp t.tables)
+sorted_in_transform p t is =
+    let s = made_by p.new_page p.new (told_tables p.old p.new) t (first_refusal (reasons p)) is in
+    subst (λ (u : TransformDef). T (is_sorted list_cmp u.tables)) s.2 (sorted_by_names (map (table_records (is_long_with false s.0.1.places)) s.0.0))
+
+pub found_in_transform : (p : Pair) (t : TransformDef) → made p ≡ Ok t → AllByRecursion (λ (e : TableOfRecords). records_for e.0 t ≡ Some e.1) t.tables
 found_in_transform p t is =
     let s = made_by p.new_page p.new (told_tables p.old p.new) t (first_refusal (reasons p)) is in
     subst (λ (u : TransformDef). AllByRecursion (λ (e : TableOfRecords). find list_cmp e.0 u.tables ≡ Some e.1) u.tables) s.2

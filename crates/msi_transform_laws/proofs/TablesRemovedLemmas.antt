@@ -1,5 +1,5 @@
 -- Records of `_Tables` that remove tables, applied.
-use Rattle.std.proofs.Common.{◌≡◌, ℕ, zero, suc, ◌+◌, ◌<◌, Bool, true, false, cond, not, ◌||◌, T, List, [], ◌∷◌, length, map, filter, fold, zip, refl, ap, ◌∙◌, arith}
+use Rattle.std.proofs.Common.{◌≡◌, ℕ, zero, suc, ◌+◌, ◌<◌, ◌≤◌, Bool, true, false, cond, not, ◌||◌, T, List, [], ◌∷◌, length, map, filter, fold, zip, refl, ap, ◌∙◌, arith}
 use Rattle.std.specs.Prelude.{pos, Option, Some, None, Ok, filter_map, unwrap_or, if◌then◌else◌, count_by, ◌==◌}
 use Rattle.std.specs.FinMap.{find, is_sorted, put}
 use Rattle.std.specs.FinMap.Entries.{is_sorted-where_key}
@@ -10,14 +10,14 @@ use Rattle.msi_base.specs.Lists.{has_pair, list_cmp}
 use Rattle.msi_base.specs.declared.errors.ErrorKind.TheVariants.{InvalidData, NotFound}
 use Rattle.msi_base.specs.Refusals.{or_refused, unless_refused, ◌>>=◌}
 use Rattle.msi_base.proofs.BoolLemmas.{by_test, yes_is_no}
-use Rattle.msi_pool.specs.FirstFitLaws.{TakenPlacesHoldTheirText, GivenBackTakesOne}
+use Rattle.msi_pool.specs.FirstFitLaws.{text_at, TakenPlacesHoldTheirText, GivenBackTakesOne}
 use Rattle.msi_table.specs.Census.{numbers_of_rows}
 use Rattle.msi_table_cells.specs.declared.cell.ValueRef.{ValueRef}
 use Rattle.msi_table_cells.specs.KeyOrder.{same_key}
 use Rattle.msi_table_values.specs.declared.value.Value.{Value}
 use Rattle.msi_table_values.specs.declared.value.Value.TheVariants.{Int, Str}
 use Rattle.msi_database_schema.specs.Schema.{value_at}
-use Rattle.msi_database_schema.proofs.AccountLemmas.{Uses}
+use Rattle.msi_database_schema.proofs.AccountLemmas.{Uses, room}
 use Rattle.msi_database_changes.specs.Database.{Database}
 use Rattle.msi_database_changes.specs.Texts.{PoolInUse, cell_released, rows_released}
 use Rattle.msi_database_changes.proofs.text_counts.RowsLemmas.{rows_released_moves, rows_uses}
@@ -168,10 +168,28 @@ module _ (takes : TakenPlacesHoldTheirText) (gives : GivenBackTakesOne) (d : Dat
         longer = omega (arith, rows_released_long s.pool rows, rows_released_long first described, rows_released_long second listed);
       }
 
+  -- exactly the cells that were counted are given back, and each place that is still in use keeps its text
+  pub gone_exactly : ((n : ℕ) → room after.pool.places n + (uses_in_schema s n + rows_uses rows n) ≡ room s.pool.places n + uses_in_schema after n)
+      × ((n : ℕ) → uses_in_schema after n ≤ uses_in_schema s n) × ((n : ℕ) → 0 < left n → text_at after.pool.places n ≡ text_at s.pool.places n)
+  gone_exactly =
+      let enough = enough_of (λ n. count_by (λ m. m == n) (numbers_of_rows rows) + others n) s counts in
+      let one = rows_released_moves takes gives true (λ n. left n + rows_uses described n + rows_uses listed n) rows s.pool
+      (λ n. omega (arith, enough n, described_left n, listed_left n, naming_cells rows n)) in
+      let first = rows_released s.pool rows in
+      let two = rows_released_moves takes gives true (λ n. left n + rows_uses listed n) described first
+      (λ n. omega (arith, enough n, described_left n, listed_left n, naming_cells rows n, one.balance n)) in
+      let second = rows_released first described in
+      let three = rows_released_moves takes gives true left listed second
+      (λ n. omega (arith, enough n, described_left n, listed_left n, naming_cells rows n, one.balance n, two.balance n)) in (
+        (λ n. omega (arith, described_left n, listed_left n, one.balance n, two.balance n, three.balance n)),
+        (λ n. omega (arith, described_left n, listed_left n)),
+        (λ n some. three.texts n some ∙ two.texts n (omega (arith, some)) ∙ one.texts n (omega (arith, some))),
+      )
+
 -- A RECORD THAT REMOVES A TABLE
 
 module _ (change : SchemaChange) (r : Record) (name : List ℕ) (says : as_values change.by r ≡ (Remove, Str name ∷ [])) where
-  key_is : record_key change.by name_shapes r ≡ Str name ∷ []
+  pub key_is : record_key change.by name_shapes r ≡ Str name ∷ []
   key_is = key_seen change.by (zip (told name_shapes r.action) r.cells)
       ∙ ap (λ (l : List ((ℕ × Shape) × Value)). map (λ e. e.1) (filter is_of_key l)) (seen_beside change.by (told name_shapes r.action) r.cells)
       ∙ ap (λ (q : Action × List Value). map (λ e. e.1) (filter is_of_key (zip (told name_shapes q.0) q.1))) says
@@ -187,6 +205,25 @@ module _ (change : SchemaChange) (r : Record) (name : List ℕ) (says : as_value
       ∙ ap (λ (q : Action × List Value). listing_applied change s q.0 name) says
       ∙ ap (λ (t : TableInHand). if is_gone t.standing then unless_refused ((not change.passing.removed_table_missing, NotFound) ∷ []) s else Ok (with_table_gone change.database name t s)) table
 
+-- the keys of the rows that list a table and describe its columns, and rows without those of some tables
+abbrev pub own_key : List ℕ → List (List Value)
+own_key name = (Str name ∷ []) ∷ []
+
+abbrev pub own_columns : Database → List ℕ → List (List Value)
+own_columns d name = column_keys d name (record { standing = stands.Kept; added = [] })
+
+abbrev pub without_all : (List ℕ → List (List Value)) → List (List ℕ) → Rows → Rows
+without_all keys_of [] rows = rows
+without_all keys_of (name ∷ names) rows = without_all keys_of names (without_keys rows (keys_of name))
+
+-- tables that went gave back exactly their cells, and each place that is still in use has kept its text
+pub record Went (d : Database) (others : Uses) (names : List (List ℕ)) (before after : SchemaInHand) : Type 0 where
+  pub balance : (n : ℕ) → room after.pool.places n + (uses_in_schema before n + cells_removed d names n) ≡ room before.pool.places n + uses_in_schema after n
+  pub fewer : (n : ℕ) → uses_in_schema after n ≤ uses_in_schema before n
+  pub kept : (n : ℕ) → 0 < uses_in_schema after n + others n → text_at after.pool.places n ≡ text_at before.pool.places n
+  pub listed : after.listed ≡ without_all own_key names before.listed
+  pub described : after.described ≡ without_all (own_columns d) names before.described
+
 module _ (takes : TakenPlacesHoldTheirText) (gives : GivenBackTakesOne) (change : SchemaChange) (others : Uses) where
   fewer_counted : (s : SchemaInHand) → CountsSchema (λ n. 0 + others n) s → CountsSchema others s
   fewer_counted s counts = record { listed = counts.listed; described = counts.described; counts = λ n one. omega (arith, counts.counts n one); from_one = omega (arith, counts.from_one) }
@@ -195,10 +232,16 @@ module _ (takes : TakenPlacesHoldTheirText) (gives : GivenBackTakesOne) (change 
       → CountsSchema (λ n. count_by (λ m. m == n) (numbers_of_rows (system_rows change.database name)) + (cells_removed change.database names n + others n)) s
   regrouped s name names counts = record { listed = counts.listed; described = counts.described; counts = λ n one. omega (arith, counts.counts n one); from_one = omega (arith, counts.from_one) }
 
-  removals : (table number : ℕ) (names : List (List ℕ)) (before : SchemaInHand) (stored : List Record) → SaySame change.by (map (listing_record Remove) names) stored
+  pub removals : (table number : ℕ) (names : List (List ℕ)) (before : SchemaInHand) (stored : List Record) → SaySame change.by (map (listing_record Remove) names) stored
       → CanRemoveTables change.database before.tables names → CountsSchema (λ n. cells_removed change.database names n + others n) before
       → (after : SchemaInHand) × (in_turn_from table (table_record_applied change name_shapes) number before stored ≡ Ok after) × SchemaAfter others (with_tables_removed before.tables names) 0 before after
-  removals table number [] before [] says can counts = (before, refl, record { tables = refl; counted = fewer_counted before counts; kept = λ n some. refl; longer = omega arith })
+      × Went change.database others names before after
+  removals table number [] before [] says can counts = (
+    before,
+    refl,
+    record { tables = refl; counted = fewer_counted before counts; kept = λ n some. refl; longer = omega arith },
+    record { balance = λ n. omega arith; fewer = λ n. omega arith; kept = λ n some. refl; listed = refl; described = refl },
+  )
   removals table number [] before (q ∷ qs) says can counts = absurd cc
   removals table number (name ∷ names) before [] says can counts = absurd cc
   removals table number (name ∷ names) before (q ∷ qs) says can counts =
@@ -206,11 +249,20 @@ module _ (takes : TakenPlacesHoldTheirText) (gives : GivenBackTakesOne) (change 
       let beside : Uses = λ n. cells_removed change.database names n + others n in
       let s = with_table_gone change.database name (record { standing = stands.Kept; added = [] }) before in
       let one = gone takes gives change.database beside name before (regrouped before name names counts) in
-      let (after, ran, are) = removals table (number + 1) names s qs parts.1 can.1 one.counted in (
+      let (balance, fewer, still) = gone_exactly takes gives change.database beside name before (regrouped before name names counts) in
+      let (after, ran, are, went) = removals table (number + 1) names s qs parts.1 can.1 one.counted in (
         after,
         first_applied table number (table_record_applied change name_shapes) before s q qs (removed_by change q name parts.0 before can.0) ∙ ran,
         record { tables = are.tables; counted = are.counted; kept = λ n some. are.kept n some ∙ one.kept n (omega (arith, some)); longer = omega (arith, are.longer, one.longer) },
+        record {
+          balance = λ n. omega (arith, balance n, went.balance n, naming_cells (system_rows change.database name) n);
+          fewer = λ n. omega (arith, fewer n, went.fewer n);
+          kept = λ n some. went.kept n some ∙ still n (omega (arith, some, went.fewer n));
+          listed = went.listed;
+          described = went.described;
+        },
       )
 
 pub removing_records_are_applied : TakenPlacesHoldTheirText → GivenBackTakesOne → RemovingRecordsAreApplied
-removing_records_are_applied takes gives change others before names stored table number says can counts = removals takes gives change others table number names before stored says can counts
+removing_records_are_applied takes gives change others before names stored table number says can counts =
+    let (after, ran, are, went) = removals takes gives change others table number names before stored says can counts in (after, ran, are)

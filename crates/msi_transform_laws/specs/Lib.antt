@@ -1,10 +1,13 @@
 -- The words of this crate.
 pub mod CanFollow
 pub mod CarriedOut
+pub mod CountsLeft
 pub mod DescribedPackages
+pub mod ExactPackages
 pub mod MadeApplied
 pub mod MoreConditions
 pub mod NewTables
+pub mod PremisesMet
 pub mod RecordsRead
 pub mod RowsApplied
 pub mod RowsBegun
@@ -12,9 +15,12 @@ pub mod SameColumns
 pub mod SamePackages
 pub mod SchemaApplied
 pub mod SchemaMade
+pub mod StreamsAgree
 pub mod StreamsBrought
 pub mod TableApplied
 pub mod TableChanged
 pub mod TablesChanged
 pub mod TablesRemoved
 pub mod TablesWithoutRecords
+pub mod TextsLeft
+pub mod TransformsApplied
