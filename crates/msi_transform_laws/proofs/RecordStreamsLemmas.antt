@@ -216,8 +216,7 @@ module _ (change : TableChange) where
         (ap (λ (x : Heard). is_some (later x h)) (heard_at n at None))
     told_agrees (Some Brought) was stored told is wanted n at h g =
         let b = brings stored is in
-        subst (λ (l : List Stored). Agrees change.by wanted n Brought (later (heard n l) h)) b.2
-        (
+        subst (λ (l : List Stored). Agrees change.by wanted n Brought (later (heard n l) h)) b.2 (
           ap (λ (x : Heard). is_some (later x h)) (heard_at n at (Some b.0)),
           (λ s. ap (λ (x : Heard). later x h) (heard_at n at (Some b.0)) ∙ ap Some (sym (stream_brought n b.0 at b.1))),
         )

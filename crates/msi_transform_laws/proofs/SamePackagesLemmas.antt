@@ -128,8 +128,8 @@ module _ (k : Kept) (described : ColumnsAreDescribed k) where
       let before = columns_before k.database name in
       let none : length columns - before ≡ 0 = omega arith in
       rw there (
-        ap (λ (added : ℕ). let rows = told_rows k name added in or_first_told columns before added rows (differences columns rows (told_rows k name 0))) none
-        ∙ rw (no_differences columns (told_rows k name 0) (sorted_told k name 0)) refl
+      ap (λ (added : ℕ). let rows = told_rows k name added in or_first_told columns before added rows (differences columns rows (told_rows k name 0))) none
+      ∙ rw (no_differences columns (told_rows k name 0) (sorted_told k name 0)) refl
       )
 
   all_columns : (names : List (List ℕ)) → AllByRecursion (λ name. not (is_schema_table name) ≡ true) names → AllByRecursion (λ name. has_table name k.database ≡ true) names → flat_map (records_of_columns k k) names ≡ []

@@ -1,5 +1,5 @@
--- The streams of rows once a transform that is made is applied to the old package: each row has the stream that it is to
--- have, also where the streams of several rows have one name.
+-- The streams of rows once a transform that is made is applied to the old package: each row has the stream that it is
+-- to have, also where the streams of several rows have one name.
 use Rattle.std.specs.Prelude.{◌≡◌, ℕ, ◌+◌, ◌≤◌, Bool, true, false, List, length, map, Ok, bytes_eq}
 use Rattle.std.specs.List.{AllByRecursion}
 use Rattle.msi_base.specs.Lists.{has_pair}
