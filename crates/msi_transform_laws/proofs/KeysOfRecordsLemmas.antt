@@ -1,13 +1,12 @@
 -- The keys of a table's records are those of rows that the old package has, or the new one.
-use Rattle.std.proofs.Common.{◌≡◌, ℕ, ◌-◌, Bool, true, false, not, ◌&&◌, List, [], ◌∷◌, ◌++◌, length, map, filter, fold, zip, Option, Some, None, is_some, refl, sym, ap, subst, ◌∙◌, ◌⊎◌, inl, inr}
+use Rattle.std.proofs.Common.{◌≡◌, ℕ, ◌-◌, true, false, ◌&&◌, List, [], ◌∷◌, ◌++◌, length, map, filter, zip, Option, Some, None, is_some, refl, sym, ap, subst, ◌∙◌, ◌⊎◌, inl, inr}
 use Rattle.std.specs.Prelude.{Ok, if◌then◌else◌, nat_lt, option_and_then, ◌==◌}
 use Rattle.std.specs.Cmp.{tied_itself}
-use Rattle.std.specs.FinMap.{find, put}
+use Rattle.std.specs.FinMap.{find}
 use Rattle.std.specs.FinMap.Entries.{find-put}
 use Rattle.std.specs.List.{AllByRecursion, cons_option}
 use Rattle.std.specs.Ordering.{eq_by_cmp}
-use Rattle.msi_base.proofs.BoolLemmas.{by_test, yes_is_no}
-use Rattle.msi_base.proofs.OptionLemmas.{none_is, some_is}
+use Rattle.msi_base.proofs.BoolLemmas.{by_test}
 use Rattle.msi_table_cells.specs.CellValues.{row_values}
 use Rattle.msi_table_cells.specs.KeyOrder.{key_of}
 use Rattle.msi_table_cells.specs.declared.cell.ValueRef.{ValueRef}
@@ -21,12 +20,12 @@ use Rattle.msi_transform_records.specs.declared.records.Record.{Record}
 use Rattle.msi_transform_records.specs.declared.shape.Shape.{Shape}
 use Rattle.msi_transform_records.specs.Actions.{told}
 use Rattle.msi_transform_records.specs.Records.{records_in}
-use Rattle.msi_transform.specs.Transforms.{TransformDef, record_key, records_for, shapes_of, value_in}
+use Rattle.msi_transform.specs.Transforms.{TransformDef, record_key, records_for, shapes_of}
 use Rattle.msi_transform.specs.declared.conditions.ErrorConditions.{ErrorConditions}
 use Rattle.msi_transform_rows.specs.KeyOfRows.{key_cmp}
 use Rattle.msi_transform_rows.specs.RowChanges.{TableChange}
 use Rattle.msi_transform_schema.specs.SchemaApplying.{system_rows}
-use Rattle.msi_transform_making.specs.Making.{Pair, ToldRecord, ToldRow, ToldRows, ToldTable, addition, by_keys, can_be_marked, change_of_row, changes, changing, columns_before, columns_in_table, differences, differing, first_told, has_bit_for, is_replaced, made, or_first_told, records_of_table, removal, told_names, told_row, told_rows, told_table, told_tables, values_in_table}
+use Rattle.msi_transform_making.specs.Making.{Pair, ToldRecord, ToldRow, ToldRows, ToldTable, addition, by_keys, can_be_marked, change_of_row, changes, changing, columns_before, columns_in_table, differences, differing, first_told, has_bit_for, is_replaced, made, or_first_told, records_of_table, removal, told_row, told_rows, told_table, told_tables, values_in_table}
 use Rattle.msi_transform_laws.specs.CarriedOut.{IsTellable, is_of_key}
 use Rattle.msi_transform_laws.specs.RecordsRead.{action_and_values, as_values, values_read}
 use Rattle.msi_transform_laws.specs.RowsApplied.{IsInTransform, SaySame}

@@ -1,5 +1,5 @@
 -- The streams of rows agree: for a transform that is made, from the records of `_Tables` on.
-use Rattle.std.proofs.Common.{◌≡◌, ℕ, ◌+◌, Bool, true, false, not, ◌&&◌, ◌||◌, List, [], ◌∷◌, ◌++◌, length, map, filter, append-nil, Option, Some, None, is_some, Result, Ok, Err, refl, sym, ap, subst, ◌∙◌, arith, inl, inr}
+use Rattle.std.proofs.Common.{◌≡◌, ℕ, ◌+◌, Bool, true, false, not, ◌&&◌, ◌||◌, List, [], ◌∷◌, ◌++◌, length, map, filter, append-nil, Option, Some, None, is_some, Ok, refl, sym, ap, subst, ◌∙◌, arith, inl, inr}
 use Rattle.std.specs.Prelude.{bytes_eq, if◌then◌else◌, is_none, unwrap_or}
 use Rattle.std.specs.FinMap.{find}
 use Rattle.std.specs.FinMap.Entries.{is_some-find}
@@ -16,7 +16,6 @@ use Rattle.msi_table_cells.specs.declared.cell.ValueRef.{ValueRef}
 use Rattle.msi_table_cells.specs.CellValues.{row_values}
 use Rattle.msi_table_cells.specs.KeyOrder.{key_of}
 use Rattle.msi_table_values.specs.declared.value.Value.{Value}
-use Rattle.msi_table_values.specs.Columns.{ColumnDef}
 use Rattle.msi_database_schema.specs.System.{columns_columns, columns_name, is_schema_table, tables_columns, tables_name}
 use Rattle.msi_database_schema.specs.Keys.{table_key}
 use Rattle.msi_database_schema.proofs.AccountLemmas.{Uses}
@@ -29,18 +28,17 @@ use Rattle.msi_transform_records.specs.declared.records.Record.{Record}
 use Rattle.msi_transform.specs.Transforms.{TransformDef, records_for, shapes_of}
 use Rattle.msi_transform.specs.declared.conditions.ErrorConditions.{ErrorConditions}
 use Rattle.msi_transform_rows.specs.KeyOfRows.{key_cmp}
-use Rattle.msi_transform_rows.specs.RecordRefusals.{Refusal, nowhere, ◌>>=◌}
+use Rattle.msi_transform_rows.specs.RecordRefusals.{nowhere, ◌>>=◌}
 use Rattle.msi_transform_rows.specs.RowChanges.{keyed}
 use Rattle.msi_transform_rows.specs.RowStreams.{has_streams, row_stream, row_stream_gone}
 use Rattle.msi_transform_rows.specs.TableRecords.{changes_schema}
 use Rattle.msi_transform_schema.specs.SchemaApplying.{page_refusals, schema_applied, schema_changed, schema_untouched, system_rows}
 use Rattle.msi_transform_schema.specs.SchemaChanges.{SchemaChange, SchemaInHand, TableInHand, TablesTold, columns_in_hand, columns_of_package, is_gone, rows_of_package, table_in_hand, untold_table}
-use Rattle.msi_transform_schema.specs.declared.schema.Standing.{Standing}
 use Rattle.msi_transform_schema.specs.declared.schema.Standing.TheVariants as stands
 use Rattle.msi_transform_applying.specs.Applying.{TableAnew, TablesChanged, TablesInHand, change_with, changed_with, gains_streams, is_anew, is_lengthened, lengthened_alone, lengthened_row, rows_applied, rows_changed, streams_agree, streams_begun, system_anew, systems_anew, table_lengthened, tables_begun, tables_changed, tables_in_turn, with_lengthened}
 use Rattle.msi_transform_applying.proofs.OtherStreamsLemmas.{accepted, passed}
-use Rattle.msi_transform_making.specs.Making.{Pair, ToldRecord, ToldRow, ToldRows, by_keys, columns_in_table, is_told, listing_record, made, names_beside, told_names, told_row, told_rows}
-use Rattle.msi_transform_laws.specs.RowsBegun.{HasNewColumns, StandsAs}
+use Rattle.msi_transform_making.specs.Making.{Pair, ToldRecord, by_keys, columns_in_table, is_told, listing_record, made, names_beside, told_names, told_row, told_rows}
+use Rattle.msi_transform_laws.specs.RowsBegun.{HasNewColumns}
 use Rattle.msi_transform_laws.specs.StreamsAgree.{CanNameStreams, MadeStreamsAgree, SameColumnsStreamsAgree}
 use Rattle.msi_transform_laws.specs.SchemaMade.{TablesCanChange}
 use Rattle.msi_transform_laws.specs.TableApplied.{CanHaveRecords}
@@ -55,13 +53,13 @@ use Rattle.msi_transform_laws.proofs.OwnStreamNamesLemmas.{IsNewRow, no_row_gone
 use Rattle.msi_transform_laws.proofs.RecordStreamsLemmas.{RowAgrees}
 use Rattle.msi_transform_laws.proofs.SameColumnsLemmas.{kept_by, same_columns_give_new_tables}
 use Rattle.msi_transform_laws.proofs.SchemaListsLemmas.{absent_tables, all_passing, each_passing, list_of_tables, neither, not_told_is, not_true, read_tables}
-use Rattle.msi_transform_laws.proofs.SchemaMadeLemmas.{AreNamed, IsGone, IsKnown, at_name, each_found, passes_among, system_new, whole_schema_gone}
+use Rattle.msi_transform_laws.proofs.SchemaMadeLemmas.{IsGone, IsKnown, at_name, each_found, passes_among, system_new, whole_schema_gone}
 use Rattle.msi_transform_laws.proofs.SchemaStreamsLemmas.{HasNot, RemovesOther, SaysNothing, removing_others, schema_says}
 use Rattle.msi_transform_laws.proofs.StreamsAgreeLemmas.{HaveStood, all_agree}
 use Rattle.msi_transform_laws.proofs.TableAppliedLemmas.{Read, read_of}
 use Rattle.msi_transform_laws.proofs.TableChangedLemmas.{each_among}
 use Rattle.msi_transform_laws.proofs.TablesChangedLemmas.{no_rows_there, sorted_in_transform}
-use Rattle.msi_transform_laws.proofs.TurnedStreamsLemmas.{HasStood, NotYet, RowsStand, all_anew, same_answer, turned}
+use Rattle.msi_transform_laws.proofs.TurnedStreamsLemmas.{HasStood, RowsStand, all_anew, same_answer, turned}
 use Rattle.msi_transform_laws.proofs.WithoutRecordsLemmas.{Stays, tables_without_records_stay}
 
 -- THE PARTS OF APPLYING

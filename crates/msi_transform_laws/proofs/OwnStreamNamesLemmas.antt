@@ -15,9 +15,8 @@ use Rattle.std.proofs.lemmas.Str.{IsUtf8-append, IsUtf8-from_ascii, IsUtf8-nil, 
 use Rattle.msi_base.specs.Lists.{has_pair, list_cmp}
 use Rattle.msi_base.proofs.BoolLemmas.{by_test, yes_is_no}
 use Rattle.msi_base.proofs.ListLemmas.{none_passes}
-use Rattle.msi_base.proofs.OptionLemmas.{guard_held, none_is, none_there, some_is}
+use Rattle.msi_base.proofs.OptionLemmas.{guard_held, none_is, some_is}
 use Rattle.msi_pool.specs.Pool.{HaveUtf8Texts, Place}
-use Rattle.msi_pool.specs.FirstFitLaws.{text_at}
 use Rattle.msi_container_format.specs.StreamNames.{decoded_name, encoded_name}
 use Rattle.msi_container_format.proofs.AcceptedNamesLemmas.{accepted_is}
 use Rattle.msi_container_format.proofs.PackedNamesLemmas.{encoded_scalars}
@@ -31,7 +30,6 @@ use Rattle.msi_table_values.specs.declared.value.Value.{Value}
 use Rattle.msi_table_values.specs.Columns.{ColumnDef}
 use Rattle.msi_database_schema.specs.Keys.{is_stream_name, stream_key, table_key}
 use Rattle.msi_database_schema.proofs.KeyLemmas.{identifier_ascii, table_key≢stream_key, table_name_is}
-use Rattle.msi_database_changes.specs.Database.{has_table}
 use Rattle.msi_database_storage.specs.Kept.{Kept}
 use Rattle.msi_database_storage.specs.Streams.{stream_at}
 use Rattle.msi_transform.specs.Transforms.{TransformDef}

@@ -1,18 +1,17 @@
 -- What applying a record says of the stream of its row, and which stream the row is to have then.
-use Rattle.std.proofs.Common.{◌≡◌, ℕ, zero, suc, Bool, true, false, cond, not, ◌||◌, List, [], ◌∷◌, ◌++◌, filter, map, zip, append-nil, Option, Some, None, is_some, Ok, Err, refl, sym, ap, subst, ◌∙◌}
-use Rattle.std.specs.Prelude.{⊤, Result, bytes_eq, if◌then◌else◌, option_and_then, slice_get, unwrap_or}
+use Rattle.std.proofs.Common.{◌≡◌, ℕ, zero, suc, Bool, true, false, cond, not, ◌||◌, List, [], ◌∷◌, ◌++◌, map, zip, append-nil, Option, Some, None, is_some, Ok, refl, sym, ap, subst, ◌∙◌}
+use Rattle.std.specs.Prelude.{⊤, if◌then◌else◌, option_and_then, unwrap_or}
 use Rattle.std.specs.Cmp.{tied_itself}
 use Rattle.std.specs.Cmp.Lexicographic.{bytes_decides}
-use Rattle.std.specs.FinMap.{find, put}
+use Rattle.std.specs.FinMap.{find}
 use Rattle.std.specs.FinMap.Entries.{find-put}
 use Rattle.std.specs.List.{AllByRecursion}
 use Rattle.std.specs.Option.{option_map_or}
 use Rattle.std.specs.Ordering.{eq_by_cmp, is_eq}
-use Rattle.msi_base.specs.declared.errors.ErrorKind.{ErrorKind}
 use Rattle.msi_base.specs.declared.errors.ErrorKind.TheVariants.{InvalidInput, NotFound}
 use Rattle.msi_base.specs.Refusals.{or_refused, unless_refused, ◌>>=◌}
 use Rattle.msi_base.proofs.BoolLemmas.{by_test, yes_is_no}
-use Rattle.msi_base.proofs.OptionLemmas.{none_is, some_is}
+use Rattle.msi_base.proofs.OptionLemmas.{none_is}
 use Rattle.msi_table_cells.specs.declared.cell.ValueRef.{ValueRef}
 use Rattle.msi_table_values.specs.declared.value.Value.{Value}
 use Rattle.msi_table_values.specs.declared.column.ColumnType.{ColumnType}
@@ -29,7 +28,7 @@ use Rattle.msi_transform_records.specs.declared.records.Record.{Record}
 use Rattle.msi_transform.specs.Transforms.{TransformDef, record_key, shapes_of}
 use Rattle.msi_transform_rows.specs.KeyOfRows.{key_cmp}
 use Rattle.msi_transform_rows.specs.RowChanges.{RowsInHand, TableChange, action_applied, cells_changed, pool_for, record_applied, row_added, row_at, streams_without, values_told, with_changes, with_row, without_row}
-use Rattle.msi_transform_rows.specs.RowStreams.{brought, has_streams, is_of_streams, is_stream, row_stream, row_stream_gone, row_stream_stored, stored_as, told_beside, told_by_changes, told_by_row, told_stream, type_in}
+use Rattle.msi_transform_rows.specs.RowStreams.{brought, has_streams, is_of_streams, is_stream, row_stream, row_stream_gone, row_stream_stored, stored_as, told_by_changes, told_by_row, told_stream, type_in}
 use Rattle.msi_transform_rows.specs.declared.row.RowInHand.{RowInHand}
 use Rattle.msi_transform_rows.specs.declared.row.RowStream.{RowStream}
 use Rattle.msi_transform_rows.specs.declared.row.RowStream.TheVariants.{AsBefore, Gone, Brought}

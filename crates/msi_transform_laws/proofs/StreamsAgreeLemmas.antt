@@ -1,15 +1,14 @@
 -- The streams of rows agree, once a transform that is made is applied to the old package.
-use Rattle.std.proofs.Common.{◌≡◌, ℕ, ◌+◌, ◌-◌, Bool, true, false, not, ◌&&◌, ◌||◌, List, [], ◌∷◌, ◌++◌, length, map, filter, append-nil, Option, Some, None, is_some, Result, Ok, Err, T, refl, sym, ap, subst, ◌∙◌, ◌⊎◌, inl, inr}
-use Rattle.std.specs.Prelude.{bytes_eq, if◌then◌else◌, is_none, option_and_then, option_map, unwrap_or}
+use Rattle.std.proofs.Common.{◌≡◌, ℕ, ◌+◌, ◌-◌, Bool, true, false, not, ◌||◌, List, [], ◌∷◌, ◌++◌, length, map, filter, Option, Some, None, is_some, Ok, T, refl, sym, ap, subst, ◌∙◌}
+use Rattle.std.specs.Prelude.{bytes_eq, is_none, option_and_then, option_map, unwrap_or}
 use Rattle.std.specs.Cmp.{eq_by_cmp_equiv, tied_itself}
 use Rattle.std.specs.Cmp.Lexicographic.{bytes_decides}
 use Rattle.std.specs.FinMap.{find, is_sorted}
-use Rattle.std.specs.FinMap.Entries.{below_all, is_some-find}
-use Rattle.std.specs.List.{AllByRecursion, flat_map, list_all, list_any}
+use Rattle.std.specs.FinMap.Entries.{below_all}
+use Rattle.std.specs.List.{AllByRecursion, list_all, list_any}
 use Rattle.std.specs.Option.{option_map_or}
 use Rattle.std.specs.Ordering.{eq_by_cmp, is_lt}
 use Rattle.std.proofs.lemmas.Bool.{and_parts}
-use Rattle.std.proofs.lemmas.List.Folds.{list_any-append}
 use Rattle.msi_base.specs.Lists.{has_pair, list_cmp}
 use Rattle.msi_base.proofs.BoolLemmas.{T_parts, by_test, yes_is_no}
 use Rattle.msi_base.proofs.OptionLemmas.{none_is, none_there, not_given, some_is}
@@ -24,7 +23,7 @@ use Rattle.msi_database_schema.specs.System.{is_schema_table}
 use Rattle.msi_database_changes.specs.Database.{Database, has_table, rows_of, table_at}
 use Rattle.msi_database_changes.specs.declared.storing.Stored.{Stored}
 use Rattle.msi_database_storage.specs.Streams.{Streams, stream_at}
-use Rattle.msi_transform.specs.Transforms.{TransformDef, records_for, shapes_of}
+use Rattle.msi_transform.specs.Transforms.{TransformDef, records_for}
 use Rattle.msi_transform.specs.declared.conditions.ErrorConditions.{ErrorConditions}
 use Rattle.msi_transform_rows.specs.KeyOfRows.{key_cmp}
 use Rattle.msi_transform_rows.specs.RowChanges.{Rows, keyed}
@@ -33,12 +32,12 @@ use Rattle.msi_transform_rows.specs.declared.row.RowInHand.{RowInHand}
 use Rattle.msi_transform_rows.specs.declared.row.RowStream.{RowStream}
 use Rattle.msi_transform_rows.specs.declared.row.RowStream.TheVariants.{AsBefore, Gone, Brought}
 use Rattle.msi_transform_schema.specs.SchemaApplying.{system_rows}
-use Rattle.msi_transform_schema.specs.SchemaChanges.{SchemaInHand, TablesTold, columns_in_hand, columns_of_package, is_gone, plain_row, table_in_hand}
+use Rattle.msi_transform_schema.specs.SchemaChanges.{TablesTold, columns_in_hand, columns_of_package, is_gone, plain_row, table_in_hand}
 use Rattle.msi_transform_schema.specs.declared.schema.Standing.{Standing}
 use Rattle.msi_transform_schema.specs.declared.schema.Standing.TheVariants as stands
 use Rattle.msi_transform_applying.specs.Applying.{TableAnew, TablesInHand, change_with, has_its_stream, is_anew, is_said, row_agrees, same_stream, stays, streams_agree, streams_left, table_agrees, table_staying, tables_left}
-use Rattle.msi_transform_making.specs.Making.{Pair, ToldRow, ToldRows, columns_before, columns_in_table, made, stream_of_row, told_names, told_rows}
-use Rattle.msi_transform_laws.specs.RowsApplied.{AreAlike, HasValuesOf, HaveValuesOf, stream_in_hand}
+use Rattle.msi_transform_making.specs.Making.{Pair, ToldRow, ToldRows, columns_before, columns_in_table, made, told_names, told_rows}
+use Rattle.msi_transform_laws.specs.RowsApplied.{AreAlike, HasValuesOf, stream_in_hand}
 use Rattle.msi_transform_laws.specs.RowsBegun.{HasNewColumns, StandsAs}
 use Rattle.msi_transform_laws.specs.StreamsAgree.{CanNameStreams}
 use Rattle.msi_transform_laws.specs.TableApplied.{CanHaveRecords, table_change}

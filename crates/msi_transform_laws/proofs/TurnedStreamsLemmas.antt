@@ -1,5 +1,5 @@
 -- What applying the records of tables in turn says of the stream of one row.
-use Rattle.std.proofs.Common.{◌≡◌, ℕ, ◌+◌, Bool, true, false, cond, not, ◌&&◌, ◌||◌, List, [], ◌∷◌, ◌++◌, map, filter, length, Option, Some, None, is_some, Result, Ok, Err, T, refl, sym, ap, subst, ◌∙◌}
+use Rattle.std.proofs.Common.{◌≡◌, ℕ, ◌+◌, Bool, true, false, not, ◌||◌, List, [], ◌∷◌, ◌++◌, map, Option, Some, None, is_some, Result, Ok, Err, T, refl, sym, ap, subst, ◌∙◌}
 use Rattle.std.specs.Prelude.{bytes_eq, if◌then◌else◌}
 use Rattle.std.specs.Cmp.Lexicographic.{bytes_decides}
 use Rattle.std.specs.FinMap.{find, is_sorted}
@@ -31,7 +31,7 @@ use Rattle.msi_transform_records.specs.declared.shape.Shape.{Shape}
 use Rattle.msi_transform.specs.Transforms.{TransformDef, record_key, shapes_of}
 use Rattle.msi_transform_rows.specs.KeyOfRows.{key_cmp}
 use Rattle.msi_transform_rows.specs.RecordRefusals.{Refusal, at_record, in_turn_from, ◌>>=◌}
-use Rattle.msi_transform_rows.specs.RowChanges.{Rows, RowsInHand, TableChange, by_key, keyed, record_applied}
+use Rattle.msi_transform_rows.specs.RowChanges.{Rows, RowsInHand, TableChange, keyed, record_applied}
 use Rattle.msi_transform_rows.specs.RowStreams.{has_streams, row_stream, row_stream_gone, stored_as}
 use Rattle.msi_transform_rows.specs.TableRecords.{all_applied, read_for}
 use Rattle.msi_transform_rows.specs.declared.row.RowInHand.{RowInHand}
@@ -45,7 +45,7 @@ use Rattle.msi_transform_laws.specs.TablesChanged.{TableOfRecords}
 use Rattle.msi_transform_laws.proofs.CarriedOutLemmas.{less, same}
 use Rattle.msi_transform_laws.proofs.HeardStreamsLemmas.{Heard, heard, heard_joined, heard_once, later, nothing_before, some_later}
 use Rattle.msi_transform_laws.proofs.NewTablesLemmas.{all_joined}
-use Rattle.msi_transform_laws.proofs.RecordStreamsLemmas.{Agrees, Did, IsOf, IsSaid, Quiet, RowAgrees, did_record, of_later, quiet_later, row_later, tied}
+use Rattle.msi_transform_laws.proofs.RecordStreamsLemmas.{Agrees, IsOf, IsSaid, Quiet, RowAgrees, did_record, of_later, quiet_later, row_later, tied}
 use Rattle.msi_transform_laws.proofs.SchemaListsLemmas.{neither}
 use Rattle.msi_transform_laws.proofs.TablesChangedLemmas.{found_by_key}
 
