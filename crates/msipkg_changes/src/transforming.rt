@@ -35,7 +35,7 @@ pub(crate) fn apply_transforms(
     outcome: &mut Outcome,
 ) -> Result<(), Failure>
     ensures ok { OnOk result ((mended : Whole) × IsMended «package».old mended
-        × AreApplied asked.passing (length asked.words.now) mended «package».new) }
+        × AreApplied asked.entry.passing (length asked.entry.words.now) mended «package».new) }
 {
     mend_first(package, manner, outcome);
     apply_in_turn(rt, file, package, asked)
@@ -47,7 +47,8 @@ fn apply_in_turn(
     package: &mut Package<Opened>,
     asked: Transforms<'_, '_>,
 ) -> Result<(), Failure>
-    ensures ok { OnOk result (AreApplied asked.passing (length asked.words.now) «package».old «package».new) }
+    ensures ok { let count = length asked.entry.words.now in
+        OnOk result (AreApplied asked.entry.passing count «package».old «package».new) }
 {
     for word in asked.words {
         if let Err(failure) = apply_named(rt, file, package, word, asked.passing) {
