@@ -16,12 +16,15 @@ place_of h = length h.before
 abbrev pub from_first : List ℕ → Held
 from_first bytes = record { before = []; ahead = bytes }
 
--- the place moved to the start, to the end, and n bytes on
+-- the place moved to the start, to the end, to byte n, and n bytes on
 abbrev pub at_start : Held → Held
 at_start h = from_first (all_bytes h)
 
 abbrev pub at_end : Held → Held
 at_end h = record { before = all_bytes h; ahead = [] }
+
+abbrev pub at_place : ℕ → Held → Held
+at_place n h = record { before = take n (all_bytes h); ahead = drop n (all_bytes h) }
 
 abbrev pub further : ℕ → Held → Held
 further n h = record { before = h.before ++ take n h.ahead; ahead = drop n h.ahead }

@@ -9,6 +9,7 @@ ghost use Rattle.msi_container_device.specs.Buffering.{written};
 ghost use Rattle.msi_container_device.specs.Faults.{is_write_fault};
 
 use crate::device::Device;
+use crate::seekable::Seekable;
 use crate::faults::fault;
 use crate::source::Source;
 use msi_base::Error;
@@ -190,9 +191,7 @@ impl<F: Read + Write + Seek + Drop> Source for Buffered<F> {
     }
 }
 
-impl<F: Read + Write + Seek + Drop> Device for Buffered<F> {
-    ghost writes_can_fail = { true };
-
+impl<F: Read + Write + Seek + Drop> Seekable for Buffered<F> {
     fn length(&mut self) -> io::Result<u64>
         ensures passed { self.old.pending ≡ false → SeekMoves (F.stream_position self.old.inner)
             (F.stream_position self.new.inner) (F.stream_bytes self.old.inner) (SeekFrom.End (pos 0)) result }
@@ -203,6 +202,22 @@ impl<F: Read + Write + Seek + Drop> Device for Buffered<F> {
         let answer = self.seek(SeekFrom::End(0));
         self.watch(answer)
     }
+
+    fn seek_to(&mut self, place: u64) -> io::Result<()>
+        ensures passed { self.old.pending ≡ false
+            → MovesTo (F.stream_position self.old.inner) (F.stream_position self.new.inner) place result }
+        ensures empty { OnOk result (self.new.collected ≡ []) }
+        ensures failed { self.new.failed ≡ (self.old.failed || is_err result) }
+        ensures pending { self.new.pending ≡ self.old.pending }
+    {
+        let answer = self.seek(SeekFrom::Start(place));
+        self.watch(answer)?;
+        Ok(())
+    }
+}
+
+impl<F: Read + Write + Seek + Drop> Device for Buffered<F> {
+    ghost writes_can_fail = { true };
 
     fn write(&mut self, piece: &[u8]) -> io::Result<usize>
         ensures count { IfOk result (λ n. n ≤ length piece.now) }

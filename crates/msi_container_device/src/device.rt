@@ -1,29 +1,17 @@
 //! What can be read and written.
 
 ghost use Rattle.std.specs.Prelude.{◌≡◌, ◌≤◌, ◌||◌, Bool, false, length, take, option_map, is_err};
-ghost use Rattle.std.specs.Prelude.{IfOk, IfSome, IsOk, OnOk, OnErr};
+ghost use Rattle.std.specs.Prelude.{IfOk, IsOk, OnOk, OnErr};
 ghost use Rattle.msi_container_device.specs.Faults.{is_write_fault};
-ghost use Rattle.msi_container_device.specs.Held.{all_bytes, at_end, bytes_told, with_piece};
+ghost use Rattle.msi_container_device.specs.Held.{bytes_told, with_piece};
 
-use crate::source::Source;
+use crate::seekable::Seekable;
 use std::io;
 
 /// A source that can be written.
-pub trait Device: Source {
-    /// Whether `length`, `write` and `flush` can fail at all.
+pub trait Device: Seekable {
+    /// Whether `write` and `flush` can fail at all.
     ghost writes_can_fail: { Bool };
-
-    /// Goes to the end, and returns how many bytes there are.
-    ///
-    /// # Errors
-    /// Fails as the device does.
-    fn length(&mut self) -> io::Result<u64>
-        ensures count { IfOk result (λ n. IfSome (Self.held self.old) (λ h. n ≡ length (all_bytes h))) }
-        ensures held { OnOk result (Self.held self.new ≡ option_map at_end (Self.held self.old)) }
-        ensures bytes { bytes_told (Self.held self.new) ≡ bytes_told (Self.held self.old) }
-        ensures failed { Self.failed self.new ≡ (Self.failed self.old || is_err result) }
-        ensures pending { Self.pending self.new ≡ Self.pending self.old }
-        ensures sound { writes_can_fail ≡ false → IsOk result };
 
     /// Writes a prefix of the piece over the bytes from the position on and past the end, and moves behind it. It
     /// returns how many bytes it took; taking none of a piece that has some sets the flag, as a failed call does.

@@ -11,6 +11,7 @@ mod overwriting;
 pub mod parts;
 mod reading;
 pub mod reasons;
+pub mod seekable;
 pub mod source;
 mod writing;
 
@@ -18,4 +19,5 @@ pub use buffered::Buffered;
 pub use device::Device;
 pub use memory::Memory;
 pub use metered::Metered;
+pub use seekable::Seekable;
 pub use source::Source;

@@ -3,9 +3,10 @@
 ghost use Rattle.std.specs.Prelude.{◌≡◌, IfErr, IfOk, IsOk, OnErr, OnOk, Some, false, length, min, take, true};
 ghost use Rattle.std.specs.IoError.{error_kind};
 ghost use Rattle.std.specs.declared.io.ErrorKind.TheVariants.{OutOfMemory};
-ghost use Rattle.msi_container_device.specs.Held.{all_bytes, at_end, at_start, from_first, further, with_piece};
+ghost use Rattle.msi_container_device.specs.Held.{all_bytes, at_end, at_place, at_start, from_first, further, with_piece};
 
 use crate::device::Device;
+use crate::seekable::Seekable;
 use crate::source::Source;
 use std::io;
 use std::marker::Model;
@@ -96,10 +97,7 @@ impl Source for Memory {
     }
 }
 
-impl Device for Memory {
-    /// A write fails if memory is refused for it.
-    ghost writes_can_fail = { true };
-
+impl Seekable for Memory {
     fn length(&mut self) -> io::Result<u64>
         ensures count { result ≡ Ok (length (all_bytes self.old.held)) }
         ensures after { self.new ≡ record self.old { held = at_end self.old.held } }
@@ -107,6 +105,19 @@ impl Device for Memory {
         self.place = self.bytes.len();
         Ok(self.place as u64)
     }
+
+    fn seek_to(&mut self, place: u64) -> io::Result<()>
+        ensures ok { IsOk result }
+        ensures after { self.new ≡ record self.old { held = at_place place self.old.held } }
+    {
+        self.place = place.min(self.bytes.len() as u64) as usize;
+        Ok(())
+    }
+}
+
+impl Device for Memory {
+    /// A write fails if memory is refused for it.
+    ghost writes_can_fail = { true };
 
     /// Takes the whole piece, or none of it where memory is refused.
     fn write(&mut self, piece: &[u8]) -> io::Result<usize>

@@ -6,6 +6,7 @@ ghost use Rattle.std.specs.Io.Seek.{MovesTo, SeekMoves};
 ghost use Rattle.msi_container_device.specs.Faults.{is_write_fault};
 
 use crate::device::Device;
+use crate::seekable::Seekable;
 use crate::source::Source;
 use std::io;
 use std::io::{Read, Seek, SeekFrom, Write};
@@ -106,9 +107,7 @@ impl<F: Read + Seek> Source for Metered<F> {
     }
 }
 
-impl<F: Read + Write + Seek> Device for Metered<F> {
-    ghost writes_can_fail = { true };
-
+impl<F: Read + Seek> Seekable for Metered<F> {
     fn length(&mut self) -> io::Result<u64>
         ensures passed { SeekMoves (F.stream_position self.old.inner)
             (F.stream_position self.new.inner) (F.stream_bytes self.old.inner) (SeekFrom.End (pos 0)) result }
@@ -118,6 +117,20 @@ impl<F: Read + Write + Seek> Device for Metered<F> {
         let answer = self.inner.seek(SeekFrom::End(0));
         self.watch(answer)
     }
+
+    fn seek_to(&mut self, place: u64) -> io::Result<()>
+        ensures passed { MovesTo (F.stream_position self.old.inner) (F.stream_position self.new.inner) place result }
+        ensures failed { self.new.failed ≡ (self.old.failed || is_err result) }
+        ensures pending { self.new.pending ≡ self.old.pending }
+    {
+        let answer = self.inner.seek(SeekFrom::Start(place));
+        self.watch(answer)?;
+        Ok(())
+    }
+}
+
+impl<F: Read + Write + Seek> Device for Metered<F> {
+    ghost writes_can_fail = { true };
 
     fn write(&mut self, piece: &[u8]) -> io::Result<usize>
         ensures count { IfOk result (λ n. n ≤ length piece.now) }

@@ -21,7 +21,7 @@ pub enum Claimed {
 
 /// The numbers in use, in the order in which they were claimed: each is below the limit, and none stands twice.
 pub struct Claims {
-    pub(crate) claimed: Claimed,
+    claimed: Claimed,
     pub marks: Vec<bool>,
     pub list: Vec<u32>,
     pub ghost marked: { MarkedAre marks.items list.items },
@@ -74,20 +74,6 @@ impl Claims {
             Some(true) => Err(Error::new(ErrorKind::InvalidData, self.claimed.twice())),
             None => Err(Error::new(ErrorKind::InvalidData, self.claimed.outside())),
         }
-    }
-
-    /// The numbers in use.
-    pub fn into_list(self) -> Vec<u32>
-        ensures items { result.items ≡ self.list.items }
-        ensures distinct { AreDistinct result.items }
-        ensures below { AreBelow (vec_len self.marks) result.items }
-    {
-        let Claims {
-            claimed: _,
-            marks: _,
-            list,
-        } = self;
-        list
     }
 }
 

@@ -27,14 +27,23 @@ use std::alloc::Global;
 
 /// The directory that stands in these sectors, 128 bytes for each entry.
 #[derive(Clone, Copy)]
-pub(crate) struct Directory<'a> {
-    pub(crate) bytes: &'a [u8],
-    pub(crate) sectors: &'a [u32],
+pub struct Directory<'a> {
+    pub bytes: &'a [u8],
+    pub sectors: &'a [u32],
     ghost few: { length sectors.now ≤ 2 ^ 32 },
 }
 
 impl<'a> Directory<'a> {
-    pub(crate) fn entry_count(&self) -> usize
+    /// The directory in these sectors of a file.
+    pub fn new(bytes: &'a [u8], sectors: &'a [u32]) -> Directory<'a>
+        requires { length sectors.now ≤ 2 ^ 32 }
+        ensures bytes { result.bytes.now ≡ bytes.now }
+        ensures sectors { result.sectors.now ≡ sectors.now }
+    {
+        Directory { bytes, sectors }
+    }
+
+    pub fn entry_count(&self) -> usize
         ensures { result ≡ container.entry_count self.now.bytes.now self.now.sectors.now }
     {
         self.sectors.len() * (sector_size(self.bytes) / ENTRY_SIZE)
@@ -53,35 +62,35 @@ impl<'a> Directory<'a> {
         )
     }
 
-    pub(crate) fn kind(&self, entry: u32) -> u8
+    pub fn kind(&self, entry: u32) -> u8
         requires { entry < container.entry_count self.now.bytes.now self.now.sectors.now }
         ensures { result ≡ container.kind self.now.bytes.now self.now.sectors.now entry }
     {
         byte(self.bytes, self.field(entry, KIND_AT))
     }
 
-    pub(crate) fn left(&self, entry: u32) -> u32
+    pub fn left(&self, entry: u32) -> u32
         requires { entry < container.entry_count self.now.bytes.now self.now.sectors.now }
         ensures { result ≡ container.left self.now.bytes.now self.now.sectors.now entry }
     {
         number32(self.bytes, self.field(entry, LEFT_AT))
     }
 
-    pub(crate) fn right(&self, entry: u32) -> u32
+    pub fn right(&self, entry: u32) -> u32
         requires { entry < container.entry_count self.now.bytes.now self.now.sectors.now }
         ensures { result ≡ container.right self.now.bytes.now self.now.sectors.now entry }
     {
         number32(self.bytes, self.field(entry, RIGHT_AT))
     }
 
-    pub(crate) fn child(&self, entry: u32) -> u32
+    pub fn child(&self, entry: u32) -> u32
         requires { entry < container.entry_count self.now.bytes.now self.now.sectors.now }
         ensures { result ≡ container.child self.now.bytes.now self.now.sectors.now entry }
     {
         number32(self.bytes, self.field(entry, CHILD_AT))
     }
 
-    pub(crate) fn clsid(&self, entry: u32) -> [u8; 16]
+    pub fn clsid(&self, entry: u32) -> [u8; 16]
         requires { entry < container.entry_count self.now.bytes.now self.now.sectors.now }
         ensures { result ≡ storage_clsid self.now.bytes.now self.now.sectors.now entry }
     {
@@ -93,7 +102,7 @@ impl<'a> Directory<'a> {
         clsid
     }
 
-    pub(crate) fn start_sector(&self, entry: u32) -> u32
+    pub fn start_sector(&self, entry: u32) -> u32
         requires { entry < container.entry_count self.now.bytes.now self.now.sectors.now }
         ensures { result ≡ container.start_sector self.now.bytes.now self.now.sectors.now entry }
     {
@@ -101,7 +110,7 @@ impl<'a> Directory<'a> {
     }
 
     /// Version 3 uses the low half alone.
-    pub(crate) fn size(&self, entry: u32) -> u64
+    pub fn size(&self, entry: u32) -> u64
         requires { entry < container.entry_count self.now.bytes.now self.now.sectors.now }
         ensures { result ≡ container.size self.now.bytes.now self.now.sectors.now entry }
     {
@@ -114,7 +123,7 @@ impl<'a> Directory<'a> {
     }
 
     /// Fails with `InvalidData` where the name's length is odd, or the name is empty, too long or no text.
-    pub(crate) fn name(&self, entry: u32) -> Result<Name, Error>
+    pub fn name(&self, entry: u32) -> Result<Name, Error>
         requires { entry < container.entry_count self.now.bytes.now self.now.sectors.now }
         ensures found { IfOk result (λ name. name ≡ container.name self.now.bytes.now self.now.sectors.now entry) }
         ensures ok { OnOk result (container.HasName self.now.bytes.now self.now.sectors.now entry) }
@@ -150,7 +159,7 @@ impl<'a> Directory<'a> {
 
 /// Lists the entries that links lead to from `child`, each once: first an entry, then those on its left, then those on
 /// its right.
-pub(crate) fn reach(alloc: Global, directory: &Directory, child: u32) -> Result<Vec<u32>, Error>
+pub fn reach(alloc: Global, directory: &Directory, child: u32) -> Result<Vec<u32>, Error>
     ensures found { IfOk result
         (λ reached. (tree : Tree)
         × container.IsDirectoryTree directory.now.bytes.now directory.now.sectors.now child tree
@@ -167,7 +176,7 @@ pub(crate) fn reach(alloc: Global, directory: &Directory, child: u32) -> Result<
 }
 
 /// Lists the entries that links lead to from `child`, as `reach` does, and claims each beside those in use.
-pub(crate) fn reach_more(
+pub fn reach_more(
     alloc: Global,
     directory: &Directory,
     child: u32,
@@ -201,7 +210,7 @@ pub(crate) fn reach_more(
     Ok(reached)
 }
 
-pub(crate) fn check_kinds(directory: &Directory, entries: &[u32]) -> Result<(), Error>
+pub fn check_kinds(directory: &Directory, entries: &[u32]) -> Result<(), Error>
     requires { AreBelow (container.entry_count directory.now.bytes.now directory.now.sectors.now) entries.now }
     ensures ok { OnOk result (spec.AreOfKinds directory.now.bytes.now directory.now.sectors.now entries.now) }
     ensures invalid { OnErr result (spec.AreOfKinds directory.now.bytes.now directory.now.sectors.now entries.now → ⊥) }
@@ -217,11 +226,7 @@ pub(crate) fn check_kinds(directory: &Directory, entries: &[u32]) -> Result<(), 
 }
 
 /// Lists the entries that lie directly in a storage: storages and streams, whose names aren't looked at yet.
-pub(crate) fn read_listing(
-    alloc: Global,
-    directory: &Directory,
-    storage: u32,
-) -> Result<Vec<u32>, Error>
+pub fn read_listing(alloc: Global, directory: &Directory, storage: u32) -> Result<Vec<u32>, Error>
     requires { storage < container.entry_count directory.now.bytes.now directory.now.sectors.now }
     ensures found { IfOk result
         (λ entries. (tree : Tree)

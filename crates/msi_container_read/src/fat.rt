@@ -40,7 +40,7 @@ pub fn read_difat(alloc: Global, bytes: &[u8], claims: &mut Claims) -> Result<Ve
 
 /// Returns the sector of the DIFAT behind those so far: the header names the first, and each ends in the number of the
 /// next.
-fn next_sector(bytes: &[u8], so_far: &[u32]) -> u32
+pub fn next_sector(bytes: &[u8], so_far: &[u32]) -> u32
     ensures { Some result ≡ follower (container.next_difat bytes.now) (container.difat_start bytes.now) so_far.now }
 {
     match so_far.last() {

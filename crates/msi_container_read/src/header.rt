@@ -1,6 +1,6 @@
 //! The header, the size of a sector, and how many sectors can be used (MS-CFB 2.1 and 2.2).
 
-ghost use Rattle.std.specs.Prelude.{◌≡◌, ℕ, ◌+◌, ◌<◌, ◌≤◌, OnOk, OnErr, IsErrOf, MatchOption, IsTrue, ◌↔◌, ◌⊎◌, ◌==◌};
+ghost use Rattle.std.specs.Prelude.{◌≡◌, ℕ, ◌+◌, ◌-◌, ◌/◌, min, ◌<◌, ◌≤◌, OnOk, OnErr, IsErrOf, MatchOption, IsTrue, ◌↔◌, ◌⊎◌, ◌==◌};
 ghost use Rattle.std.specs.Prelude.{if◌then◌else◌};
 ghost use Rattle.msi_base.specs.declared.errors.ErrorKind.TheVariants.{InvalidData};
 ghost use Rattle.msi_container_format.specs.Bytes as spelled;
@@ -92,6 +92,14 @@ pub fn sector_count(bytes: &[u8]) -> usize
     ensures regular { result ≤ marks.MAX_REGULAR_SECTOR + 1 }
     ensures inside { result ≤ counted.sectors_inside bytes.now }
 {
-    let started = bytes.len().saturating_sub(1) / sector_size(bytes);
-    started.min(MAX_REGULAR_SECTOR as usize + 1)
+    usable_sectors(bytes.len() as u64, sector_size(bytes))
+}
+
+/// How many sectors of a size can be used in a file of a length: those with a regular number that start inside it.
+pub fn usable_sectors(len: u64, size: usize) -> usize
+    requires { 0 < size }
+    ensures { result ≡ min ((len - 1) / size) (marks.MAX_REGULAR_SECTOR + 1) }
+{
+    let started = len.saturating_sub(1) / size as u64;
+    started.min(u64::from(MAX_REGULAR_SECTOR) + 1) as usize
 }

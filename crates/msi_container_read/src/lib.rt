@@ -8,6 +8,7 @@ mod header;
 pub mod laws;
 mod listing;
 mod names;
+pub mod parts;
 mod paths;
 mod reading;
 mod reasons;

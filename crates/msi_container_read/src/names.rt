@@ -19,7 +19,7 @@ use msi_container_format::name::Name;
 use std::alloc::Global;
 use std::collections::BTreeSet;
 
-pub(crate) fn names_of(
+pub fn names_of(
     alloc: Global,
     directory: &Directory,
     entries: &[u32],
@@ -42,11 +42,7 @@ pub(crate) fn names_of(
     Ok(names)
 }
 
-pub(crate) fn own_name(
-    directory: &Directory,
-    entry: u32,
-    taken: &BTreeSet<Name>,
-) -> Result<Name, Error>
+pub fn own_name(directory: &Directory, entry: u32, taken: &BTreeSet<Name>) -> Result<Name, Error>
     requires { entry < container.entry_count directory.now.bytes.now directory.now.sectors.now }
     ensures found { IfOk result
         (λ name. name ≡ container.name directory.now.bytes.now directory.now.sectors.now entry) }

@@ -19,11 +19,7 @@ use std::alloc::Global;
 
 /// Returns the entry of the storage that a path leads to. Fails with `NotFound` where a name is that of no storage in
 /// the one before it, and with `InvalidData` where what lies in one of those is not well formed.
-pub(crate) fn find_storage(
-    alloc: Global,
-    directory: &Directory,
-    path: &[Name],
-) -> Result<u32, Error>
+pub fn find_storage(alloc: Global, directory: &Directory, path: &[Name]) -> Result<u32, Error>
     requires { 0 < container.entry_count directory.now.bytes.now directory.now.sectors.now }
     ensures found { IfOk result
         (λ storage. storages.IsPath directory.now.bytes.now directory.now.sectors.now path.now (Some storage)) }

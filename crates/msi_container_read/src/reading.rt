@@ -320,10 +320,10 @@ impl Drop for Start {
 }
 
 /// The entries of storages, and those of streams, in the tree's order.
-pub(crate) struct Entries {
-    pub(crate) has_storages: bool,
-    pub(crate) storages: Vec<u32>,
-    pub(crate) streams: Vec<u32>,
+pub struct Entries {
+    pub has_storages: bool,
+    pub storages: Vec<u32>,
+    pub streams: Vec<u32>,
 }
 
 impl Drop for Entries {
@@ -337,9 +337,9 @@ impl Drop for Entries {
 }
 
 /// The sectors of the mini FAT and of the mini stream.
-pub(crate) struct Mini {
-    fat: Vec<u32>,
-    pub(crate) stream: Vec<u32>,
+pub struct Mini {
+    pub fat: Vec<u32>,
+    pub stream: Vec<u32>,
 }
 
 impl Drop for Mini {
@@ -384,7 +384,7 @@ pub(crate) fn read_start(
     })
 }
 
-fn read_entries(alloc: Global, directory: &Directory, storage: u32) -> Result<Entries, Error>
+pub fn read_entries(alloc: Global, directory: &Directory, storage: u32) -> Result<Entries, Error>
     requires { storage < container.entry_count directory.now.bytes.now directory.now.sectors.now }
     ensures found { IfOk result
         (λ e. (tree : Tree) × IsNamelessListing directory.now.bytes.now directory.now.sectors.now storage tree
@@ -443,7 +443,7 @@ fn read_mini_fat(
     }
 }
 
-fn read_mini(
+pub fn read_mini(
     alloc: Global,
     fat: &AllocationTable,
     directory: &Directory,
@@ -481,7 +481,7 @@ fn read_mini(
     })
 }
 
-fn read_chains<'a>(
+pub fn read_chains<'a>(
     alloc: Global,
     fat: &AllocationTable<'a>,
     directory: &Directory<'a>,

@@ -2,7 +2,7 @@
 
 ghost use Rattle.std.specs.Prelude.{◌≡◌, OnErr, OnOk, Some, false, true};
 
-use msi::{Device, Memory, Source};
+use msi::{Device, Memory, Seekable, Source};
 use std::io;
 
 /// Over memory: it takes and gives at most so many bytes a call, and one call fails, or all from one on.
@@ -89,13 +89,20 @@ impl Source for Counting {
     }
 }
 
-impl Device for Counting {
-    ghost writes_can_fail = { true };
-
+impl Seekable for Counting {
     fn length(&mut self) -> io::Result<u64> {
         self.begin()?;
         self.memory.length()
     }
+
+    fn seek_to(&mut self, place: u64) -> io::Result<()> {
+        self.begin()?;
+        self.memory.seek_to(place)
+    }
+}
+
+impl Device for Counting {
+    ghost writes_can_fail = { true };
 
     fn write(&mut self, piece: &[u8]) -> io::Result<usize> {
         self.begin()?;
