@@ -1,6 +1,7 @@
 //! The sectors of the DIFAT, and those of the FAT, which the header and the DIFAT list (MS-CFB 2.2, 2.3 and 2.5).
 
-ghost use Rattle.std.specs.Prelude.{◌≡◌, ℕ, List, ◌<◌, ◌++◌, vec_len, IfOk};
+ghost use Rattle.std.specs.Prelude.{◌≡◌, ℕ, List, ◌-◌, ◌/◌, ◌<◌, ◌++◌, length, vec_len, IfOk};
+ghost use Rattle.std.specs.Int.{div_ceil};
 ghost use Rattle.msi_container_read.specs.Claims.{CanClaim};
 ghost use Rattle.msi_container_read.specs.Outcomes.{ViewIsUnlessMemory, FailsByData};
 ghost use Rattle.msi_container_read.specs.Walks.{follower};
@@ -59,7 +60,7 @@ pub fn read_fat(
     difat: &[u32],
     claims: &mut Claims,
 ) -> Result<Vec<u32>, Error>
-    requires { IsDifat bytes.now difat.now }
+    requires { length difat.now ≡ div_ceil (container.fat_count bytes.now - 109) (container.sector_size bytes.now / 4 - 1) }
     ensures limit { vec_len claims.new.marks ≡ vec_len claims.old.marks }
     ensures found { IfOk result
         (λ fat. (fat.items ≡ fat_of bytes.now difat.now)
@@ -79,7 +80,8 @@ pub fn read_fat(
 
 /// Returns the number that the header and the DIFAT list at a place.
 fn listed(bytes: &[u8], difat: &[u32], place: u32) -> u32
-    requires difat { IsDifat bytes.now difat.now }
+    requires difat { length difat.now
+        ≡ div_ceil (container.fat_count bytes.now - 109) (container.sector_size bytes.now / 4 - 1) }
     requires place { place < container.fat_count bytes.now }
     ensures { result ≡ container.listed bytes.now difat.now place }
 {

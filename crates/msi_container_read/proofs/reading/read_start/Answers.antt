@@ -99,7 +99,7 @@ returns-clause-few c =
     omega (arith, a, b, d, few_claimed after.marks after.list after.counted, c.in_ok-directory.ensures.limit, c.in_ok-fat.ensures.limit, c.in_ok-difat.ensures.limit, after.list.ok, c.in_ok-directory.directory.ok, c.in_ok-fat.fat.ok, c.in_ok-difat.difat.ok)
 
 pub read_fat-requires : goal.read_fat-requires
-read_fat-requires c = rw c.deref.ensures.value c.in_ok-difat.ensures.found.0
+read_fat-requires c = rw c.deref.ensures.value c.in_ok-difat.ensures.found.0.long
 
 pub walk_to_end-requires-clause-steps : goal.walk_to_end-requires-clause-steps
 walk_to_end-requires-clause-steps c = rw (c.in_ok-fat.ensures.limit ∙ c.in_ok-difat.ensures.limit) c.requires.steps
