@@ -9,8 +9,8 @@ ghost use Rattle.msi_container_device.specs.Buffering.{written};
 ghost use Rattle.msi_container_device.specs.Faults.{is_write_fault};
 
 use crate::device::Device;
-use crate::seekable::Seekable;
 use crate::faults::fault;
+use crate::seekable::Seekable;
 use crate::source::Source;
 use msi_base::Error;
 use std::alloc::Global;

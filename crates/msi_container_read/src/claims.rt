@@ -1,9 +1,9 @@
 //! Which sectors, or which entries, are in use.
 
-ghost use Rattle.std.specs.Prelude.{◌≡◌, ◌+◌, ◌<◌, ◌≤◌, ◌≢◌, ◌∷◌, ◌++◌, [], Some, true, vec_len, OnOk, OnErr, IsErrOf};
-ghost use Rattle.std.specs.Prelude.{IfOk, count_by, ◌↔◌};
+ghost use Rattle.std.specs.Prelude.{◌≡◌, ◌+◌, ◌<◌, ◌∷◌, ◌++◌, [], Some, true, vec_len, OnOk, OnErr, IsErrOf};
+ghost use Rattle.std.specs.Prelude.{IfOk, count_by};
 ghost use Rattle.msi_base.specs.declared.errors.ErrorKind.TheVariants.{InvalidData};
-ghost use Rattle.msi_container_format.specs.Chains.{AreDistinct, AreBelow};
+ghost use Rattle.msi_container_format.specs.Chains.{AreDistinct};
 ghost use Rattle.msi_container_read.specs.Claims.{IsFree, MarkedAre, OthersAreUnmarked};
 ghost use Rattle.msi_container_read.specs.Outcomes.{FailsByData};
 
