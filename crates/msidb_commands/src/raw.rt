@@ -1,11 +1,11 @@
 //! `raw FILE`: each stream of a container, with its kind and its number of bytes.
 
 use crate::lines::Lines;
-use msi::compound::{self, Name};
+use msi::compound::Name;
 use msi::{Error, streamname};
+use msi_view::byte_count;
 use std::alloc::Global;
-use std::fs::{self, OpenFile};
-use std::io::{Read, Write};
+use std::io::Write;
 
 /// Prints a line for each stream, in the container's order of names. All lines are made before the first is printed.
 pub(crate) fn print_streams<O: Write>(
@@ -13,27 +13,12 @@ pub(crate) fn print_streams<O: Write>(
     file: &str,
     output: &mut O,
 ) -> Result<(), Error> {
-    let bytes = read_whole(rt, file)?;
-    list(rt.alloc(), bytes.as_slice())?.end(output)
-}
-
-/// Asks for the length of the file first, so that the vector needn't grow while it is read.
-fn read_whole(rt: &HostRuntime, path: &str) -> Result<Vec<u8>, Error> {
-    let mut file = fs::open(rt, path)?;
-    let len = file.metadata()?.len() as usize;
-    // With room for one byte more the end is found before the vector is full.
-    let mut bytes = Vec::with_capacity(rt.alloc(), len.saturating_add(1))?;
-    file.read_to_end(&mut bytes)?;
-    Ok(bytes)
-}
-
-fn list(alloc: Global, file: &[u8]) -> Result<Lines, Error> {
-    let listing = compound::list(alloc, file)?;
-    let mut lines = Lines::new(alloc);
-    for (name, size) in listing.sizes.iter() {
-        add_line(alloc, &mut lines, name, *size)?;
+    let view = msi_view::open(rt, file)?;
+    let mut lines = Lines::new(rt.alloc());
+    for (name, extents) in view.streams().iter() {
+        add_line(rt.alloc(), &mut lines, name, byte_count(extents.as_slice()))?;
     }
-    Ok(lines)
+    lines.end(output)
 }
 
 /// Adds the line of a stream: its decoded name, `table` or `stream`, and its number of bytes.

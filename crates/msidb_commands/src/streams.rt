@@ -2,26 +2,33 @@
 
 use crate::lines::Lines;
 use crate::packages;
-use msi::{Device, Error, Package, Source, StreamReader, Streams};
+use msi::compound::Name;
+use msi::names::is_listed;
+use msi::{Device, Error, Package, streamname};
 use std::alloc::Global;
-use std::io::{self, Read, Write};
+use std::io::{Read, Write};
 
 pub(crate) fn print_names<O: Write>(
     rt: &HostRuntime,
     file: &str,
     output: &mut O,
 ) -> Result<(), Error> {
-    let package = msi::open(rt, file)?;
-    lines_of(rt.alloc(), package.streams())?.end(output)
+    let view = msi_view::open(rt, file)?;
+    let mut lines = Lines::new(rt.alloc());
+    for (name, _) in view.streams().iter() {
+        if is_listed(name) {
+            add_line(rt.alloc(), &mut lines, name)?;
+        }
+    }
+    lines.end(output)
 }
 
-fn lines_of(alloc: Global, names: Streams<'_>) -> Result<Lines, Error> {
-    let mut lines = Lines::new(alloc);
-    for name in names {
-        lines.push_str(name?.as_str());
-        lines.push_str("\n");
-    }
-    Ok(lines)
+fn add_line(alloc: Global, lines: &mut Lines, name: &Name) -> Result<(), Error> {
+    let encoded = name.to_text(alloc)?;
+    let (name, _) = streamname::decode(alloc, encoded.as_str())?;
+    lines.push_str(name.as_str());
+    lines.push_str("\n");
+    Ok(())
 }
 
 pub(crate) fn print_bytes<O: Write>(
@@ -30,14 +37,8 @@ pub(crate) fn print_bytes<O: Write>(
     name: &str,
     output: &mut O,
 ) -> Result<(), Error> {
-    let package = msi::open(rt, file)?;
-    Ok(write_rest(package.read_stream(name)?, output)?)
-}
-
-/// Writes the bytes of a stream from where they lie: they are in one piece already, so a buffer would only copy them.
-fn write_rest<W: Write>(stream: StreamReader<'_>, output: &mut W) -> io::Result<()> {
-    output.write_all(stream.rest())?;
-    output.flush()
+    msi_view::open(rt, file)?.read_stream(name, output)?;
+    Ok(output.flush()?)
 }
 
 /// Reports first whether the file can be opened, then the input's errors, and then the package's. The file is closed

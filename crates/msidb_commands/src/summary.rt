@@ -11,8 +11,8 @@ pub(crate) fn print_summary<O: Write>(
     file: &str,
     output: &mut O,
 ) -> Result<(), Error> {
-    let package = msi::open(rt, file)?;
-    lines_of(rt.alloc(), package.summary_info())?.end(output)
+    let summary = msi_view::open(rt, file)?.summary_info()?;
+    lines_of(rt.alloc(), &summary)?.end(output)
 }
 
 fn lines_of(alloc: Global, summary: &SummaryInfo) -> Result<Lines, Error> {

@@ -1,7 +1,7 @@
 //! `tables FILE` and `rows FILE TABLE`.
 
 use crate::lines::Lines;
-use msi::{Column, Error, Package, Row, Rows, Select, Source, Tables};
+use msi::{Column, Error, Row, Rows, Select, Table};
 use std::alloc::Global;
 use std::io::Write;
 
@@ -10,11 +10,11 @@ pub(crate) fn print_tables<O: Write>(
     file: &str,
     output: &mut O,
 ) -> Result<(), Error> {
-    let package = msi::open(rt, file)?;
-    lines_of(rt.alloc(), package.tables()).end(output)
+    let mut view = msi_view::open(rt, file)?;
+    lines_of(rt.alloc(), view.tables()?).end(output)
 }
 
-fn lines_of(alloc: Global, tables: Tables<'_>) -> Lines {
+fn lines_of(alloc: Global, tables: &[Table]) -> Lines {
     let mut lines = Lines::new(alloc);
     for table in tables {
         lines.push_str(table.name());
@@ -29,18 +29,10 @@ pub(crate) fn print_rows<O: Write>(
     table: &str,
     output: &mut O,
 ) -> Result<(), Error> {
-    let package = msi::open(rt, file)?;
-    write_table(rt.alloc(), &package, table, output)
-}
-
-fn write_table<F: Source, W: Write>(
-    alloc: Global,
-    package: &Package<F>,
-    table: &str,
-    output: &mut W,
-) -> Result<(), Error> {
-    let rows = package.select_rows(Select::table(alloc, table)?)?;
-    let mut lines = Lines::new(alloc);
+    let mut view = msi_view::open(rt, file)?;
+    let query = Select::table(rt.alloc(), table)?;
+    let rows = view.select_rows(&query)?;
+    let mut lines = Lines::new(rt.alloc());
     write_columns(rows.columns(), &mut lines);
     write_rows(rows, &mut lines, output)?;
     lines.end(output)

@@ -5,6 +5,7 @@
 //! `transcripts trials FILE..` is what `tools/try-faults` runs: there each call behind `try` may be refused memory.
 #![tactic(auto)]
 
+mod agreement;
 mod calls;
 mod changes;
 mod commands;

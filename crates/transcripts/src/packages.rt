@@ -1,9 +1,10 @@
 //! Calls that make a package, open one, apply a transform to it, write it or take it apart.
 
+use crate::agreement::looks_alike;
 use crate::counting::Counting;
 use crate::session::Session;
 use msi::transforms::{ErrorConditions, Transform};
-use msi::{Error, Package, PackageType};
+use msi::{Error, ErrorKind, Package, PackageType};
 use transcripts_words::contents::transform;
 use transcripts_words::failure::Failure;
 use transcripts_words::kept::pieces;
@@ -60,9 +61,22 @@ fn create(session: &mut Session, words: &mut Words) -> Result<(), Failure> {
 
 fn open(session: &mut Session, words: &mut Words) -> Result<(), Failure> {
     let bytes = Vec::from_slice(words.alloc, session.kept.bytes(words.name())?)?;
+    let seen = Vec::from_slice(words.alloc, bytes.as_slice())?;
     let device = session.device(words.alloc, bytes);
-    session.package = Some(Package::open(words.alloc, device)?);
+    let opened = Package::open(words.alloc, device);
+    if !is_of_device(&opened) && !looks_alike(words.alloc, seen.as_slice(), &opened)? {
+        return Err(Failure::Unreadable("looking shows another package"));
+    }
+    session.package = Some(opened?);
     Ok(())
+}
+
+/// Returns whether a package isn't opened since its device failed, or memory was refused.
+fn is_of_device<P>(opened: &Result<P, Error>) -> bool {
+    match opened {
+        Ok(_) => false,
+        Err(error) => matches!(error.kind(), ErrorKind::Io | ErrorKind::OutOfMemory),
+    }
 }
 
 /// Applies a transform that is given by its streams.

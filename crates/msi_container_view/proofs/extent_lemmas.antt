@@ -1,0 +1,4 @@
+-- Streams as pieces of a file.
+pub mod ExtentLemmas
+pub mod MiniRunLemmas
+pub mod SectorRunLemmas

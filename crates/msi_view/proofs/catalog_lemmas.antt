@@ -1,0 +1,3 @@
+-- The pool and the tables that are looked at.
+pub mod PartLemmas
+pub mod SchemaLemmas

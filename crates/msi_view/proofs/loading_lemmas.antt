@@ -1,0 +1,4 @@
+-- Reading the streams that are needed.
+pub mod CountedLemmas
+pub mod HeldNamesLemmas
+pub mod LoadedLemmas

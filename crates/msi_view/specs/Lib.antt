@@ -1,0 +1,3 @@
+-- The words of this crate.
+pub mod Looking
+pub mod Laws
