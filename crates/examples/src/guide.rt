@@ -5,6 +5,7 @@ use msi::{
     Column, Delete, Error, ErrorKind, Expr, Insert, LanguageId, Memory, Package, PackageType, Row,
     Select, Update, Value, ValueView,
 };
+use msi_view::View;
 use std::alloc::Global;
 use std::io::{self, Read, Write};
 
@@ -12,6 +13,7 @@ use std::io::{self, Read, Write};
 pub fn follow(rt: &HostRuntime) -> Result<(), Error> {
     let file = fill_package(rt)?;
     make_and_apply_transform(rt, file.as_slice())?;
+    look_at_features(rt, file.to_vec(rt.alloc())?)?;
     open_and_handle_errors(rt, file)?;
     open_and_handle_errors(rt, b"Dear reader".to_vec(rt.alloc())?)
 }
@@ -261,6 +263,14 @@ fn make_and_apply_transform(rt: &HostRuntime, file: &[u8]) -> Result<(), Error> 
     let transform = transform_file(alloc, &mut old, &mut new)?;
     apply_file(alloc, &mut old, transform)?;
     println!(rt; "transformed: {} tables", old.tables().len())?;
+    Ok(())
+}
+
+/// Looks at one table of a package; other tables and streams aren't read.
+fn look_at_features(rt: &HostRuntime, file: Vec<u8>) -> Result<(), Error> {
+    let mut view = View::open(rt.alloc(), Memory::from_vec(file))?;
+    let rows = view.select_rows(&Select::table(rt.alloc(), "Feature")?)?;
+    println!(rt; "looked at: {} features", rows.len())?;
     Ok(())
 }
 

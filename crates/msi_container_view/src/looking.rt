@@ -1,8 +1,8 @@
-//! The tables of a container, part by part: the DIFAT, the FAT, the directory, the mini FAT and the mini stream. What each
-//! of them says is read of the copy, and is what the file says.
+//! The tables of a container, part by part: the DIFAT, the FAT, the directory, the mini FAT and the mini stream. What
+//! each of them says is read of the copy, and is what the file says.
 
 ghost use Rattle.std.specs.Prelude.{◌≡◌, ℕ, List, ◌+◌, ◌-◌, ◌*◌, ◌/◌, ◌<◌, ◌≤◌, ◌^◌, ◌++◌, length, vec_len};
-ghost use Rattle.std.specs.Prelude.{IfOk, OnOk};
+ghost use Rattle.std.specs.Prelude.{IfOk};
 ghost use Rattle.std.specs.Int.{div_ceil};
 ghost use Rattle.msi_container_format.specs.Container as container;
 ghost use Rattle.msi_container_format.specs.Container.{IsDifat, IsDirectory, fat_of};

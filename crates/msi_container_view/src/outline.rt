@@ -1,6 +1,6 @@
 //! Looking at a container: from its header to where its streams lie.
 
-ghost use Rattle.std.specs.Prelude.{◌≡◌, ℕ, List, ◌+◌, ◌*◌, ◌^◌, ◌<◌, ◌≤◌, ◌↔◌, ◌++◌, [], vec_len, length};
+ghost use Rattle.std.specs.Prelude.{◌≡◌, ℕ, List, ◌+◌, ◌^◌, ◌<◌, ◌≤◌, ◌↔◌, ◌++◌, [], vec_len, length};
 ghost use Rattle.std.specs.Prelude.{IfOk, IsErrOf};
 ghost use Rattle.std.specs.FinMap.{from_entries};
 ghost use Rattle.msi_base.specs.declared.errors.ErrorKind.TheVariants.{InvalidData};
@@ -79,8 +79,8 @@ fn look_start<S: Seekable + Drop>(
     })
 }
 
-/// Locates the root's streams by tables that were copied. Fails with `InvalidData` where a stream has too few members or
-/// shares one, a name isn't well formed, or two storages or streams share one.
+/// Locates the root's streams by tables that were copied. Fails with `InvalidData` where a stream has too few members
+/// or shares one, a name isn't well formed, or two storages or streams share one.
 fn look_streams(
     alloc: Global,
     copy: &[u8],

@@ -4,7 +4,6 @@ ghost use Rattle.std.specs.Prelude.{◌≡◌, ℕ, List, ◌+◌, ◌-◌, ◌�
 ghost use Rattle.std.specs.Io.KnownBytes.{Appends};
 ghost use Rattle.msi_base.specs.declared.errors.ErrorKind.TheVariants.{Io, OutOfMemory};
 ghost use Rattle.msi_container_device.specs.Held.{bytes_told};
-ghost use Rattle.msi_container_format.specs.Bytes.{bytes_at};
 ghost use Rattle.msi_container_view.specs.Extents.{bytes_of, size_of};
 ghost use Rattle.msi_container_view.specs.Reading.{IsReadRefusal, Tells};
 

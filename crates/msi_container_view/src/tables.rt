@@ -1,10 +1,10 @@
 //! The tables of a container over a source: its header and, behind it, copies of sectors, each read once.
 
-ghost use Rattle.std.specs.Prelude.{◌≡◌, ◌+◌, ◌*◌, ◌<◌, ◌≤◌, ◌^◌, ◌⊎◌, ◌∷◌, [], false, length, vec_len};
-ghost use Rattle.std.specs.Prelude.{IfErr, IfOk, IfSome, OnOk, IsErrOf};
+ghost use Rattle.std.specs.Prelude.{◌≡◌, ◌+◌, ◌*◌, ◌<◌, ◌≤◌, ◌^◌, ◌∷◌, [], length};
+ghost use Rattle.std.specs.Prelude.{IfErr, IfOk, OnOk};
 ghost use Rattle.std.specs.List.{range_with_len};
-ghost use Rattle.msi_base.specs.declared.errors.ErrorKind.TheVariants.{InvalidData, Io, OutOfMemory};
-ghost use Rattle.msi_container_device.specs.Held.{all_bytes, bytes_told};
+ghost use Rattle.msi_base.specs.declared.errors.ErrorKind.TheVariants.{OutOfMemory};
+ghost use Rattle.msi_container_device.specs.Held.{bytes_told};
 ghost use Rattle.msi_container_format.specs.Container as container;
 ghost use Rattle.msi_container_view.specs.Reading.{Answers, IsReadRefusal};
 ghost use Rattle.msi_container_view.specs.Tables.{IsCopy, ReadsOn, StandAt};

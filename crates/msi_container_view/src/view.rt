@@ -1,6 +1,6 @@
 //! A container over a source, whose streams are read when they are asked for.
 
-ghost use Rattle.std.specs.Prelude.{◌≡◌, ℕ, List, [], Err, IfErr, IfOk, IfSome, IsErrOf, Ok, OnOk, Option, is_some, true, unwrap_or, ◌⊎◌};
+ghost use Rattle.std.specs.Prelude.{◌≡◌, ℕ, List, [], ◌⊎◌, IfErr, IfOk, IsErrOf, is_some, unwrap_or};
 ghost use Rattle.std.specs.Prelude.{option_map};
 ghost use Rattle.std.specs.Option.{option_map_or};
 ghost use Rattle.std.specs.FinMap as finite;
@@ -9,8 +9,8 @@ ghost use Rattle.msi_base.specs.declared.errors.ErrorKind.TheVariants.{InvalidDa
 ghost use Rattle.msi_container_device.specs.Held.{bytes_told};
 ghost use Rattle.msi_container_format.specs.declared.contents.Contents as held;
 ghost use Rattle.msi_container_format.specs.Container.{Holds};
-ghost use Rattle.msi_container_view.specs.Extents.{bytes_of, size_of};
-ghost use Rattle.msi_container_view.specs.Reading.{Answers, IsReadRefusal, Tells};
+ghost use Rattle.msi_container_view.specs.Extents.{size_of};
+ghost use Rattle.msi_container_view.specs.Reading.{IsReadRefusal, Tells};
 ghost use Rattle.msi_container_view.specs.Views.{ReadsMore, ReadsTables, contents_in, extents_at, streams_at};
 
 use crate::counted::Counted;
@@ -28,8 +28,8 @@ use std::io::Write;
 use std::marker::Model;
 
 /// A compound file of version 3 or 4 (MS-CFB 2) over a source: its directory is known, and each stream is read when it
-/// is asked for. Contracts see what the root is, where the streams lie, what the source holds, and how many of its bytes
-/// were read.
+/// is asked for. Contracts see what the root is, where the streams lie, what the source holds, and how many of its
+/// bytes were read.
 ///
 /// If another program changes the file meanwhile, each answer is that of some bytes, or an error.
 pub struct ContainerView<S: Source> {

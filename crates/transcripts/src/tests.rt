@@ -4,6 +4,7 @@
 mod device_calls;
 mod devices;
 mod files;
+mod looking;
 mod made_transforms;
 mod outcome;
 mod property_set;
@@ -32,6 +33,21 @@ pub(crate) fn run(rt: &HostRuntime) -> bool {
         rt,
         &"made transforms",
         made_transforms::transforms_are_made_as_they_were(alloc),
+    );
+    pass &= passes(
+        rt,
+        &"failing sources",
+        looking::failing_sources_are_asked_again(alloc),
+    );
+    pass &= passes(
+        rt,
+        &"short reads",
+        looking::short_reads_show_the_same(alloc),
+    );
+    pass &= passes(
+        rt,
+        &"cut packages",
+        looking::cut_packages_are_refused_alike(alloc),
     );
     pass &= passes(rt, &"files", files::opening_leaves_the_file_as_it_was(rt));
     pass & replays::a_list_of_calls_is_answered(rt)

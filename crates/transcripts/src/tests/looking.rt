@@ -1,0 +1,92 @@
+//! Looking at packages whose source fails, gives little at a time, or is cut.
+
+use crate::agreement::looks_alike;
+use crate::counting::Counting;
+use msi::{Error, ErrorKind, Package, PackageType};
+use msi_view::View;
+use std::alloc::Global;
+
+/// How many lengths a package is cut to: those of its first sectors.
+const LENGTHS: usize = 4096;
+
+fn package(alloc: Global) -> Result<Vec<u8>, Error> {
+    let device = Counting::new(Vec::new(alloc), usize::MAX, 0);
+    let mut package = Package::create(alloc, PackageType::Installer, device)?;
+    package
+        .write_stream("a")?
+        .write_vec(Vec::from_slice(alloc, &[7; 9000])?)?;
+    package.flush()?;
+    Ok(package.into_reader().memory.into_vec())
+}
+
+/// Looks at all parts; one that fails since its call does is asked for again.
+fn looks_again(alloc: Global, source: Counting) -> Result<bool, Error> {
+    let mut view = View::open(alloc, source)?;
+    let mut bytes = Vec::new(alloc);
+    let mut failures = 0;
+    if is_failed(view.summary_info())? {
+        failures += 1;
+        view.summary_info()?;
+    }
+    if is_failed(view.load_tables())? {
+        failures += 1;
+        view.load_tables()?;
+    }
+    if is_failed(view.read_stream("a", &mut bytes))? {
+        failures += 1;
+        bytes.clear();
+        view.read_stream("a", &mut bytes)?;
+    }
+    Ok(failures < 2 && bytes.as_slice() == [7; 9000].as_slice())
+}
+
+/// Whether a call failed since one of the source did.
+fn is_failed<T: Drop>(answer: Result<T, Error>) -> Result<bool, Error> {
+    match answer {
+        Ok(_) => Ok(false),
+        Err(error) if error.kind() == ErrorKind::Io => Ok(true),
+        Err(error) => Err(error),
+    }
+}
+
+/// Returns whether each call of a source may fail, in turn: then nothing is shown, or the same when it is asked again.
+pub(crate) fn failing_sources_are_asked_again(alloc: Global) -> Result<bool, Error> {
+    let bytes = package(alloc)?;
+    let mut failed = 0;
+    for failing in 1..1000 {
+        let copy = Vec::from_slice(alloc, bytes.as_slice())?;
+        match looks_again(alloc, Counting::new(copy, usize::MAX, failing)) {
+            Ok(is_same) if !is_same => return Ok(false),
+            Ok(_) => {}
+            Err(error) if error.kind() == ErrorKind::Io => failed += 1,
+            Err(error) => return Err(error),
+        }
+    }
+    Ok(failed > 5)
+}
+
+/// Returns whether sources that give one byte at a time, or seven, show the same.
+pub(crate) fn short_reads_show_the_same(alloc: Global) -> Result<bool, Error> {
+    let bytes = package(alloc)?;
+    for most_read in [1, 7] {
+        let mut source = Counting::new(Vec::from_slice(alloc, bytes.as_slice())?, usize::MAX, 0);
+        source.most_read = most_read;
+        if !looks_again(alloc, source)? {
+            return Ok(false);
+        }
+    }
+    Ok(true)
+}
+
+/// Returns whether a package that is cut is refused both ways alike, at each length.
+pub(crate) fn cut_packages_are_refused_alike(alloc: Global) -> Result<bool, Error> {
+    let bytes = package(alloc)?;
+    for len in 0..LENGTHS.min(bytes.len()) {
+        let cut = &bytes[..len];
+        let device = Counting::new(Vec::from_slice(alloc, cut)?, usize::MAX, 0);
+        if !looks_alike(alloc, cut, &Package::open(alloc, device))? {
+            return Ok(false);
+        }
+    }
+    Ok(true)
+}
