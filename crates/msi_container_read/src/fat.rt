@@ -60,7 +60,8 @@ pub fn read_fat(
     difat: &[u32],
     claims: &mut Claims,
 ) -> Result<Vec<u32>, Error>
-    requires { length difat.now ≡ div_ceil (container.fat_count bytes.now - 109) (container.sector_size bytes.now / 4 - 1) }
+    requires { length difat.now
+        ≡ div_ceil (container.fat_count bytes.now - 109) (container.sector_size bytes.now / 4 - 1) }
     ensures limit { vec_len claims.new.marks ≡ vec_len claims.old.marks }
     ensures found { IfOk result
         (λ fat. (fat.items ≡ fat_of bytes.now difat.now)

@@ -1,6 +1,7 @@
 //! The header, the size of a sector, and how many sectors can be used (MS-CFB 2.1 and 2.2).
 
-ghost use Rattle.std.specs.Prelude.{◌≡◌, ℕ, ◌+◌, ◌-◌, ◌/◌, min, ◌<◌, ◌≤◌, OnOk, OnErr, IsErrOf, MatchOption, IsTrue, ◌↔◌, ◌⊎◌, ◌==◌};
+ghost use Rattle.std.specs.Prelude.{◌≡◌, ℕ, ◌+◌, ◌-◌, ◌/◌, min, ◌<◌, ◌≤◌};
+ghost use Rattle.std.specs.Prelude.{OnOk, OnErr, IsErrOf, MatchOption, IsTrue, ◌↔◌, ◌⊎◌, ◌==◌};
 ghost use Rattle.std.specs.Prelude.{if◌then◌else◌};
 ghost use Rattle.msi_base.specs.declared.errors.ErrorKind.TheVariants.{InvalidData};
 ghost use Rattle.msi_container_format.specs.Bytes as spelled;

@@ -11,8 +11,8 @@ bytes_of file extents = flat_map (λ e. bytes_at file e.start e.count) extents
 abbrev pub size_of : List Extent → ℕ
 size_of extents = sum_by (λ e. e.count) extents
 
--- so many bytes of a stream with these members: mini sectors of the mini stream below 4096 bytes, and sectors from there
--- on
+-- so many bytes of a stream with these members: mini sectors of the mini stream below 4096 bytes, and sectors from
+-- there on
 abbrev pub bytes_stored : (file mini_stream : List ℕ) → ℕ → List ℕ → List ℕ
 bytes_stored file mini_stream size members = map
     (λ i. if is_mini size then mini_sector_byte file mini_stream members i else sector_byte file members i)

@@ -43,8 +43,8 @@ contents_in file v = record {
 abbrev pub IsView : View → Type 0
 IsView v = (file : List ℕ) → Tells v.held file → Holds file (contents_in file v)
 
--- How many bytes a look reads at most: the header's sector, and the sectors of the DIFAT, the FAT, the directory and the
--- mini FAT
+-- How many bytes a look reads at most: the header's sector, and the sectors of the DIFAT, the FAT, the directory and
+-- the mini FAT
 abbrev pub tables_size : List ℕ → Plan → ℕ
 tables_size file plan =
     (1 + length plan.difat + length plan.fat + length plan.directory + length plan.mini_fat) * sector_size file
