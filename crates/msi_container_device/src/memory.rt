@@ -3,7 +3,8 @@
 ghost use Rattle.std.specs.Prelude.{◌≡◌, IfErr, IfOk, IsOk, OnErr, OnOk, Some, false, length, min, take, true};
 ghost use Rattle.std.specs.IoError.{error_kind};
 ghost use Rattle.std.specs.declared.io.ErrorKind.TheVariants.{OutOfMemory};
-ghost use Rattle.msi_container_device.specs.Held.{all_bytes, at_end, at_place, at_start, from_first, further, with_piece};
+ghost use Rattle.msi_container_device.specs.Held.{all_bytes, at_end, at_place, at_start};
+ghost use Rattle.msi_container_device.specs.Held.{from_first, further, with_piece};
 
 use crate::device::Device;
 use crate::seekable::Seekable;
