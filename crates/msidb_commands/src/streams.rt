@@ -13,7 +13,7 @@ pub(crate) fn print_names<O: Write>(
     file: &str,
     output: &mut O,
 ) -> Result<(), Error> {
-    let view = msi_view::open(rt, file)?;
+    let view = packages::look(rt, file)?;
     let mut lines = Lines::new(rt.alloc());
     for (name, _) in view.streams().iter() {
         if is_listed(name) {
@@ -37,7 +37,7 @@ pub(crate) fn print_bytes<O: Write>(
     name: &str,
     output: &mut O,
 ) -> Result<(), Error> {
-    msi_view::open(rt, file)?.read_stream(name, output)?;
+    packages::look(rt, file)?.read_stream(name, output)?;
     Ok(output.flush()?)
 }
 

@@ -1,6 +1,7 @@
 //! `summary FILE`.
 
 use crate::lines::Lines;
+use crate::packages;
 use msi::{Error, HasUuid, LanguageId, SummaryInfo, SummaryProperty, Timestamp};
 use std::alloc::Global;
 use std::fmt::Display;
@@ -11,7 +12,7 @@ pub(crate) fn print_summary<O: Write>(
     file: &str,
     output: &mut O,
 ) -> Result<(), Error> {
-    let summary = msi_view::open(rt, file)?.summary_info()?;
+    let summary = packages::look(rt, file)?.summary_info()?;
     lines_of(rt.alloc(), &summary)?.end(output)
 }
 

@@ -1,6 +1,7 @@
 //! `tables FILE` and `rows FILE TABLE`.
 
 use crate::lines::Lines;
+use crate::packages;
 use msi::{Column, Error, Row, Rows, Select, Table};
 use std::alloc::Global;
 use std::io::Write;
@@ -10,7 +11,7 @@ pub(crate) fn print_tables<O: Write>(
     file: &str,
     output: &mut O,
 ) -> Result<(), Error> {
-    let mut view = msi_view::open(rt, file)?;
+    let mut view = packages::look(rt, file)?;
     lines_of(rt.alloc(), view.tables()?).end(output)
 }
 
@@ -29,7 +30,7 @@ pub(crate) fn print_rows<O: Write>(
     table: &str,
     output: &mut O,
 ) -> Result<(), Error> {
-    let mut view = msi_view::open(rt, file)?;
+    let mut view = packages::look(rt, file)?;
     let query = Select::table(rt.alloc(), table)?;
     let rows = view.select_rows(&query)?;
     let mut lines = Lines::new(rt.alloc());

@@ -10,6 +10,9 @@ use transcripts_words::failure::Failure;
 use transcripts_words::kept::pieces;
 use transcripts_words::words::Words;
 
+/// How many bytes a package may have that is also looked at.
+const LONGEST: usize = 1 << 20;
+
 /// The names of these calls.
 pub(crate) static VERBS: [&str; 7] = [
     "device",
@@ -64,7 +67,10 @@ fn open(session: &mut Session, words: &mut Words) -> Result<(), Failure> {
     let seen = Vec::from_slice(words.alloc, bytes.as_slice())?;
     let device = session.device(words.alloc, bytes);
     let opened = Package::open(words.alloc, device);
-    if !is_of_device(&opened) && !looks_alike(words.alloc, seen.as_slice(), &opened)? {
+    if seen.len() <= LONGEST
+        && !is_of_device(&opened)
+        && !looks_alike(words.alloc, seen.as_slice(), &opened)?
+    {
         return Err(Failure::Unreadable("looking shows another package"));
     }
     session.package = Some(opened?);

@@ -53,7 +53,7 @@ fn is_failed<T: Drop>(answer: Result<T, Error>) -> Result<bool, Error> {
 pub(crate) fn failing_sources_are_asked_again(alloc: Global) -> Result<bool, Error> {
     let bytes = package(alloc)?;
     let mut failed = 0;
-    for failing in 1..1000 {
+    for failing in 1..200 {
         let copy = Vec::from_slice(alloc, bytes.as_slice())?;
         match looks_again(alloc, Counting::new(copy, usize::MAX, failing)) {
             Ok(is_same) if !is_same => return Ok(false),
