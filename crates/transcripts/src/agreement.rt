@@ -139,8 +139,9 @@ fn are_same_tables(
         return Ok(false);
     }
     for (i, table) in tables.enumerate() {
-        if view.tables()?[i].name() != table.name() {
-            return Ok(false);
+        match view.tables()?.get(i) {
+            Some(seen) if seen.name() == table.name() => {}
+            Some(_) | None => return Ok(false),
         }
         let query = Select::table(alloc, table.name())?;
         let is_same = match (view.select_rows(&query), package.select_rows(query)) {
@@ -164,7 +165,7 @@ fn are_same_rows(seen: Rows<'_>, opened: Rows<'_>) -> Result<bool, Error> {
         };
         let other = other?;
         for i in 0..row.len() {
-            if other[i] != row[i] {
+            if i >= other.len() || other[i] != row[i] {
                 return Ok(false);
             }
         }
