@@ -57,17 +57,17 @@ fn is_failed(answer: Result<(), Error>) -> Result<bool, Error> {
 /// Returns whether each call of a source may fail, in turn: then nothing is shown, or the same when it is asked again.
 pub(crate) fn failing_sources_are_asked_again(alloc: Global) -> Result<bool, Error> {
     let bytes = package(alloc)?;
-    let mut failed = 0;
+    let mut has_failed = false;
     for failing in 1..200 {
         let copy = Vec::from_slice(alloc, bytes.as_slice())?;
         match looks_again(alloc, Counting::new(copy, usize::MAX, failing)) {
             Ok(is_same) if !is_same => return Ok(false),
             Ok(_) => {}
-            Err(error) if error.kind() == ErrorKind::Io => failed += 1,
+            Err(error) if error.kind() == ErrorKind::Io => has_failed = true,
             Err(error) => return Err(error),
         }
     }
-    Ok(failed > 5)
+    Ok(has_failed)
 }
 
 /// Returns whether sources that give one byte at a time, or seven, show the same.
