@@ -97,14 +97,18 @@ fn are_same_streams(
     let mut count = 0;
     for name in package.streams() {
         let name = name?;
-        let mut bytes = Vec::new(alloc);
-        view.read_stream(name.as_str(), &mut bytes)?;
         let (text, size) = match seen.get(count) {
             Some(one) => (one.0.as_str(), one.1),
             None => return Ok(false),
         };
-        let is_same = package.read_stream(name.as_str())?.rest() == bytes.as_slice();
-        if !is_same || text != name.as_str() || size != bytes.len() as u64 {
+        let mut bytes = Vec::new(alloc);
+        let answer = view.read_stream(name.as_str(), &mut bytes);
+        let is_same = match (answer, package.read_stream(name.as_str())) {
+            (Ok(()), Ok(stream)) => stream.rest() == bytes.as_slice() && size == bytes.len() as u64,
+            (Err(seen), Err(opened)) => seen.kind() == opened.kind(),
+            (Ok(()), Err(_)) | (Err(_), Ok(_)) => false,
+        };
+        if !is_same || text != name.as_str() {
             return Ok(false);
         }
         count += 1;
