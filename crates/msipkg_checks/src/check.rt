@@ -8,9 +8,9 @@ use crate::unlisted::check_unlisted;
 use crate::validation::check_validation;
 use crate::values::check_values;
 use msipkg_format::Style;
-use msipkg_packages::msi::Package;
-use msipkg_packages::output::{Failure, Opened, Output, System};
-use msipkg_packages::{Looked, PackageFile, TableNames, open_to_look};
+use msipkg_looking::{PackageView, open_to_look};
+use msipkg_packages::PackageFile;
+use msipkg_packages::output::{Failure, Output, System};
 use std::alloc::Global;
 
 /// How findings are printed.
@@ -48,25 +48,23 @@ pub fn check_file(
     output: &mut Output,
     notes: &mut Output,
 ) -> Result<Checked, Failure> {
-    let stored = TableNames::stored(rt, file.path)?;
-    let mut looked = open_to_look(rt, file, notes)?;
-    print_check(rt.alloc(), options, file.path, &stored, &mut looked, output)
+    let mut package = open_to_look(rt, file, notes)?;
+    print_check(rt.alloc(), options, file.path, &mut package, output)
 }
 
 fn print_check(
     alloc: Global,
     options: CheckOptions,
     file: &str,
-    stored: &TableNames,
-    looked: &mut Looked,
+    package: &mut PackageView,
     output: &mut Output,
 ) -> Result<Checked, Failure> {
     let mut report = Report::new(alloc, options, file, output);
     report.begin();
-    if !looked.has_summary {
+    if !package.has_summary() {
         report.add(Place::Summary, &"it can't be read");
     }
-    let found = find_errors(alloc, stored, &mut looked.package, &mut report);
+    let found = find_errors(alloc, package, &mut report);
     report.end(found.as_ref().err());
     match found {
         Ok(()) if report.is_well() => Ok(Checked::Sound),
@@ -79,11 +77,10 @@ fn print_check(
 /// Finds the errors in a package. The counts come last, since counting anew changes the package in memory.
 fn find_errors(
     alloc: Global,
-    stored: &TableNames,
-    package: &mut Package<Opened>,
+    package: &mut PackageView,
     report: &mut Report<'_>,
 ) -> Result<(), Failure> {
-    check_unlisted(alloc, stored, package, report)?;
+    check_unlisted(alloc, package, report)?;
     check_values(alloc, package, report)?;
     check_references(alloc, package, report)?;
     check_validation(alloc, package, report)?;

@@ -2,23 +2,22 @@
 
 use crate::report::{Place, Report};
 use crate::shown::Cut;
-use msipkg_packages::msi::{Error, ErrorKind, Package};
-use msipkg_packages::output::{Failure, Opened};
+use msipkg_looking::PackageView;
+use msipkg_packages::msi::{Error, ErrorKind};
+use msipkg_packages::output::Failure;
 use std::fmt;
 
 /// Finds out if counts of texts are too low to change tables, and how many are wrong. Many tools write such counts, so
 /// it is a warning if counting anew mends them. The package is counted anew in memory, unless it has storages below its
 /// root: it is only read then.
 pub(crate) fn check_counts(
-    package: &mut Package<Opened>,
+    package: &mut PackageView,
     report: &mut Report<'_>,
 ) -> Result<(), Failure> {
-    let page = package.database_codepage();
-    let refused = package.set_database_codepage(page);
-    match &refused {
-        Err(error) if error.kind() == ErrorKind::InvalidInput => return Ok(()),
-        Err(_) | Ok(()) => {}
+    if package.has_storages() {
+        return Ok(());
     }
+    let refused = package.check_changeable();
     match package.recount() {
         Ok(0) => add_refused(refused, report),
         Ok(changed) => {

@@ -1,8 +1,10 @@
 //! The columns to which foreign keys refer, and values as texts.
 
 use crate::reading::pass_over;
-use msipkg_packages::msi::{Package, Rows, Select, ValueView};
-use msipkg_packages::output::{Failure, Opened};
+use msipkg_looking::PackageView;
+use msipkg_packages::PackageTables;
+use msipkg_packages::msi::{Rows, Select, ValueView};
+use msipkg_packages::output::Failure;
 use std::alloc::{AllocError, Global};
 use std::collections::{BTreeMap, BTreeSet};
 
@@ -53,7 +55,7 @@ impl KeyColumns {
     /// or column, or if the table can't be read.
     pub(crate) fn column(
         &mut self,
-        package: &Package<Opened>,
+        package: &PackageView,
         table: &str,
         place: i32,
     ) -> Result<usize, Failure> {
@@ -69,7 +71,7 @@ impl KeyColumns {
 
     fn add_column(
         &mut self,
-        package: &Package<Opened>,
+        package: &PackageView,
         table: &str,
         place: i32,
         column: usize,

@@ -4,8 +4,10 @@ use crate::keys::{KeyColumns, key_text};
 use crate::reading::pass_over;
 use crate::report::{Place, Report};
 use crate::shown::{Cut, ShownValue, row_name};
-use msipkg_packages::msi::{Package, Rows, Select, Table, ValueView};
-use msipkg_packages::output::{Failure, Opened};
+use msipkg_looking::PackageView;
+use msipkg_packages::PackageTables;
+use msipkg_packages::msi::{Rows, Select, Table, ValueView};
+use msipkg_packages::output::Failure;
 use std::alloc::{AllocError, Global};
 use std::collections::BTreeSet;
 use std::fmt::{self, Display};
@@ -31,7 +33,7 @@ impl Drop for Reference {
 /// be read are passed over.
 pub(crate) fn check_references(
     alloc: Global,
-    package: &Package<Opened>,
+    package: &PackageView,
     report: &mut Report<'_>,
 ) -> Result<(), Failure> {
     let mut keys = KeyColumns::new(alloc);
@@ -40,7 +42,7 @@ pub(crate) fn check_references(
 
 fn check_tables(
     alloc: Global,
-    package: &Package<Opened>,
+    package: &PackageView,
     keys: &mut KeyColumns,
     report: &mut Report<'_>,
 ) -> Result<(), Failure> {
@@ -52,7 +54,7 @@ fn check_tables(
 
 fn check_table(
     alloc: Global,
-    package: &Package<Opened>,
+    package: &PackageView,
     table: &Table,
     keys: &mut KeyColumns,
     report: &mut Report<'_>,
@@ -64,7 +66,7 @@ fn check_table(
 
 fn check_columns(
     alloc: Global,
-    package: &Package<Opened>,
+    package: &PackageView,
     table: &Table,
     references: &[Reference],
     keys: &KeyColumns,
@@ -81,7 +83,7 @@ fn check_columns(
 
 fn add_references(
     alloc: Global,
-    package: &Package<Opened>,
+    package: &PackageView,
     table: &Table,
     keys: &mut KeyColumns,
     references: &mut Vec<Reference>,
@@ -99,14 +101,14 @@ fn add_references(
 /// separated by semicolons.
 fn targets_of(
     alloc: Global,
-    package: &Package<Opened>,
+    package: &PackageView,
     tables: &str,
     place: i32,
     keys: &mut KeyColumns,
 ) -> Result<BTreeSet<usize>, Failure> {
     let mut targets = BTreeSet::new(alloc);
     for table in tables.split(';') {
-        if package.has_table(table) {
+        if package.get_table(table).is_some() {
             targets.insert(keys.column(package, table, place)?)?;
         }
     }

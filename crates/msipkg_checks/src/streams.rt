@@ -3,9 +3,10 @@
 use crate::reading::pass_over;
 use crate::report::{Place, Report};
 use crate::shown::{Cut, row_name};
-use msipkg_packages::has_null_streams;
-use msipkg_packages::msi::{ColumnType, Package, Rows, Select, Table, ValueView};
-use msipkg_packages::output::{Failure, Opened, stream_name};
+use msipkg_looking::PackageView;
+use msipkg_packages::msi::{ColumnType, Rows, Select, Table, ValueView};
+use msipkg_packages::output::{Failure, stream_name};
+use msipkg_packages::{PackageTables, has_null_streams};
 use std::alloc::{AllocError, Global};
 use std::collections::BTreeSet;
 use std::fmt::{self, Display};
@@ -17,7 +18,7 @@ const MEDIA: &str = "Media";
 /// table and its key, such as `Icon.App`, and a row of `Media` names a cabinet behind a `#`.
 pub(crate) fn check_streams(
     alloc: Global,
-    package: &Package<Opened>,
+    package: &PackageView,
     report: &mut Report<'_>,
 ) -> Result<(), Failure> {
     let mut names = BTreeSet::new(alloc);
@@ -31,19 +32,19 @@ pub(crate) fn check_streams(
 }
 
 fn check_unnamed(
-    package: &Package<Opened>,
+    package: &PackageView,
     names: &BTreeSet<String>,
     report: &mut Report<'_>,
 ) -> Result<(), Failure> {
-    for name in package.streams() {
-        check_stream(package, names, name?.as_str(), report);
+    for name in &package.stream_names()? {
+        check_stream(package, names, name.as_str(), report);
     }
     Ok(())
 }
 
 /// Adds an error if a stream isn't found under its name, or if its name isn't among these.
 fn check_stream(
-    package: &Package<Opened>,
+    package: &PackageView,
     names: &BTreeSet<String>,
     name: &str,
     report: &mut Report<'_>,
@@ -62,7 +63,7 @@ fn check_stream(
 #[derive(Drop)]
 struct Named<'a> {
     alloc: Global,
-    package: &'a Package<Opened>,
+    package: &'a PackageView,
     names: &'a mut BTreeSet<String>,
 }
 

@@ -2,15 +2,17 @@
 
 use crate::reading::pass_over;
 use crate::report::{Place, Report};
-use msipkg_packages::msi::{Package, Row, Rows, Select, Value};
-use msipkg_packages::output::{Failure, Opened};
+use msipkg_looking::PackageView;
+use msipkg_packages::PackageTables;
+use msipkg_packages::msi::{Row, Rows, Select, Value};
+use msipkg_packages::output::Failure;
 use std::alloc::Global;
 
 /// Finds the rows of `_Validation` for columns that aren't in their tables. Those for missing tables are no errors:
 /// many tools put in the rows of all standard tables.
 pub(crate) fn check_validation(
     alloc: Global,
-    package: &Package<Opened>,
+    package: &PackageView,
     report: &mut Report<'_>,
 ) -> Result<(), Failure> {
     let query = Select::table(alloc, "_Validation")?.columns(&["Table", "Column"])?;
@@ -21,7 +23,7 @@ pub(crate) fn check_validation(
 }
 
 fn check_rows(
-    package: &Package<Opened>,
+    package: &PackageView,
     rows: Rows<'_>,
     report: &mut Report<'_>,
 ) -> Result<(), Failure> {
@@ -31,7 +33,7 @@ fn check_rows(
     Ok(())
 }
 
-fn check_row(package: &Package<Opened>, row: &Row, report: &mut Report<'_>) {
+fn check_row(package: &PackageView, row: &Row, report: &mut Report<'_>) {
     if row.len() < 2 {
         return;
     }

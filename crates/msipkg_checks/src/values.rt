@@ -3,17 +3,19 @@
 use crate::reasons::Refusal;
 use crate::report::{Place, Report};
 use crate::shown::{Cut, row_name};
+use msipkg_looking::PackageView;
+use msipkg_packages::PackageTables;
 use msipkg_packages::msi::{
-    Column, ColumnType, Error, ErrorKind, Package, Rows, Select, Table, ValueView,
+    Column, ColumnType, Error, ErrorKind, Rows, Select, Table, ValueView,
 };
-use msipkg_packages::output::{Failure, Opened};
+use msipkg_packages::output::Failure;
 use std::alloc::Global;
 use std::fmt::{self, Display};
 
 /// Finds the tables that can't be read, and in the others the values that their columns don't take, and empty texts.
 pub(crate) fn check_values(
     alloc: Global,
-    package: &Package<Opened>,
+    package: &PackageView,
     report: &mut Report<'_>,
 ) -> Result<(), Failure> {
     for table in package.tables() {
@@ -24,7 +26,7 @@ pub(crate) fn check_values(
 
 fn check_table(
     alloc: Global,
-    package: &Package<Opened>,
+    package: &PackageView,
     table: &Table,
     report: &mut Report<'_>,
 ) -> Result<(), Failure> {

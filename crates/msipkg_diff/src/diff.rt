@@ -5,38 +5,45 @@ use crate::report::Report;
 use crate::streams::compare_streams;
 use crate::tables::compare_tables;
 use msipkg_format::Style;
-use msipkg_packages::msi::{CodePage, Package};
-use msipkg_packages::output::{Failure, Opened, Output, System};
-use msipkg_packages::{
-    PackageFile, StoredStreams, check_kind, file_page, open_package, stored_streams,
-};
+use msipkg_looking::{PackageView, StoredNames, look_at};
+use msipkg_packages::PackageFile;
+use msipkg_packages::msi::{CodePage, Error};
+use msipkg_packages::output::{Failure, Output, System};
 use std::alloc::Global;
 
 /// A package that is compared.
-#[derive(Clone, Copy)]
 pub(crate) struct Compared<'a> {
     /// The path of its file.
     pub(crate) file: &'a str,
-    pub(crate) package: &'a Package<Opened>,
-    /// The file's streams, if there is one that isn't found under its name.
-    pub(crate) stored: Option<&'a StoredStreams>,
+    pub(crate) package: PackageView,
+    /// The names of its streams as they are stored, if there is one that isn't found under its name.
+    pub(crate) stored: Option<StoredNames>,
     /// The page that the file names for its database.
     pub(crate) page: i32,
 }
 
+/// Written out, so that a function that owns one calls one drop, and its proof doesn't go through those of the parts.
+impl Drop for Compared<'_> {
+    fn drop(self) {
+        let Compared {
+            file: _,
+            package: _,
+            stored: _,
+            page: _,
+        } = self;
+    }
+}
+
 impl<'a> Compared<'a> {
-    fn new(
-        file: &'a str,
-        package: &'a Package<Opened>,
-        stored: Option<&'a StoredStreams>,
-        page: i32,
-    ) -> Compared<'a> {
-        Compared {
+    fn of(file: &'a str, mut package: PackageView) -> Result<Compared<'a>, Error> {
+        let stored = package.stored_names()?;
+        let page = page_of(&mut package)?;
+        Ok(Compared {
             file,
             package,
             stored,
             page,
-        }
+        })
     }
 }
 
@@ -44,7 +51,7 @@ impl<'a> Compared<'a> {
 /// their keys, and streams. Returns whether nothing does.
 ///
 /// # Errors
-/// Fails as `open_package` and `stored_streams` do, at its path where the new file isn't opened. Fails if a table can't
+/// Fails as `look_at` does, at its path where the new file isn't opened. Fails if a table can't
 /// be read, and if memory is refused for comparing; the last member of JSON says so. If printing fails, the output
 /// keeps that; then what is returned may miss a difference.
 pub fn compare_files(
@@ -56,67 +63,37 @@ pub fn compare_files(
     output: &mut Output,
     notes: &mut Output,
 ) -> Result<bool, Failure> {
-    let (package, page) = open_with_page(rt, old, notes)?;
-    let stored = stored_streams(rt, old.path, &package)?;
-    let page = stored_page(page, &package);
-    let old = Compared::new(old.path, &package, stored.as_ref(), page);
-    compare_with(rt, style, &old, new, is_json, output, notes)
-}
-
-fn compare_with(
-    rt: &System,
-    style: Style,
-    old: &Compared<'_>,
-    new: &PackageFile<'_>,
-    is_json: bool,
-    output: &mut Output,
-    notes: &mut Output,
-) -> Result<bool, Failure> {
-    let (package, page) = open_new_file(rt, new, notes)?;
-    let stored = stored_streams(rt, new.path, &package)?;
-    let page = stored_page(page, &package);
-    let new = Compared::new(new.path, &package, stored.as_ref(), page);
-    print_differences(rt.alloc(), style, old, &new, is_json, output)
+    let mut old = Compared::of(old.path, look_at(rt, old, notes)?)?;
+    let mut new = Compared::of(new.path, look_at_new(rt, new, notes)?)?;
+    print_differences(rt.alloc(), style, &mut old, &mut new, is_json, output)
 }
 
 /// Returns the page that a file names for the database of its package, where another may be read as UTF-8.
-fn stored_page(named: Option<i32>, package: &Package<Opened>) -> i32 {
+fn page_of(package: &mut PackageView) -> Result<i32, Error> {
     let page = package.database_codepage();
     if matches!(page, CodePage::Utf8) {
-        named.unwrap_or(page.id())
+        Ok(package.stored_page()?.unwrap_or(page.id()))
     } else {
-        page.id()
+        Ok(page.id())
     }
 }
 
-/// Returns the package of the new file, and the page that the file names.
-fn open_new_file(
+fn look_at_new(
     rt: &System,
     file: &PackageFile<'_>,
     notes: &mut Output,
-) -> Result<(Package<Opened>, Option<i32>), Failure> {
-    match open_with_page(rt, file, notes) {
-        Ok(opened) => Ok(opened),
+) -> Result<PackageView, Failure> {
+    match look_at(rt, file, notes) {
+        Ok(package) => Ok(package),
         Err(failure) => Err(failure.at(rt.alloc(), "file", file.path)),
     }
-}
-
-fn open_with_page(
-    rt: &System,
-    file: &PackageFile<'_>,
-    notes: &mut Output,
-) -> Result<(Package<Opened>, Option<i32>), Failure> {
-    check_kind(rt, file.path)?;
-    // Read before the package is opened, so that the file's bytes are in memory once.
-    let page = file_page(rt, file.path)?;
-    Ok((open_package(rt, file, notes)?, page))
 }
 
 fn print_differences(
     alloc: Global,
     style: Style,
-    old: &Compared<'_>,
-    new: &Compared<'_>,
+    old: &mut Compared<'_>,
+    new: &mut Compared<'_>,
     is_json: bool,
     output: &mut Output,
 ) -> Result<bool, Failure> {
@@ -131,13 +108,11 @@ fn print_differences(
     }
 }
 
-fn compare(old: &Compared<'_>, new: &Compared<'_>, report: &mut Report<'_>) -> Result<(), Failure> {
+fn compare(old: &mut Compared<'_>, new: &mut Compared<'_>, report: &mut Report<'_>) -> Result<(), Failure> {
     compare_kinds(old, new, report);
-    compare_summaries(
-        old.package.summary_info(),
-        new.package.summary_info(),
-        report,
-    )?;
+    if let (Some(summary), Some(other)) = (old.package.summary_info(), new.package.summary_info()) {
+        compare_summaries(summary, other, report)?;
+    }
     compare_tables(old, new, report)?;
     compare_streams(old, new, report)
 }

@@ -6,11 +6,12 @@ use crate::numbering::{Texts, content_of, numbered_rows};
 use crate::report::Report;
 use msi_table::{Difference as RowDifference, differences};
 use msipkg_format::Shown;
+use msipkg_looking::PackageView;
 use msipkg_packages::msi::{
-    Column, Error, Items, Package, Row, Rows, Select, Table, Value, ValueView,
+    Column, Error, Items, Row, Rows, Select, Table, Value, ValueView,
 };
-use msipkg_packages::null_cells_of;
-use msipkg_packages::output::{Failure, NullCells, Opened, push_key};
+use msipkg_packages::output::{Failure, NullCells, push_key};
+use msipkg_packages::{PackageTables, null_cells_of};
 use std::alloc::{AllocError, Global};
 use std::cmp::Ordering;
 
@@ -50,8 +51,8 @@ pub(crate) fn compare_rows(
     let old_rows = rows_of_old(old, table, report.alloc)?;
     let new_rows = rows_of_new(new, other, report.alloc)?;
     let nulls = PairNulls {
-        old: null_cells_of(report.alloc, old.package, table)?,
-        new: null_cells_of(report.alloc, new.package, other)?,
+        old: null_cells_of(report.alloc, &old.package, table)?,
+        new: null_cells_of(report.alloc, &new.package, other)?,
     };
     if are_same(old_rows, new_rows, &nulls) {
         return Ok(());
@@ -64,15 +65,23 @@ pub(crate) fn compare_rows(
     }
 }
 
-fn rows_of_old<'a>(old: &Compared<'a>, table: &Table, alloc: Global) -> Result<Rows<'a>, Failure> {
-    match selected(alloc, old.package, table) {
+fn rows_of_old<'a>(
+    old: &'a Compared<'_>,
+    table: &Table,
+    alloc: Global,
+) -> Result<Rows<'a>, Failure> {
+    match selected(alloc, &old.package, table) {
         Ok(rows) => Ok(rows),
         Err(error) => Err(Failure::from(error).at(alloc, "table", table.name())),
     }
 }
 
-fn rows_of_new<'a>(new: &Compared<'a>, table: &Table, alloc: Global) -> Result<Rows<'a>, Failure> {
-    match selected(alloc, new.package, table) {
+fn rows_of_new<'a>(
+    new: &'a Compared<'_>,
+    table: &Table,
+    alloc: Global,
+) -> Result<Rows<'a>, Failure> {
+    match selected(alloc, &new.package, table) {
         Ok(rows) => Ok(rows),
         Err(error) => Err(failure_of_new(alloc, new.file, table.name(), error)),
     }
@@ -80,7 +89,7 @@ fn rows_of_new<'a>(new: &Compared<'a>, table: &Table, alloc: Global) -> Result<R
 
 fn selected<'a>(
     alloc: Global,
-    package: &'a Package<Opened>,
+    package: &'a PackageView,
     table: &Table,
 ) -> Result<Rows<'a>, Error> {
     package.select_rows(Select::table(alloc, table.name())?)
@@ -114,7 +123,7 @@ pub(crate) fn add_removed(
     report: &mut Report<'_>,
 ) -> Result<(), Failure> {
     let rows = rows_of_old(old, table, report.alloc)?;
-    let nulls = null_cells_of(report.alloc, old.package, table)?;
+    let nulls = null_cells_of(report.alloc, &old.package, table)?;
     add_all_rows(Change::Removed, table, rows, &nulls, report)
 }
 
@@ -124,7 +133,7 @@ pub(crate) fn add_added(
     report: &mut Report<'_>,
 ) -> Result<(), Failure> {
     let rows = rows_of_new(new, table, report.alloc)?;
-    let nulls = null_cells_of(report.alloc, new.package, table)?;
+    let nulls = null_cells_of(report.alloc, &new.package, table)?;
     add_all_rows(Change::Added, table, rows, &nulls, report)
 }
 

@@ -2,45 +2,68 @@
 
 use crate::diff::Compared;
 use crate::difference::{Change, Content, Difference, Member};
+use crate::matching::Matcher;
 use crate::report::Report;
 use msipkg_packages::output::Failure;
-use msipkg_packages::stream_bytes;
 
 pub(crate) fn compare_streams(
-    old: &Compared<'_>,
-    new: &Compared<'_>,
+    old: &mut Compared<'_>,
+    new: &mut Compared<'_>,
     report: &mut Report<'_>,
 ) -> Result<(), Failure> {
-    for name in old.package.streams() {
-        let name = name?;
-        let bytes = bytes_of(old, name.as_str());
-        compare_stream(name.as_str(), bytes, bytes_of(new, name.as_str()), report);
+    for name in &old.package.stream_names()? {
+        compare_stream(old, new, name.as_str(), report)?;
     }
     add_new_streams(old, new, report)
 }
 
 fn add_new_streams(
-    old: &Compared<'_>,
-    new: &Compared<'_>,
+    old: &mut Compared<'_>,
+    new: &mut Compared<'_>,
     report: &mut Report<'_>,
 ) -> Result<(), Failure> {
-    for name in new.package.streams() {
-        let name = name?;
-        if bytes_of(old, name.as_str()).is_none() {
-            compare_stream(name.as_str(), None, bytes_of(new, name.as_str()), report);
+    for name in &new.package.stream_names()? {
+        if old.stream_length(name.as_str()).is_none() {
+            let length = new.stream_length(name.as_str());
+            add_stream(name.as_str(), None, length, report);
         }
     }
     Ok(())
 }
 
-fn bytes_of<'a>(package: &Compared<'a>, name: &str) -> Option<&'a [u8]> {
-    stream_bytes(package.package, package.stored, name).ok()
+fn compare_stream(
+    old: &mut Compared<'_>,
+    new: &mut Compared<'_>,
+    name: &str,
+    report: &mut Report<'_>,
+) -> Result<(), Failure> {
+    let (length, other) = (old.stream_length(name), new.stream_length(name));
+    if length != other || !have_same_bytes(old, new, name)? {
+        add_stream(name, length, other, report);
+    }
+    Ok(())
 }
 
-fn compare_stream(name: &str, old: Option<&[u8]>, new: Option<&[u8]>, report: &mut Report<'_>) {
-    if old == new {
-        return;
+/// Returns whether both packages have the same bytes in a stream that both have.
+fn have_same_bytes(
+    old: &mut Compared<'_>,
+    new: &mut Compared<'_>,
+    name: &str,
+) -> Result<bool, Failure> {
+    let bytes = old.package.stream_bytes(old.stored.as_ref(), name)?;
+    let mut matcher = Matcher::new(bytes.as_slice());
+    new.package.copy_stream(new.stored.as_ref(), name, &mut matcher)?;
+    Ok(matcher.is_match())
+}
+
+impl Compared<'_> {
+    /// Returns how many bytes a stream has, if there is one of this name.
+    fn stream_length(&mut self, name: &str) -> Option<u64> {
+        self.package.stream_length(self.stored.as_ref(), name).ok()
     }
+}
+
+fn add_stream(name: &str, old: Option<u64>, new: Option<u64>, report: &mut Report<'_>) {
     let (old_length, new_length) = (length_member(old), length_member(new));
     report.add(&Difference {
         change: Change::of(old.is_some(), new.is_some()),
@@ -52,8 +75,8 @@ fn compare_stream(name: &str, old: Option<&[u8]>, new: Option<&[u8]>, report: &m
     });
 }
 
-fn length_member(bytes: Option<&[u8]>) -> Option<Member<'static>> {
-    let content = Content::count(bytes?.len());
+fn length_member(length: Option<u64>) -> Option<Member<'static>> {
+    let content = Content::Number(i64::try_from(length?).unwrap_or(i64::MAX));
     Some(Member {
         name: "bytes",
         content,

@@ -5,9 +5,9 @@ use crate::diff::Compared;
 use crate::difference::{Change, Content, Difference, Member};
 use crate::report::Report;
 use crate::rows::{add_added, add_removed, compare_rows};
-use msipkg_packages::is_list;
 use msipkg_packages::msi::{Column, Table};
 use msipkg_packages::output::Failure;
+use msipkg_packages::{PackageTables, is_list};
 use std::alloc::{AllocError, Global};
 
 /// Compares all tables: their columns and, where these have the same names in the same order and the same keys, their
@@ -31,7 +31,7 @@ fn add_new_tables(
     report: &mut Report<'_>,
 ) -> Result<(), Failure> {
     for table in new.package.tables() {
-        if !old.package.has_table(table.name()) {
+        if old.package.get_table(table.name()).is_none() {
             note_table(Change::Added, table, report);
             add_added(new, table, report)?;
         }

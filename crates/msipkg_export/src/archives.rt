@@ -7,9 +7,9 @@ use crate::other_archives::{
     PAGE, STREAMS, SUMMARY, page_archive, stream_files, streams_archive, summary_archive,
 };
 use crate::table_archives::{StreamFile, TableArchive};
-use msipkg_packages::msi::{Package, Table};
-use msipkg_packages::output::{Failure, Opened, Output, System, at_file};
-use msipkg_packages::{Folder, chosen_tables, open_new};
+use msipkg_looking::{PackageView, write_stream};
+use msipkg_packages::output::{Failure, Output, System, at_file};
+use msipkg_packages::{Folder, chosen_tables, open_new, table_named};
 use msipkg_safe_names::{Ending, SafeName, SafeNames, safe_name};
 use std::alloc::{AllocError, Global};
 use std::collections::BTreeSet;
@@ -58,11 +58,11 @@ impl Exported {
 /// `_Streams`. After a failure earlier files stay.
 pub(crate) fn export_archives(
     rt: &System,
-    package: &Package<Opened>,
+    package: &mut PackageView,
     names: &[&str],
     folder: &Folder<'_>,
 ) -> Result<(), Failure> {
-    let tables = chosen_tables(rt.alloc(), package, names, false)?;
+    let tables = table_names(rt.alloc(), package, names)?;
     check_archives(rt, tables.as_slice(), folder)?;
     if names.is_empty() {
         check_others(rt, folder)?;
@@ -72,10 +72,23 @@ pub(crate) fn export_archives(
     export_chosen(rt, package, names, tables.as_slice(), folder, &mut exported)
 }
 
-fn check_archives(rt: &System, tables: &[&Table], folder: &Folder<'_>) -> Result<(), Failure> {
+/// Returns the names of the tables of these names, or of all where there is none.
+fn table_names(
+    alloc: Global,
+    package: &PackageView,
+    names: &[&str],
+) -> Result<Vec<String>, Failure> {
+    let mut chosen = Vec::new(alloc);
+    for table in chosen_tables(alloc, package, names, false)? {
+        chosen.push(String::from_str(alloc, table.name())?)?;
+    }
+    Ok(chosen)
+}
+
+fn check_archives(rt: &System, tables: &[String], folder: &Folder<'_>) -> Result<(), Failure> {
     let mut exported = Exported::new(rt.alloc())?;
     for table in tables {
-        let name = exported.given.give(table.name())?;
+        let name = exported.given.give(table.as_str())?;
         folder.check(rt, &name.with_ending(Ending::Idt)?)?;
     }
     Ok(())
@@ -94,9 +107,9 @@ fn archive_name(alloc: Global, archive: &str) -> Result<SafeName, AllocError> {
 
 fn export_chosen(
     rt: &System,
-    package: &Package<Opened>,
+    package: &mut PackageView,
     names: &[&str],
-    tables: &[&Table],
+    tables: &[String],
     folder: &Folder<'_>,
     exported: &mut Exported,
 ) -> Result<(), Failure> {
@@ -109,15 +122,15 @@ fn export_chosen(
 
 fn export_tables(
     rt: &System,
-    package: &Package<Opened>,
-    tables: &[&Table],
+    package: &mut PackageView,
+    tables: &[String],
     folder: &Folder<'_>,
     exported: &mut Exported,
 ) -> Result<(), Failure> {
     for table in tables {
-        match export_table(rt, package, table, folder, exported) {
+        match export_table(rt, package, table.as_str(), folder, exported) {
             Ok(()) => {}
-            Err(failure) => return Err(failure.at(rt.alloc(), "table", table.name())),
+            Err(failure) => return Err(failure.at(rt.alloc(), "table", table.as_str())),
         }
     }
     Ok(())
@@ -125,12 +138,12 @@ fn export_tables(
 
 fn export_table(
     rt: &System,
-    package: &Package<Opened>,
-    table: &Table,
+    package: &mut PackageView,
+    table: &str,
     folder: &Folder<'_>,
     exported: &mut Exported,
 ) -> Result<(), Failure> {
-    let safe = exported.given.give(table.name())?;
+    let safe = exported.given.give(table)?;
     let files = write_table(rt, package, table, &safe, folder)?;
     write_streams(rt, package, &safe, files.as_slice(), folder)?;
     Ok(exported.add(files)?)
@@ -138,11 +151,12 @@ fn export_table(
 
 fn write_table(
     rt: &System,
-    package: &Package<Opened>,
-    table: &Table,
+    package: &PackageView,
+    table: &str,
     safe: &SafeName,
     folder: &Folder<'_>,
 ) -> Result<Vec<StreamFile>, Failure> {
+    let table = table_named(rt.alloc(), package, table)?;
     let mut archive = TableArchive::new(rt.alloc(), package, table)?;
     write_archive(rt, &mut archive, safe, folder)?;
     Ok(archive.into_files())
@@ -179,7 +193,7 @@ fn write_synced(archive: &mut TableArchive<'_>, output: &mut Output) -> Result<(
 /// Writes the code page, the summary, and the streams that no row has. Those of rows are `named`.
 fn export_others(
     rt: &System,
-    package: &Package<Opened>,
+    package: &mut PackageView,
     named: &BTreeSet<String>,
     folder: &Folder<'_>,
 ) -> Result<(), Failure> {
@@ -188,23 +202,28 @@ fn export_others(
     export_streams(rt, package, named, folder)
 }
 
-fn export_page(rt: &System, package: &Package<Opened>, folder: &Folder<'_>) -> Result<(), Failure> {
+fn export_page(rt: &System, package: &PackageView, folder: &Folder<'_>) -> Result<(), Failure> {
     let page = page_archive(rt.alloc(), package.database_codepage())?;
     write_text(rt, PAGE, &page, folder)
 }
 
 fn export_summary(
     rt: &System,
-    package: &Package<Opened>,
+    package: &PackageView,
     folder: &Folder<'_>,
 ) -> Result<(), Failure> {
-    let summary = summary_archive(rt.alloc(), package.summary_info())?;
-    write_text(rt, SUMMARY, &summary, folder)
+    match package.summary_info() {
+        Some(summary) => {
+            let summary = summary_archive(rt.alloc(), summary)?;
+            write_text(rt, SUMMARY, &summary, folder)
+        }
+        None => Ok(()),
+    }
 }
 
 fn export_streams(
     rt: &System,
-    package: &Package<Opened>,
+    package: &mut PackageView,
     named: &BTreeSet<String>,
     folder: &Folder<'_>,
 ) -> Result<(), Failure> {
@@ -234,7 +253,7 @@ fn write_text(
 
 fn write_streams(
     rt: &System,
-    package: &Package<Opened>,
+    package: &mut PackageView,
     safe: &SafeName,
     files: &[StreamFile],
     folder: &Folder<'_>,
@@ -249,19 +268,7 @@ fn write_streams(
         is_forced: folder.is_forced,
     };
     for file in files {
-        write_stream(rt, package, file, &inner)?;
+        write_stream(rt, package, None, file.stream.as_str(), &file.file, &inner)?;
     }
     Ok(())
-}
-
-fn write_stream(
-    rt: &System,
-    package: &Package<Opened>,
-    file: &StreamFile,
-    folder: &Folder<'_>,
-) -> Result<(), Failure> {
-    match package.read_stream(file.stream.as_str()) {
-        Ok(stream) => folder.write(rt, &file.file, stream.rest()),
-        Err(error) => Err(Failure::from(error).at(rt.alloc(), "stream", file.stream.as_str())),
-    }
 }

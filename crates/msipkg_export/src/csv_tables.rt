@@ -1,9 +1,10 @@
 //! Tables as comma-separated values: the names of the columns, and then a line for each row.
 
 use crate::folders::make_folder;
-use msipkg_packages::msi::{Package, Rows, Table};
+use msipkg_looking::PackageView;
+use msipkg_packages::msi::{Rows, Table};
 use msipkg_packages::output::{
-    Failure, NullCells, Opened, Output, RowPrinting, System, at_file, write_rows,
+    Failure, NullCells, Output, RowPrinting, System, at_file, write_rows,
 };
 use msipkg_packages::{Folder, chosen_tables, null_cells_of, open_new, rows_of};
 use msipkg_safe_names::{Ending, SafeName, SafeNames};
@@ -13,7 +14,7 @@ use std::alloc::{AllocError, Global};
 /// exist or a file is in the way. After other failures the files of earlier tables stay.
 pub(crate) fn export_csv(
     rt: &System,
-    package: &Package<Opened>,
+    package: &PackageView,
     names: &[&str],
     printing: RowPrinting<'_>,
     folder: &Folder<'_>,
@@ -24,7 +25,7 @@ pub(crate) fn export_csv(
 
 fn export_tables(
     rt: &System,
-    package: &Package<Opened>,
+    package: &PackageView,
     tables: &[&Table],
     printing: RowPrinting<'_>,
     folder: &Folder<'_>,
@@ -48,7 +49,7 @@ fn check_files(rt: &System, tables: &[&Table], folder: &Folder<'_>) -> Result<()
 
 fn export_table(
     rt: &System,
-    package: &Package<Opened>,
+    package: &PackageView,
     table: &Table,
     printing: RowPrinting<'_>,
     folder: &Folder<'_>,
@@ -92,7 +93,7 @@ fn write_synced(
 
 pub(crate) fn write_csv(
     alloc: Global,
-    package: &Package<Opened>,
+    package: &PackageView,
     table: &Table,
     printing: RowPrinting<'_>,
     output: &mut Output,

@@ -6,11 +6,11 @@ use crate::json_packages::write_package;
 use crate::losses::{note_losses, note_unlisted};
 use crate::table_archives::print_archive;
 use msipkg_format::{Escapes, Shown, Style};
-use msipkg_packages::msi::{Package, Table};
-use msipkg_packages::output::{Failure, Opened, Output, RowFormat, RowPrinting, System, at_file};
+use msipkg_looking::{PackageView, look_at, open_to_look};
+use msipkg_packages::msi::Table;
+use msipkg_packages::output::{Failure, Output, RowFormat, RowPrinting, System, at_file};
 use msipkg_packages::{
-    Folder, Looked, PackageFile, TableNames, is_list, open_output, open_package, open_to_look,
-    rows_of, table_named,
+    Folder, PackageFile, PackageTables, is_list, open_output, rows_of, table_named,
 };
 use std::alloc::Global;
 
@@ -69,7 +69,7 @@ pub struct Target<'a> {
 /// written without a summary, and nothing is lost that may not be.
 ///
 /// # Errors
-/// Fails as `open_to_look` does, and for a whole package as `open_package`; if a table isn't there or can't be read, if
+/// Fails as `open_to_look` does, and for a whole package as `look_at`; if a table isn't there or can't be read, if
 /// a text can't stand in the format, if a file is there already and isn't to be replaced, and as the calls of the
 /// system do.
 pub fn export(
@@ -80,40 +80,30 @@ pub fn export(
     output: &mut Output,
     notes: &mut Output,
 ) -> Result<bool, Failure> {
-    if !names.is_empty() {
-        let looked = open_to_look(rt, file, notes)?;
-        let package = &looked.package;
-        let is_well = export_tables(rt, file.path, package, names, target, output, notes)?;
-        return Ok(is_well && looked.has_summary);
-    }
-    let stored = TableNames::stored(rt, file.path)?;
-    let looked = open_whole(rt, file, target.format, notes)?;
-    let package = &looked.package;
-    let is_well = export_tables(rt, file.path, package, names, target, output, notes)?;
-    let is_lost = note_unlisted(rt.alloc(), file.path, &stored, package, notes)?;
-    Ok(is_well && looked.has_summary && (target.is_lossy || !is_lost))
+    let mut package = open_for(rt, file, names, target.format, notes)?;
+    let is_well = export_tables(rt, file.path, &mut package, names, target, output, notes)?;
+    let is_lost = names.is_empty() && note_unlisted(rt.alloc(), file.path, &package, notes)?;
+    Ok(is_well && package.has_summary() && (target.is_lossy || !is_lost))
 }
 
-/// CSV has no summary, so one that can't be read matters to the other formats alone.
-fn open_whole(
+/// Tables and CSV have no summary, so one that can't be read matters to whole packages in the other formats alone.
+fn open_for(
     rt: &System,
     file: &PackageFile<'_>,
+    names: &[&str],
     format: FileFormat,
     notes: &mut Output,
-) -> Result<Looked, Failure> {
+) -> Result<PackageView, Failure> {
     match format {
-        FileFormat::Csv => open_to_look(rt, file, notes),
-        FileFormat::Json | FileFormat::Idt => Ok(Looked {
-            package: open_package(rt, file, notes)?,
-            has_summary: true,
-        }),
+        FileFormat::Json | FileFormat::Idt if names.is_empty() => look_at(rt, file, notes),
+        FileFormat::Csv | FileFormat::Json | FileFormat::Idt => open_to_look(rt, file, notes),
     }
 }
 
 fn export_tables(
     rt: &System,
     file: &str,
-    package: &Package<Opened>,
+    package: &mut PackageView,
     names: &[&str],
     target: &Target<'_>,
     output: &mut Output,
@@ -133,7 +123,7 @@ fn export_tables(
 fn print_package(
     alloc: Global,
     file: &str,
-    package: &Package<Opened>,
+    package: &mut PackageView,
     names: &[&str],
     target: &Target<'_>,
     output: &mut Output,
@@ -161,7 +151,7 @@ fn csv_printing<'a>(style: Style, target: &Target<'_>) -> RowPrinting<'a> {
 
 fn one_table<'a>(
     alloc: Global,
-    package: &'a Package<Opened>,
+    package: &'a PackageView,
     names: &[&str],
 ) -> Result<&'a Table, Failure> {
     match names {
@@ -173,7 +163,7 @@ fn one_table<'a>(
 fn write_files(
     rt: &System,
     file: &str,
-    package: &Package<Opened>,
+    package: &mut PackageView,
     names: &[&str],
     target: &Target<'_>,
     path: &str,
@@ -194,7 +184,7 @@ fn write_files(
 fn write_json(
     rt: &System,
     file: &str,
-    package: &Package<Opened>,
+    package: &mut PackageView,
     names: &[&str],
     target: &Folder<'_>,
 ) -> Result<(), Failure> {
@@ -207,7 +197,7 @@ fn write_json(
 fn write_synced(
     alloc: Global,
     file: &str,
-    package: &Package<Opened>,
+    package: &mut PackageView,
     names: &[&str],
     output: &mut Output,
 ) -> Result<(), Failure> {
@@ -216,9 +206,8 @@ fn write_synced(
 }
 
 /// Writes a line for each stream of a file's package that isn't found under its name.
-fn note_hidden(file: &str, package: &Package<Opened>, notes: &mut Output) -> Result<(), Failure> {
-    for name in package.streams() {
-        let name = name?;
+fn note_hidden(file: &str, package: &PackageView, notes: &mut Output) -> Result<(), Failure> {
+    for name in &package.stream_names()? {
         if !package.has_stream(name.as_str()) {
             note_stream(file, name.as_str(), notes);
         }
@@ -239,7 +228,7 @@ fn note_stream(file: &str, stream: &str, notes: &mut Output) {
 /// doesn't list. Returns whether there is no such table, or it may be lost.
 ///
 /// # Errors
-/// Fails as `open_package` does, and if a table can't be read, and then nothing is written.
+/// Fails as `look_at` does, and if a table can't be read, and then nothing is written.
 pub fn export_line(
     rt: &System,
     style: Style,
@@ -248,11 +237,10 @@ pub fn export_line(
     output: &mut Output,
     notes: &mut Output,
 ) -> Result<bool, Failure> {
-    let stored = TableNames::stored(rt, file.path)?;
-    let package = open_package(rt, file, notes)?;
-    write_line(rt.alloc(), style, file.path, &package, output)?;
+    let mut package = look_at(rt, file, notes)?;
+    write_line(rt.alloc(), style, file.path, &mut package, output)?;
     note_hidden(file.path, &package, notes)?;
-    let is_lost = note_unlisted(rt.alloc(), file.path, &stored, &package, notes)?;
+    let is_lost = note_unlisted(rt.alloc(), file.path, &package, notes)?;
     Ok(is_lossy || !is_lost)
 }
 
@@ -260,14 +248,14 @@ fn write_line(
     alloc: Global,
     style: Style,
     file: &str,
-    package: &Package<Opened>,
+    package: &mut PackageView,
     output: &mut Output,
 ) -> Result<(), Failure> {
     check_tables(alloc, package)?;
     write_package(alloc, style, file, package, &[], output)
 }
 
-fn check_tables(alloc: Global, package: &Package<Opened>) -> Result<(), Failure> {
+fn check_tables(alloc: Global, package: &PackageView) -> Result<(), Failure> {
     for table in package.tables() {
         if !is_list(table) {
             drop(rows_of(alloc, package, table.name())?);

@@ -1,16 +1,16 @@
 //! Packages as JSON on one line: the summary, the tables with the types of their columns, and the streams.
 
-use base64::engine::general_purpose::STANDARD;
+use crate::base64_texts::Encoder;
 use msipkg_format::{JsonObject, Style, write_quoted, write_text};
-use msipkg_packages::msi::{Error, Package, Rows, SummaryInfo, SummaryProperty, Table};
+use msipkg_looking::PackageView;
+use msipkg_packages::msi::{Error, Rows, SummaryInfo, SummaryProperty, Table};
 use msipkg_packages::output::{
-    Failure, JsonRow, NullCells, Opened, Output, StoredProperty, put_columns,
+    Failure, JsonRow, NullCells, Output, StoredProperty, put_columns,
 };
-use msipkg_packages::{chosen_tables, kind_name, null_cells_of, property_text, rows_of};
+use msipkg_packages::{
+    PackageTables, chosen_tables, kind_name, null_cells_of, property_text, rows_of,
+};
 use std::alloc::{AllocError, Global};
-
-/// How many bytes of a stream are written at a time. Three of them are four signs, so that the pieces join.
-const PIECE: usize = 48 * 1024;
 
 /// Writes a package as an object on one line. If tables are named, it has these alone, without the summary and the
 /// streams. Rows are lists of values in the order of the columns; a stream's value is `true`, and its bytes are under
@@ -19,24 +19,39 @@ pub(crate) fn write_package(
     alloc: Global,
     style: Style,
     file: &str,
-    package: &Package<Opened>,
+    package: &mut PackageView,
+    names: &[&str],
+    output: &mut Output,
+) -> Result<(), Failure> {
+    write_chosen(alloc, style, file, package, names, output)?;
+    if names.is_empty() {
+        write_streams(alloc, style, package, output)?;
+    }
+    output.push_str("}\n");
+    Ok(())
+}
+
+fn write_chosen(
+    alloc: Global,
+    style: Style,
+    file: &str,
+    package: &PackageView,
     names: &[&str],
     output: &mut Output,
 ) -> Result<(), Failure> {
     let tables = chosen_tables(alloc, package, names, false)?;
     write_head(alloc, style, file, package, output);
     if names.is_empty() {
-        write_whole(alloc, style, package, tables.as_slice(), output)
-    } else {
-        write_part(alloc, style, package, tables.as_slice(), output)
+        write_summary(alloc, style, package, output);
     }
+    write_tables(alloc, style, package, tables.as_slice(), output)
 }
 
 fn write_head(
     alloc: Global,
     style: Style,
     file: &str,
-    package: &Package<Opened>,
+    package: &PackageView,
     output: &mut Output,
 ) {
     output.push_str("{\"file\":");
@@ -46,33 +61,10 @@ fn write_head(
     write!(output, ",\"kind\":\"{kind}\",\"codepage\":{page}");
 }
 
-fn write_whole(
-    alloc: Global,
-    style: Style,
-    package: &Package<Opened>,
-    tables: &[&Table],
-    output: &mut Output,
-) -> Result<(), Failure> {
-    write_summary(alloc, style, package.summary_info(), output);
-    write_tables(alloc, style, package, tables, output)?;
-    write_streams(alloc, style, package, output)?;
-    output.push_str("}\n");
-    Ok(())
-}
-
-fn write_part(
-    alloc: Global,
-    style: Style,
-    package: &Package<Opened>,
-    tables: &[&Table],
-    output: &mut Output,
-) -> Result<(), Failure> {
-    write_tables(alloc, style, package, tables, output)?;
-    output.push_str("}\n");
-    Ok(())
-}
-
-fn write_summary(alloc: Global, style: Style, summary: &SummaryInfo, output: &mut Output) {
+fn write_summary(alloc: Global, style: Style, package: &PackageView, output: &mut Output) {
+    let Some(summary) = package.summary_info() else {
+        return;
+    };
     output.push_str(",\"summary\":");
     match summary_json(alloc, summary) {
         Ok(object) => object.print(style, output),
@@ -96,7 +88,7 @@ fn summary_json(alloc: Global, summary: &SummaryInfo) -> Result<JsonObject, Erro
 fn write_tables(
     alloc: Global,
     style: Style,
-    package: &Package<Opened>,
+    package: &PackageView,
     tables: &[&Table],
     output: &mut Output,
 ) -> Result<(), Failure> {
@@ -114,7 +106,7 @@ fn write_tables(
 fn write_table(
     alloc: Global,
     style: Style,
-    package: &Package<Opened>,
+    package: &PackageView,
     table: &Table,
     output: &mut Output,
 ) -> Result<(), Failure> {
@@ -166,39 +158,39 @@ fn write_lists(
     Ok(())
 }
 
+/// Writes the streams that are found under their names.
 fn write_streams(
     alloc: Global,
     style: Style,
-    package: &Package<Opened>,
+    package: &mut PackageView,
     output: &mut Output,
 ) -> Result<(), Failure> {
     output.push_str(",\"streams\":[");
     let mut before: &[u8] = b"";
-    for name in package.streams() {
-        let name = name?;
-        if let Ok(stream) = package.read_stream(name.as_str()) {
+    for name in &package.stream_names()? {
+        if package.has_stream(name.as_str()) {
             output.push_bytes(before);
             before = b",";
-            write_stream(alloc, style, name.as_str(), stream.rest(), output);
+            write_stream(alloc, style, package, name.as_str(), output)?;
         }
     }
     output.push_str("]");
     Ok(())
 }
 
-fn write_stream(alloc: Global, style: Style, name: &str, bytes: &[u8], output: &mut Output) {
+fn write_stream(
+    alloc: Global,
+    style: Style,
+    package: &mut PackageView,
+    name: &str,
+    output: &mut Output,
+) -> Result<(), Failure> {
     output.push_str("{\"stream\":");
     write_quoted(alloc, style, name, output);
     output.push_str(",\"base64\":\"");
-    for piece in bytes.chunks(PIECE) {
-        write_piece(alloc, piece, output);
-    }
+    let mut encoder = Encoder::new(alloc, output);
+    package.copy_stream(None, name, &mut encoder)?;
+    encoder.end();
     output.push_str("\"}");
-}
-
-fn write_piece(alloc: Global, piece: &[u8], output: &mut Output) {
-    match STANDARD.encode(alloc, piece) {
-        Ok(text) => output.push_str(text.as_str()),
-        Err(error) => output.refuse_memory(error),
-    }
+    Ok(())
 }

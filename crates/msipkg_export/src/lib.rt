@@ -6,6 +6,7 @@ mod archive_pages;
 mod archive_parts;
 mod archive_texts;
 mod archives;
+mod base64_texts;
 mod csv_tables;
 pub mod exporting;
 mod folders;

@@ -2,8 +2,9 @@
 
 use crate::exporting::FileFormat;
 use msipkg_format::Shown;
-use msipkg_packages::msi::{Column, ColumnType, Package, Table};
-use msipkg_packages::output::{Failure, Opened, Output};
+use msipkg_looking::PackageView;
+use msipkg_packages::msi::{Column, ColumnType, Table};
+use msipkg_packages::output::{Failure, Output};
 use msipkg_packages::{TableNames, chosen_tables};
 use std::alloc::Global;
 
@@ -12,7 +13,7 @@ use std::alloc::Global;
 pub(crate) fn note_losses(
     alloc: Global,
     file: &str,
-    package: &Package<Opened>,
+    package: &PackageView,
     names: &[&str],
     format: FileFormat,
     notes: &mut Output,
@@ -26,7 +27,7 @@ pub(crate) fn note_losses(
 fn note_tables(
     alloc: Global,
     file: &str,
-    package: &Package<Opened>,
+    package: &PackageView,
     names: &[&str],
     notes: &mut Output,
 ) -> Result<bool, Failure> {
@@ -67,10 +68,10 @@ pub(crate) fn has_localizable_type(column: &Column) -> bool {
 pub(crate) fn note_unlisted(
     alloc: Global,
     file: &str,
-    stored: &TableNames,
-    package: &Package<Opened>,
+    package: &PackageView,
     notes: &mut Output,
 ) -> Result<bool, Failure> {
+    let stored = package.stored_tables()?;
     let listed = TableNames::listed(alloc, package)?;
     let Some(table) = stored.first_beside(&listed) else {
         return Ok(false);

@@ -3,11 +3,12 @@
 use crate::archive_parts::text_value;
 use crate::archive_texts::{StoredText, text_of_rows};
 use crate::table_archives::StreamFile;
+use msipkg_looking::PackageView;
 use msipkg_packages::msi::{
-    CodePage, Column, Error, Items, Package, SummaryInfo, SummaryProperty, Value,
+    CodePage, Column, Error, Items, SummaryInfo, SummaryProperty, Value,
 };
-use msipkg_packages::output::{Failure, Opened, StoredProperty};
-use msipkg_packages::property_text;
+use msipkg_packages::output::{Failure, StoredProperty};
+use msipkg_packages::{PackageTables, property_text};
 use msipkg_safe_names::SafeNames;
 use std::alloc::{AllocError, Global};
 use std::collections::BTreeSet;
@@ -60,13 +61,12 @@ fn property_row(alloc: Global, id: i32, text: &str) -> Result<Items<Value>, Erro
 /// Returns the streams that no row has and that are found under their names. Those of rows are in `named`.
 pub(crate) fn stream_files(
     alloc: Global,
-    package: &Package<Opened>,
+    package: &PackageView,
     named: &BTreeSet<String>,
 ) -> Result<Vec<StreamFile>, Error> {
     let mut given = SafeNames::new(alloc);
     let mut files = Vec::new(alloc);
-    for stream in package.streams() {
-        let stream = stream?;
+    for stream in package.stream_names()? {
         if !named.contains(stream.as_str()) && package.has_stream(stream.as_str()) {
             let file = given.give(stream.as_str())?;
             files.push(StreamFile { stream, file })?;

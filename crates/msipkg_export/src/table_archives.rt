@@ -4,9 +4,10 @@ use crate::archive_pages::ArchivePage;
 use crate::archive_parts::text_value;
 use crate::archive_texts::ArchiveText;
 use msipkg_format::Style;
-use msipkg_packages::msi::{CodePage, Column, ColumnType, Package, Rows, Table, Value, ValueView};
-use msipkg_packages::output::{Failure, Opened, Output, stream_name};
-use msipkg_packages::{cell_text, has_null_streams, rows_of};
+use msipkg_looking::PackageView;
+use msipkg_packages::msi::{CodePage, Column, ColumnType, Rows, Table, Value, ValueView};
+use msipkg_packages::output::{Failure, Output, stream_name};
+use msipkg_packages::{PackageTables, cell_text, has_null_streams, rows_of};
 use msipkg_safe_names::{SafeName, SafeNames};
 use std::alloc::{AllocError, Global};
 
@@ -38,7 +39,7 @@ impl StreamFile {
 /// A table on its way into its archive, with the files of its rows' streams.
 pub(crate) struct TableArchive<'a> {
     alloc: Global,
-    package: &'a Package<Opened>,
+    package: &'a PackageView,
     table: &'a str,
     given: SafeNames,
     /// The streams of the rows, whose values in the archive are the names of their files.
@@ -68,7 +69,7 @@ impl<'a> TableArchive<'a> {
     /// page is to be named, so that none of their lines is kept.
     pub(crate) fn new(
         alloc: Global,
-        package: &'a Package<Opened>,
+        package: &'a PackageView,
         table: &'a Table,
     ) -> Result<TableArchive<'a>, Failure> {
         let rows = rows_of(alloc, package, table.name())?;
@@ -193,7 +194,7 @@ fn has_texts(column: &Column) -> bool {
 pub(crate) fn print_archive(
     alloc: Global,
     style: Style,
-    package: &Package<Opened>,
+    package: &PackageView,
     table: &Table,
     output: &mut Output,
 ) -> Result<(), Failure> {

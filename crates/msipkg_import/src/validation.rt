@@ -4,6 +4,7 @@
 use crate::columns::described_columns;
 use crate::descriptions::describe;
 use msipkg_format::Shown;
+use msipkg_looking::stored_tables;
 use msipkg_packages::msi::{Error, Insert, Package, Row, Table, Value};
 use msipkg_packages::output::{Failure, Opened, Output, System};
 use msipkg_packages::{TableNames, fill_stream, is_list, new_package, rows_of};
@@ -62,7 +63,7 @@ impl Before {
     /// Fails at a table of which a file has rows and that its package didn't list, since a package made anew doesn't
     /// have them.
     pub fn check_listed(&self, rt: &System, file: &str) -> Result<(), Failure> {
-        let stored = TableNames::stored(rt, file)?;
+        let stored = stored_tables(rt, file)?;
         match stored.first_beside(&self.listed) {
             Some(table) => {
                 let failure = Failure::rule("_Tables doesn't list it, so its rows would be lost");

@@ -11,12 +11,10 @@ pub mod making;
 mod named_pages;
 pub mod null_streams;
 pub mod opening;
-pub mod partial;
 pub mod properties;
 mod reasons;
 pub mod recoding;
 pub mod replacing;
-pub mod stored;
 pub mod streams;
 pub mod summary_texts;
 pub mod tables;
@@ -34,13 +32,16 @@ pub use msi;
 pub use msipkg_format as output;
 pub use null_streams::{StreamColumn, has_null_streams, null_cells_in, null_cells_of};
 pub use opening::{FileState, kind_name, new_package, open_package, open_to_change};
-pub use partial::{Looked, open_to_look};
 pub use properties::{page_of, set_properties, set_property};
-pub use recoding::{PackageFile, Purpose, Recoded, file_page, page_in};
+pub use named_pages::pool_page;
+pub use recoding::{
+    PackageFile, Purpose, Recoded, file_page, page_in, read_file, recoded_by_page, recoded_instead,
+};
 pub use replacing::replace_file;
-pub use stored::{StoredStreams, stored_streams, stream_bytes};
 pub use streams::fill_stream;
 pub use summary_texts::{property_text, set_property_text, uuid_text};
-pub use tables::{cell_text, check_reserved, chosen_tables, is_list, rows_of, table_named};
+pub use tables::{
+    PackageTables, cell_text, check_reserved, chosen_tables, is_list, rows_of, table_named,
+};
 pub use unlisted::TableNames;
 pub use unread_summary::{note_summary, without_summary};

@@ -74,8 +74,8 @@ fn bytes_at<'a>(streams: &'a StreamMap, name: &str) -> Result<Option<&'a [u8]>, 
     }
 }
 
-/// Returns the page that the pool names in its first 31 bits.
-fn pool_page(bytes: &[u8]) -> Option<i32> {
+/// Returns the page that the stream of the pool names in its first 31 bits.
+pub fn pool_page(bytes: &[u8]) -> Option<i32> {
     i32::try_from(u32_at(bytes, 0)? & 0x7FFF_FFFF).ok()
 }
 

@@ -1,9 +1,9 @@
 //! Which cells of columns of streams are null. A cell doesn't record it: rows have a stream there, whatever is stored.
 //! So a cell is null if its column takes null and the package has no stream of its row's name, such as `Icon.App`.
 
-use crate::output::{Failure, NullCells, Opened, stream_name_by};
-use crate::tables::rows_of;
-use msi::{Column, ColumnType, Package, Rows, Table};
+use crate::output::{Failure, NullCells, stream_name_by};
+use crate::tables::{PackageTables, rows_of};
+use msi::{Column, ColumnType, Rows, Table};
 use std::alloc::{AllocError, Global};
 
 /// A column of streams, among the columns of rows, whose cells may be null.
@@ -37,9 +37,9 @@ pub fn has_null_streams(column: &Column) -> bool {
 ///
 /// # Errors
 /// Fails as `rows_of` does.
-pub fn null_cells_of(
+pub fn null_cells_of<P: PackageTables>(
     alloc: Global,
-    package: &Package<Opened>,
+    package: &P,
     table: &Table,
 ) -> Result<NullCells, Failure> {
     let columns = stream_columns(alloc, table)?;
@@ -78,9 +78,9 @@ fn key_places(alloc: Global, columns: &[Column]) -> Result<Vec<usize>, AllocErro
 ///
 /// # Errors
 /// Fails if memory is refused.
-pub fn null_cells_in(
+pub fn null_cells_in<P: PackageTables>(
     alloc: Global,
-    package: &Package<Opened>,
+    package: &P,
     columns: &[StreamColumn<'_>],
     mut rows: Rows<'_>,
 ) -> Result<NullCells, AllocError> {
@@ -92,9 +92,9 @@ pub fn null_cells_in(
     Ok(nulls)
 }
 
-fn add_nulls(
+fn add_nulls<P: PackageTables>(
     alloc: Global,
-    package: &Package<Opened>,
+    package: &P,
     columns: &[StreamColumn<'_>],
     rows: &Rows<'_>,
     number: usize,
@@ -108,9 +108,9 @@ fn add_nulls(
     Ok(())
 }
 
-fn has_stream(
+fn has_stream<P: PackageTables>(
     alloc: Global,
-    package: &Package<Opened>,
+    package: &P,
     column: &StreamColumn<'_>,
     rows: &Rows<'_>,
 ) -> Result<bool, AllocError> {

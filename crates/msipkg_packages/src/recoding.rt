@@ -39,6 +39,8 @@ pub struct PackageFile<'a> {
 pub struct Recoded {
     bytes: Vec<u8>,
     pages: Pages,
+    /// The page that the file names for the texts of its tables.
+    named: Option<i32>,
     /// Whether storages below the root are left out.
     is_part: bool,
 }
@@ -49,6 +51,7 @@ impl Drop for Recoded {
         let Recoded {
             bytes: _,
             pages: _,
+            named: _,
             is_part: _,
         } = self;
     }
@@ -60,9 +63,15 @@ impl Recoded {
         let Recoded {
             bytes,
             pages: _,
+            named: _,
             is_part: _,
         } = self;
         bytes
+    }
+
+    /// Returns the page that the file names for the texts of its tables, if it names one.
+    pub fn named_page(&self) -> Option<i32> {
+        self.named
     }
 
     /// Fails if the package is changed and may not be recoded, and notes else that its texts are.
@@ -137,7 +146,7 @@ pub(crate) fn bytes_to_change(
     let named = NamedPages::of(alloc, &contents.streams)?;
     let pages = named.recoded_from(file.page);
     if file.page.is_some() && !pages.is_empty() {
-        let recoded = recoded_from(alloc, contents, pages, file)?;
+        let recoded = recoded_from(alloc, contents, named, file)?;
         return Ok(ToChange::Recoded(recoded));
     }
     let has_page_zero = check_page(alloc, named, &contents.streams)?;
@@ -189,7 +198,7 @@ pub fn page_in(alloc: Global, bytes: &[u8]) -> Result<Option<i32>, Error> {
 ///
 /// # Errors
 /// Fails as the calls of the system do, and at a text that its page doesn't read.
-pub(crate) fn recoded_by_page(
+pub fn recoded_by_page(
     rt: &System,
     file: &PackageFile<'_>,
 ) -> Result<Option<Recoded>, Failure> {
@@ -203,7 +212,7 @@ pub(crate) fn recoded_by_page(
 ///
 /// # Errors
 /// Fails with that failure if there are no texts to be recoded, and at a text that its page doesn't read.
-pub(crate) fn recoded_instead(
+pub fn recoded_instead(
     alloc: Global,
     bytes: Rc<Vec<u8>>,
     file: &PackageFile<'_>,
@@ -215,7 +224,11 @@ pub(crate) fn recoded_instead(
     }
 }
 
-pub(crate) fn read_file(rt: &System, path: &str) -> Result<Rc<Vec<u8>>, Failure> {
+/// Returns the bytes of a file.
+///
+/// # Errors
+/// Fails as the calls of the system do, and if memory is refused.
+pub fn read_file(rt: &System, path: &str) -> Result<Rc<Vec<u8>>, Failure> {
     Ok(Rc::new(rt.alloc(), rt.read(path)?)?)
 }
 
@@ -237,11 +250,11 @@ fn recoded_of(
     contents: Contents,
     file: &PackageFile<'_>,
 ) -> Result<Option<Recoded>, Failure> {
-    let pages = NamedPages::of(alloc, &contents.streams)?.recoded_from(file.page);
-    if pages.is_empty() {
+    let named = NamedPages::of(alloc, &contents.streams)?;
+    if named.recoded_from(file.page).is_empty() {
         return Ok(None);
     }
-    Ok(Some(recoded_from(alloc, contents, pages, file)?))
+    Ok(Some(recoded_from(alloc, contents, named, file)?))
 }
 
 pub(crate) fn recoded_or_plain(
@@ -249,21 +262,21 @@ pub(crate) fn recoded_or_plain(
     contents: Contents,
     file: &PackageFile<'_>,
 ) -> Result<Recoded, Failure> {
-    let pages = NamedPages::of(alloc, &contents.streams)?.recoded_from(file.page);
-    if pages.is_empty() {
-        return written(alloc, contents, pages, file.purpose);
+    let named = NamedPages::of(alloc, &contents.streams)?;
+    if named.recoded_from(file.page).is_empty() {
+        return written(alloc, contents, named, file);
     }
-    recoded_from(alloc, contents, pages, file)
+    recoded_from(alloc, contents, named, file)
 }
 
 fn recoded_from(
     alloc: Global,
     contents: Contents,
-    pages: Pages,
+    named: NamedPages,
     file: &PackageFile<'_>,
 ) -> Result<Recoded, Failure> {
     match recode_contents(alloc, file.page.and_then(TextPage::of), contents) {
-        Ok(contents) => written(alloc, contents, pages, file.purpose),
+        Ok(contents) => written(alloc, contents, named, file),
         Err(error) => Err(Failure::new(Cause::Text(error))),
     }
 }
@@ -273,17 +286,18 @@ fn recoded_from(
 fn written(
     alloc: Global,
     mut contents: Contents,
-    pages: Pages,
-    purpose: Purpose,
+    named: NamedPages,
+    file: &PackageFile<'_>,
 ) -> Result<Recoded, Failure> {
-    let is_part = contents.has_storages && matches!(purpose, Purpose::Look);
+    let is_part = contents.has_storages && matches!(file.purpose, Purpose::Look);
     if is_part {
         contents.has_storages = false;
     }
     let bytes = compound::write(alloc, &contents, 0)?;
     Ok(Recoded {
         bytes,
-        pages,
+        pages: named.recoded_from(file.page),
+        named: named.database(),
         is_part,
     })
 }

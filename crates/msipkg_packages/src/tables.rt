@@ -4,6 +4,42 @@ use crate::output::{Failure, Opened, push_key};
 use msi::{Error, Package, Rows, Select, Table, ValueView};
 use std::alloc::{AllocError, Global};
 
+/// The tables of a package, and whether it has a stream of a name: of one that is opened whole, or is looked at.
+pub trait PackageTables {
+    /// Returns the tables, by name in the order of their bytes.
+    fn tables(&self) -> &[Table];
+
+    /// Returns the table of this name, if there is one.
+    fn get_table(&self, name: &str) -> Option<&Table>;
+
+    /// Returns the rows that a query selects.
+    ///
+    /// # Errors
+    /// Fails as `Package::select_rows` does.
+    fn select_rows(&self, query: Select) -> Result<Rows<'_>, Error>;
+
+    /// Returns whether a stream is found under this name.
+    fn has_stream(&self, name: &str) -> bool;
+}
+
+impl PackageTables for Package<Opened> {
+    fn tables(&self) -> &[Table] {
+        Package::tables(self).as_slice()
+    }
+
+    fn get_table(&self, name: &str) -> Option<&Table> {
+        Package::get_table(self, name)
+    }
+
+    fn select_rows(&self, query: Select) -> Result<Rows<'_>, Error> {
+        Package::select_rows(self, query)
+    }
+
+    fn has_stream(&self, name: &str) -> bool {
+        Package::has_stream(self, name)
+    }
+}
+
 /// Returns whether a table only lists what the others are.
 pub fn is_list(table: &Table) -> bool {
     matches!(table.name(), "_Columns" | "_Tables")
@@ -13,9 +49,9 @@ pub fn is_list(table: &Table) -> bool {
 ///
 /// # Errors
 /// Fails if it isn't there, at its name.
-pub fn table_named<'a>(
+pub fn table_named<'a, P: PackageTables>(
     alloc: Global,
-    package: &'a Package<Opened>,
+    package: &'a P,
     name: &str,
 ) -> Result<&'a Table, Failure> {
     match package.get_table(name) {
@@ -29,9 +65,9 @@ pub fn table_named<'a>(
 ///
 /// # Errors
 /// Fails if a table isn't there, at its name, and if memory is refused.
-pub fn chosen_tables<'a>(
+pub fn chosen_tables<'a, P: PackageTables>(
     alloc: Global,
-    package: &'a Package<Opened>,
+    package: &'a P,
     names: &[&str],
     has_lists: bool,
 ) -> Result<Vec<&'a Table>, Failure> {
@@ -46,8 +82,8 @@ pub fn chosen_tables<'a>(
 }
 
 /// Adds all tables. With `has_lists`, these include those that only list what the others are.
-fn add_tables<'a>(
-    package: &'a Package<Opened>,
+fn add_tables<'a, P: PackageTables>(
+    package: &'a P,
     has_lists: bool,
     tables: &mut Vec<&'a Table>,
 ) -> Result<(), AllocError> {
@@ -63,9 +99,9 @@ fn add_tables<'a>(
 ///
 /// # Errors
 /// Fails if the table isn't there or can't be read, and with `OutOfMemory`; at the table's name.
-pub fn rows_of<'a>(
+pub fn rows_of<'a, P: PackageTables>(
     alloc: Global,
-    package: &'a Package<Opened>,
+    package: &'a P,
     table: &str,
 ) -> Result<Rows<'a>, Failure> {
     match selected(alloc, package, table) {
@@ -74,9 +110,9 @@ pub fn rows_of<'a>(
     }
 }
 
-fn selected<'a>(
+fn selected<'a, P: PackageTables>(
     alloc: Global,
-    package: &'a Package<Opened>,
+    package: &'a P,
     table: &str,
 ) -> Result<Rows<'a>, Error> {
     package.select_rows(Select::table(alloc, table)?)

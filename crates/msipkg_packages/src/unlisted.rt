@@ -1,11 +1,10 @@
 //! Tables whose rows a file has in a stream, although `_Tables` doesn't list them.
 
-use crate::output::{Failure, Opened, System};
-use msi::compound::{self, Sizes};
-use msi::{Error, ErrorKind, Package, streamname};
+use crate::tables::PackageTables;
+use msi::compound::Name;
+use msi::{Error, streamname};
 use std::alloc::{AllocError, Global};
 use std::collections::BTreeSet;
-use std::fs;
 
 /// The names of tables.
 pub struct TableNames {
@@ -20,11 +19,18 @@ impl Drop for TableNames {
 }
 
 impl TableNames {
+    /// Returns no names.
+    pub fn none(alloc: Global) -> TableNames {
+        TableNames {
+            names: BTreeSet::new(alloc),
+        }
+    }
+
     /// Returns the names of the tables that a package lists.
     ///
     /// # Errors
     /// Fails if memory is refused.
-    pub fn listed(alloc: Global, package: &Package<Opened>) -> Result<TableNames, AllocError> {
+    pub fn listed<P: PackageTables>(alloc: Global, package: &P) -> Result<TableNames, AllocError> {
         let mut names = BTreeSet::new(alloc);
         for table in package.tables() {
             names.insert(String::from_str(alloc, table.name())?)?;
@@ -32,21 +38,16 @@ impl TableNames {
         Ok(TableNames { names })
     }
 
-    /// Returns the names of the tables of which a file has streams. The file is read for it, best before its package is
-    /// opened, since its bytes aren't kept. A pipe or a device, which can't be read twice, and a file that is no
-    /// package have none.
+    /// Adds the name of the table that a stream is of, by the container's name of the stream, unless it is of none.
     ///
     /// # Errors
-    /// Fails if the file can't be read, and if memory is refused.
-    pub fn stored(rt: &System, path: &str) -> Result<TableNames, Failure> {
-        let alloc = rt.alloc();
-        if let Some(bytes) = rt.input_at(path) {
-            return Ok(stored_in(alloc, bytes)?);
+    /// Fails if memory is refused.
+    pub fn add_stored(&mut self, alloc: Global, stream: &Name) -> Result<(), Error> {
+        let (text, is_table) = streamname::decode(alloc, stream.to_text(alloc)?.as_str())?;
+        if is_table && !is_pool(text.as_str()) {
+            self.names.insert(text)?;
         }
-        match fs::metadata(&rt.rt, path) {
-            Ok(metadata) if metadata.is_file() => Ok(stored_in(alloc, rt.read(path)?.as_slice())?),
-            Ok(_) | Err(_) => Ok(none(alloc)),
-        }
+        Ok(())
     }
 
     /// Returns the first of the names, by their bytes, that isn't among others.
@@ -58,31 +59,6 @@ impl TableNames {
         }
         None
     }
-}
-
-fn none(alloc: Global) -> TableNames {
-    TableNames {
-        names: BTreeSet::new(alloc),
-    }
-}
-
-fn stored_in(alloc: Global, bytes: &[u8]) -> Result<TableNames, Error> {
-    match compound::list(alloc, bytes) {
-        Ok(listing) => tables_among(alloc, &listing.sizes),
-        Err(error) if matches!(error.kind(), ErrorKind::OutOfMemory) => Err(error),
-        Err(_) => Ok(none(alloc)),
-    }
-}
-
-fn tables_among(alloc: Global, sizes: &Sizes) -> Result<TableNames, Error> {
-    let mut names = BTreeSet::new(alloc);
-    for (name, _) in sizes.iter() {
-        let (text, is_table) = streamname::decode(alloc, name.to_text(alloc)?.as_str())?;
-        if is_table && !is_pool(text.as_str()) {
-            names.insert(text)?;
-        }
-    }
-    Ok(TableNames { names })
 }
 
 /// Whether a stream named as a table's holds texts and no rows.

@@ -2,9 +2,10 @@
 
 use crate::cells::{Cell, CellList, CellSubject, Found, note_unread, row_key};
 use crate::matching::{Finder, Wanted};
-use msipkg_packages::msi::{Package, Rows, Table, ValueView};
-use msipkg_packages::output::{Failure, Opened, Output, Style, System};
-use msipkg_packages::{PackageFile, is_list, open_to_look, rows_of};
+use msipkg_looking::{PackageView, open_to_look};
+use msipkg_packages::msi::{Rows, Table, ValueView};
+use msipkg_packages::output::{Failure, Output, Style, System};
+use msipkg_packages::{PackageFile, PackageTables, is_list, rows_of};
 use std::alloc::{AllocError, Global};
 
 /// What is searched for, and where.
@@ -38,12 +39,12 @@ pub fn find_values(
     let alloc = rt.alloc();
     let regex = search.wanted.regex(alloc)?;
     let mut finder = search.wanted.finder(alloc, &regex)?;
-    let looked = open_to_look(rt, file, notes)?;
+    let package = open_to_look(rt, file, notes)?;
     let mut cells = CellList::new(alloc, style, file.path, search.is_json, &VALUES);
     let is_read = search_package(
         alloc,
         file.path,
-        &looked.package,
+        &package,
         search.has_all,
         &mut finder,
         &mut cells,
@@ -56,7 +57,7 @@ pub fn find_values(
 fn search_package(
     alloc: Global,
     file: &str,
-    package: &Package<Opened>,
+    package: &PackageView,
     has_all: bool,
     finder: &mut Finder<'_>,
     cells: &mut CellList,
@@ -80,7 +81,7 @@ fn describes_tables(table: &Table) -> bool {
 fn search_or_note(
     alloc: Global,
     file: &str,
-    package: &Package<Opened>,
+    package: &PackageView,
     table: &Table,
     finder: &mut Finder<'_>,
     cells: &mut CellList,
@@ -137,12 +138,11 @@ fn search_row(
 /// Searches the names of streams, which are the keys of the installer's table `_Streams`.
 fn search_streams(
     alloc: Global,
-    package: &Package<Opened>,
+    package: &PackageView,
     finder: &mut Finder<'_>,
     cells: &mut CellList,
 ) -> Result<(), Failure> {
-    for name in package.streams() {
-        let name = name?;
+    for name in &package.stream_names()? {
         let value = ValueView::Str(name.as_str());
         if finder.finds(alloc, value)? {
             cells.put(Cell {

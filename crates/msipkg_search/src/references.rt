@@ -3,9 +3,10 @@
 use crate::cells::{Cell, CellList, CellSubject, Found, note_unread, row_key};
 use crate::known_keys::known_key;
 use crate::target::Target;
-use msipkg_packages::msi::{Column, Package, Rows, Table, ValueView};
-use msipkg_packages::output::{Failure, Opened, Output, Shown, Style, System};
-use msipkg_packages::{PackageFile, open_to_look, rows_of};
+use msipkg_looking::{PackageView, open_to_look};
+use msipkg_packages::msi::{Column, Rows, Table, ValueView};
+use msipkg_packages::output::{Failure, Output, Shown, Style, System};
+use msipkg_packages::{PackageFile, PackageTables, rows_of};
 use std::alloc::{AllocError, Global};
 
 /// Which row is asked for.
@@ -47,17 +48,10 @@ pub fn find_references(
     notes: &mut Output,
 ) -> Result<Found, Failure> {
     let alloc = rt.alloc();
-    let looked = open_to_look(rt, file, notes)?;
-    let target = Target::of(alloc, &looked.package, referred.table, referred.key)?;
+    let package = open_to_look(rt, file, notes)?;
+    let target = Target::of(alloc, &package, referred.table, referred.key)?;
     let mut cells = CellList::new(alloc, style, file.path, referred.is_json, &REFERENCES);
-    let is_read = add_tables(
-        alloc,
-        file.path,
-        &looked.package,
-        &target,
-        &mut cells,
-        notes,
-    )?;
+    let is_read = add_tables(alloc, file.path, &package, &target, &mut cells, notes)?;
     let found = cells.print(is_read, output);
     if matches!(found, Found::Nothing) {
         note_nothing(file.path, referred, notes);
@@ -78,7 +72,7 @@ fn note_nothing(file: &str, referred: Referred<'_>, notes: &mut Output) {
 fn add_tables(
     alloc: Global,
     file: &str,
-    package: &Package<Opened>,
+    package: &PackageView,
     target: &Target<'_>,
     cells: &mut CellList,
     notes: &mut Output,

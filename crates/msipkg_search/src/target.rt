@@ -1,9 +1,10 @@
 //! The row that `refs` asks for.
 
 use crate::cells::row_key;
-use msipkg_packages::msi::{Package, Rows, Table, ValueView};
-use msipkg_packages::output::{Failure, Opened, Shown, near_text, push_key, said};
-use msipkg_packages::rows_of;
+use msipkg_looking::PackageView;
+use msipkg_packages::msi::{Rows, Table, ValueView};
+use msipkg_packages::output::{Failure, Shown, near_text, push_key, said};
+use msipkg_packages::{PackageTables, rows_of};
 use std::alloc::{AllocError, Global};
 use std::collections::BTreeSet;
 
@@ -32,7 +33,7 @@ impl<'a> Target<'a> {
     /// `OutOfMemory`.
     pub(crate) fn of(
         alloc: Global,
-        package: &'a Package<Opened>,
+        package: &'a PackageView,
         table: &str,
         key: &str,
     ) -> Result<Target<'a>, Failure> {
@@ -107,7 +108,7 @@ impl<'a> Target<'a> {
 
 fn table_or_near<'a>(
     alloc: Global,
-    package: &'a Package<Opened>,
+    package: &'a PackageView,
     name: &str,
 ) -> Result<&'a Table, Failure> {
     if let Some(table) = package.get_table(name) {

@@ -2,10 +2,11 @@
 //! is written outside the folder.
 
 use msipkg_format::{Shown, Style};
-use msipkg_packages::msi::Package;
-use msipkg_packages::output::{Failure, Opened, Output, System};
-use msipkg_packages::{Folder, StoredStreams, stored_streams, stream_bytes};
+use msipkg_looking::{PackageView, StoredNames, write_stream};
+use msipkg_packages::Folder;
+use msipkg_packages::output::{Failure, Output, System};
 use msipkg_safe_names::SafeNames;
+use std::alloc::{AllocError, Global};
 use std::collections::BTreeSet;
 use std::fs;
 
@@ -16,36 +17,57 @@ const SEVERAL: &str = "one stream goes to standard output: name it, or give a fo
 const TERMINAL: &str = "the bytes of a stream aren't printed on a terminal";
 
 /// What streams are taken from, and where their files go.
-#[derive(Clone, Copy)]
 struct Extraction<'a> {
     rt: &'a System,
-    package: &'a Package<Opened>,
-    stored: Option<&'a StoredStreams>,
+    package: &'a mut PackageView,
+    stored: Option<StoredNames>,
     folder: Folder<'a>,
     /// Whether nothing is written, and it is only looked whether all could be.
     is_trial: bool,
+}
+
+/// Written out, so that a function that owns one calls one drop, and its proof doesn't go through those of the parts.
+impl Drop for Extraction<'_> {
+    fn drop(self) {
+        let Extraction {
+            rt: _,
+            package: _,
+            stored: _,
+            folder: _,
+            is_trial: _,
+        } = self;
+    }
 }
 
 /// Writes the named streams, or all where none is named, each once. If a named stream doesn't exist, or a file exists
 /// and isn't to be replaced, nothing is written. If the system fails, the files of earlier streams stay.
 pub(crate) fn extract_streams(
     rt: &System,
-    file: &str,
-    package: &Package<Opened>,
+    package: &mut PackageView,
     names: &[&str],
     folder: Folder<'_>,
     notes: &mut Output,
 ) -> Result<(), Failure> {
-    let streams = stored_streams(rt, file, package)?;
-    extract(rt, package, streams.as_ref(), folder, names, notes)
+    let chosen = chosen_streams(rt.alloc(), package, names)?;
+    let stored = package.stored_names()?;
+    let mut extraction = Extraction {
+        rt,
+        package,
+        stored,
+        folder,
+        is_trial: true,
+    };
+    extraction.extract(chosen.as_slice(), notes)?;
+    fs::create_dir_all(&rt.rt, folder.path)?;
+    extraction.is_trial = false;
+    extraction.extract(chosen.as_slice(), notes)
 }
 
 /// Prints the bytes of the one stream that is named. Fails if not exactly one is named, and on a terminal.
 pub(crate) fn print_stream(
-    rt: &System,
+    alloc: Global,
     style: Style,
-    file: &str,
-    package: &Package<Opened>,
+    package: &mut PackageView,
     names: &[&str],
     output: &mut Output,
 ) -> Result<(), Failure> {
@@ -55,95 +77,61 @@ pub(crate) fn print_stream(
     if style.is_terminal {
         return Err(Failure::rule(TERMINAL));
     }
-    let streams = stored_streams(rt, file, package)?;
-    match stream_bytes(package, streams.as_ref(), name) {
-        Ok(bytes) => {
-            output.push_bytes(bytes);
-            Ok(())
-        }
-        Err(error) => Err(Failure::from(error).at(rt.alloc(), "stream", name)),
+    let stored = package.stored_names()?;
+    match package.copy_stream(stored.as_ref(), name, output) {
+        Ok(()) => Ok(()),
+        Err(failure) => Err(failure.at(alloc, "stream", name)),
     }
 }
 
-fn extract<'a>(
-    rt: &'a System,
-    package: &'a Package<Opened>,
-    stored: Option<&'a StoredStreams>,
-    folder: Folder<'a>,
+/// Returns the named streams, each once, or all where none is named.
+fn chosen_streams(
+    alloc: Global,
+    package: &PackageView,
     names: &[&str],
-    notes: &mut Output,
-) -> Result<(), Failure> {
-    let mut extraction = Extraction {
-        rt,
-        package,
-        stored,
-        folder,
-        is_trial: true,
-    };
-    extract_chosen(&extraction, names, notes)?;
-    fs::create_dir_all(&rt.rt, folder.path)?;
-    extraction.is_trial = false;
-    extract_chosen(&extraction, names, notes)
-}
-
-fn extract_chosen(
-    extraction: &Extraction<'_>,
-    names: &[&str],
-    notes: &mut Output,
-) -> Result<(), Failure> {
-    let mut given = SafeNames::new(extraction.rt.alloc());
+) -> Result<Vec<String>, Failure> {
     if names.is_empty() {
-        extract_all(extraction, &mut given, notes)
-    } else {
-        extract_named(extraction, names, &mut given, notes)
+        return Ok(package.stream_names()?);
     }
+    Ok(each_once(alloc, names)?)
 }
 
-fn extract_all(
-    extraction: &Extraction<'_>,
-    given: &mut SafeNames,
-    notes: &mut Output,
-) -> Result<(), Failure> {
-    for name in extraction.package.streams() {
-        extract_one(extraction, name?.as_str(), given, notes)?;
-    }
-    Ok(())
-}
-
-fn extract_named(
-    extraction: &Extraction<'_>,
-    names: &[&str],
-    given: &mut SafeNames,
-    notes: &mut Output,
-) -> Result<(), Failure> {
-    let mut written = BTreeSet::new(extraction.rt.alloc());
+fn each_once(alloc: Global, names: &[&str]) -> Result<Vec<String>, AllocError> {
+    let mut given = BTreeSet::new(alloc);
+    let mut chosen = Vec::new(alloc);
     for name in names {
-        if written.insert(*name)? {
-            extract_one(extraction, name, given, notes)?;
+        if given.insert(*name)? {
+            chosen.push(String::from_str(alloc, name)?)?;
         }
     }
-    Ok(())
+    Ok(chosen)
 }
 
-fn extract_one(
-    extraction: &Extraction<'_>,
-    name: &str,
-    given: &mut SafeNames,
-    notes: &mut Output,
-) -> Result<(), Failure> {
-    let bytes = bytes_of(extraction, name)?;
-    let safe = given.give(name)?;
-    if extraction.is_trial {
-        return extraction.folder.check(extraction.rt, &safe);
+impl Extraction<'_> {
+    fn extract(&mut self, names: &[String], notes: &mut Output) -> Result<(), Failure> {
+        let mut given = SafeNames::new(self.rt.alloc());
+        for name in names {
+            self.extract_one(name.as_str(), &mut given, notes)?;
+        }
+        Ok(())
     }
-    note_file(name, safe.as_str(), notes);
-    extraction.folder.write(extraction.rt, &safe, bytes)
-}
 
-fn bytes_of<'a>(extraction: &Extraction<'a>, name: &str) -> Result<&'a [u8], Failure> {
-    match stream_bytes(extraction.package, extraction.stored, name) {
-        Ok(bytes) => Ok(bytes),
-        Err(error) => Err(Failure::from(error).at(extraction.rt.alloc(), "stream", name)),
+    fn extract_one(
+        &mut self,
+        name: &str,
+        given: &mut SafeNames,
+        notes: &mut Output,
+    ) -> Result<(), Failure> {
+        if let Err(error) = self.package.stream_length(self.stored.as_ref(), name) {
+            return Err(Failure::from(error).at(self.rt.alloc(), "stream", name));
+        }
+        let safe = given.give(name)?;
+        if self.is_trial {
+            return self.folder.check(self.rt, &safe);
+        }
+        note_file(name, safe.as_str(), notes);
+        let stored = self.stored.as_ref();
+        write_stream(self.rt, self.package, stored, name, &safe, &self.folder)
     }
 }
 

@@ -57,7 +57,7 @@ impl Listing {
     }
 
     /// Adds a name and its number. An unknown number prints as `?`, and in JSON as null.
-    pub(crate) fn put(&mut self, name: &str, number: Option<usize>) {
+    pub(crate) fn put(&mut self, name: &str, number: Option<u64>) {
         match &mut self.text {
             ListingText::Json(object) => put_object(self.subject, name, number, object),
             ListingText::Rows(grid) => put_row(self.style, name, number, grid),
@@ -84,7 +84,7 @@ fn object_of(alloc: Global, file: &str, list: &str) -> JsonObject {
     object
 }
 
-fn put_object(subject: &Subject, name: &str, number: Option<usize>, object: &mut JsonObject) {
+fn put_object(subject: &Subject, name: &str, number: Option<u64>, object: &mut JsonObject) {
     let [name_member, number_member] = subject.members;
     object.open_item();
     object.put_text(name_member, Some(name));
@@ -92,7 +92,7 @@ fn put_object(subject: &Subject, name: &str, number: Option<usize>, object: &mut
     object.close_item();
 }
 
-fn put_row(style: Style, name: &str, number: Option<usize>, grid: &mut Grid) {
+fn put_row(style: Style, name: &str, number: Option<u64>, grid: &mut Grid) {
     grid.put_text(style, name);
     match number {
         Some(number) => grid.put(&number),

@@ -6,8 +6,9 @@ use crate::streams::print_streams;
 use crate::summary::print_summary;
 use crate::tables::print_tables;
 use msipkg_format::Style;
+use msipkg_looking::{PackageView, look_at, open_to_look};
 use msipkg_packages::output::{Failure, Output, System};
-use msipkg_packages::{Folder, Looked, PackageFile, open_package, open_to_look};
+use msipkg_packages::{Folder, PackageFile};
 
 /// What is looked at in a package.
 #[derive(Clone, Copy)]
@@ -41,7 +42,7 @@ pub enum Look<'a, 'b> {
 /// its stream, has a line in `notes`.
 ///
 /// # Errors
-/// Fails as `open_to_look` does, and for the summary as `open_package`; if a table or a stream that is named isn't
+/// Fails as `open_to_look` does, and for the summary as `look_at`; if a table or a stream that is named isn't
 /// there; if a file is there already and isn't to be replaced; and as the calls of the system do.
 pub fn show(
     rt: &System,
@@ -51,23 +52,20 @@ pub fn show(
     output: &mut Output,
     notes: &mut Output,
 ) -> Result<bool, Failure> {
-    let mut looked = open_for(rt, file, look, notes)?;
-    let is_read = print_or_write(rt, style, file.path, &mut looked, look, output, notes)?;
-    Ok(is_read && looked.has_summary)
+    let mut package = open_for(rt, file, look, notes)?;
+    let is_read = print_or_write(rt, style, file.path, &mut package, look, output, notes)?;
+    Ok(is_read && package.has_summary())
 }
 
-/// Without a summary that can be read there is nothing to print of it.
+/// A summary that is to be printed has to be there.
 fn open_for(
     rt: &System,
     file: &PackageFile<'_>,
     look: Look<'_, '_>,
     notes: &mut Output,
-) -> Result<Looked, Failure> {
+) -> Result<PackageView, Failure> {
     match look {
-        Look::Summary { .. } => Ok(Looked {
-            package: open_package(rt, file, notes)?,
-            has_summary: true,
-        }),
+        Look::Summary { .. } => look_at(rt, file, notes),
         Look::Tables { .. } | Look::Schema { .. } | Look::Streams { .. } | Look::Extract { .. } =>
             open_to_look(rt, file, notes),
     }
@@ -78,35 +76,35 @@ fn print_or_write(
     rt: &System,
     style: Style,
     file: &str,
-    looked: &mut Looked,
+    package: &mut PackageView,
     look: Look<'_, '_>,
     output: &mut Output,
     notes: &mut Output,
 ) -> Result<bool, Failure> {
+    let alloc = rt.alloc();
     match look {
         Look::Streams { is_json } => {
-            print_streams(rt, style, file, &looked.package, is_json, output, notes)
+            print_streams(alloc, style, file, package, is_json, output, notes)
         }
         Look::Tables { is_json } => {
-            let (alloc, package) = (rt.alloc(), &looked.package);
             Ok(print_tables(alloc, style, file, package, is_json, output, notes))
         }
         Look::Extract { names, folder } if folder.is_output() => {
-            print_stream(rt, style, file, &looked.package, names, output)?;
+            print_stream(alloc, style, package, names, output)?;
             Ok(true)
         }
         Look::Extract { names, folder } => {
-            extract_streams(rt, file, &looked.package, names, folder, notes)?;
+            extract_streams(rt, package, names, folder, notes)?;
             Ok(true)
         }
         Look::Schema { names, form } => {
-            let (alloc, package) = (rt.alloc(), &looked.package);
             print_schema(alloc, style, file, package, names, form, output)?;
             Ok(true)
         }
         Look::Summary { is_json } => {
-            let summary = looked.package.summary_info();
-            print_summary(rt.alloc(), style, file, summary, is_json, output);
+            if let Some(summary) = package.summary_info() {
+                print_summary(alloc, style, file, summary, is_json, output);
+            }
             Ok(true)
         }
     }

@@ -1,17 +1,17 @@
 //! The null cells of the columns of streams that a query selects.
 
 use crate::selected::{selected_tables, wide_select};
-use msipkg_packages::msi::{Column, Package, Select, Table};
-use msipkg_packages::output::{Failure, NullCells, Opened};
-use msipkg_packages::{StreamColumn, has_null_streams, null_cells_in};
+use msipkg_packages::msi::{Column, Select, Table};
+use msipkg_packages::output::{Failure, NullCells};
+use msipkg_packages::{PackageTables, StreamColumn, has_null_streams, null_cells_in};
 use std::alloc::{AllocError, Global};
 
 /// Returns the null cells of the rows that a query selects, which have these columns. The rows are gone over, with all
 /// columns, only if one that is selected may have such cells. Those of a table whose key a query in brackets leaves out
 /// aren't known, nor those of rows that count once.
-pub(crate) fn null_cells(
+pub(crate) fn null_cells<P: PackageTables>(
     alloc: Global,
-    package: &Package<Opened>,
+    package: &P,
     query: &Select,
     columns: &[Column],
 ) -> Result<NullCells, Failure> {

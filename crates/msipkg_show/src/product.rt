@@ -1,8 +1,10 @@
 //! What product a package installs, as its table `Property` says.
 
 use crate::facts::Facts;
-use msipkg_packages::msi::{Package, Parse, Rows, Select, ValueView};
-use msipkg_packages::output::{Failure, Opened};
+use msipkg_looking::PackageView;
+use msipkg_packages::PackageTables;
+use msipkg_packages::msi::{Parse, Rows, Select, ValueView};
+use msipkg_packages::output::Failure;
 use std::alloc::Global;
 
 /// The name of each fact, and the query for the property that says it.
@@ -30,7 +32,7 @@ static FACTS: [(&str, &str); 5] = [
 ];
 
 /// Adds what the package's properties say of its product. A package without such a table adds nothing.
-pub(crate) fn add_product(alloc: Global, package: &Package<Opened>, facts: &mut Facts) {
+pub(crate) fn add_product(alloc: Global, package: &PackageView, facts: &mut Facts) {
     if package.get_table("Property").is_none() {
         return;
     }
@@ -42,7 +44,7 @@ pub(crate) fn add_product(alloc: Global, package: &Package<Opened>, facts: &mut 
 /// Adds the text that a query selects. A table that can't be read, or has other columns, adds nothing.
 fn add_property(
     alloc: Global,
-    package: &Package<Opened>,
+    package: &PackageView,
     name: &str,
     query: &str,
     facts: &mut Facts,
@@ -56,7 +58,7 @@ fn add_property(
 
 fn selected<'a>(
     alloc: Global,
-    package: &'a Package<Opened>,
+    package: &'a PackageView,
     query: &str,
 ) -> Result<Rows<'a>, Failure> {
     Ok(package.select_rows(Select::parse(alloc, query)?)?)

@@ -3,11 +3,12 @@
 use crate::aligned::{widths_of, write_aligned};
 use crate::nulls::null_cells;
 use msipkg_format::Style;
-use msipkg_packages::msi::{Column, Error, Package, Rows, Select};
+use msipkg_looking::{PackageView, open_to_look};
+use msipkg_packages::msi::{Column, Error, Rows, Select};
 use msipkg_packages::output::{
-    Failure, NullCells, Opened, Output, RowFormat, RowPrinting, System, write_rows,
+    Failure, NullCells, Output, RowFormat, RowPrinting, System, write_rows,
 };
-use msipkg_packages::{PackageFile, open_to_look};
+use msipkg_packages::{PackageFile, PackageTables};
 use msipkg_queries::{Selection, Written, check_marks, mark_count, read_select};
 use msipkg_statements::{explained, lists_for};
 use std::alloc::{AllocError, Global};
@@ -136,9 +137,9 @@ pub fn print_query(
     output: &mut Output,
     notes: &mut Output,
 ) -> Result<bool, Failure> {
-    let looked = open_to_look(rt, file, notes)?;
-    match write_found(rt, file.path, &looked.package, query, names, output) {
-        Ok(()) => Ok(looked.has_summary),
+    let package = open_to_look(rt, file, notes)?;
+    match write_found(rt, file.path, &package, query, names, output) {
+        Ok(()) => Ok(package.has_summary()),
         Err(failure) => Err(failure.at(rt.alloc(), "query", query.written.text)),
     }
 }
@@ -147,7 +148,7 @@ pub fn print_query(
 fn write_found(
     rt: &System,
     file: &str,
-    package: &Package<Opened>,
+    package: &PackageView,
     query: &Query<'_>,
     names: &mut LastNames,
     output: &mut Output,
@@ -158,10 +159,10 @@ fn write_found(
     }
 }
 
-fn write_selected(
+fn write_selected<P: PackageTables>(
     alloc: Global,
     file: &str,
-    package: &Package<Opened>,
+    package: &P,
     query: &Query<'_>,
     names: &mut LastNames,
     output: &mut Output,
@@ -206,9 +207,9 @@ fn add_literals(alloc: Global, selection: &Selection, nulls: &mut NullCells) -> 
     Ok(())
 }
 
-fn selected<'a>(
+fn selected<'a, P: PackageTables>(
     alloc: Global,
-    package: &'a Package<Opened>,
+    package: &'a P,
     query: &Query<'_>,
 ) -> Result<Rows<'a>, Failure> {
     let select = query.selection.select.clone(alloc)?;
@@ -219,9 +220,9 @@ fn selected<'a>(
 }
 
 /// Returns the rows of a query. Where it selects literals alone, its first column stands for each.
-fn selected_rows<'a>(
+fn selected_rows<'a, P: PackageTables>(
     alloc: Global,
-    package: &'a Package<Opened>,
+    package: &'a P,
     selection: &Selection,
     select: Select,
 ) -> Result<Rows<'a>, Error> {
@@ -237,7 +238,7 @@ fn selected_rows<'a>(
 }
 
 /// Returns the name of the first column of a query.
-fn first_name(alloc: Global, package: &Package<Opened>, select: Select) -> Result<String, Error> {
+fn first_name<P: PackageTables>(alloc: Global, package: &P, select: Select) -> Result<String, Error> {
     let rows = package.select_rows(select)?;
     match rows.columns() {
         [column, ..] => Ok(String::from_str(alloc, column.name())?),

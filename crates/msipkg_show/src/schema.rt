@@ -3,9 +3,10 @@
 use crate::columns::{ColumnPart, Part};
 use crate::schema_json::schema_json;
 use msipkg_format::{Grid, Style};
+use msipkg_looking::PackageView;
 use msipkg_packages::chosen_tables;
-use msipkg_packages::msi::{Column, Package, Table};
-use msipkg_packages::output::{Failure, Opened, Output};
+use msipkg_packages::msi::{Column, Table};
+use msipkg_packages::output::{Failure, Output};
 use std::alloc::Global;
 
 /// What is printed of each column, under its head.
@@ -36,7 +37,7 @@ pub(crate) fn print_schema(
     alloc: Global,
     style: Style,
     file: &str,
-    package: &Package<Opened>,
+    package: &PackageView,
     names: &[&str],
     form: Form,
     output: &mut Output,

@@ -1,8 +1,8 @@
 //! What else there is of the rows that a query selects: all their columns, and the tables that they are of.
 
 use msi_query::parts::{SelectTree, Side, select_tree};
-use msipkg_packages::msi::{Error, Package, Select, Table};
-use msipkg_packages::output::Opened;
+use msipkg_packages::PackageTables;
+use msipkg_packages::msi::{Error, Select, Table};
 use std::alloc::{AllocError, Global};
 
 /// Returns a query for the rows that another one selects, in their order, with all columns. Queries in brackets stay as
@@ -30,9 +30,9 @@ fn is_distinct(tree: &SelectTree) -> bool {
 ///
 /// # Errors
 /// Fails if memory is refused.
-pub(crate) fn selected_tables<'a>(
+pub(crate) fn selected_tables<'a, P: PackageTables>(
     alloc: Global,
-    package: &'a Package<Opened>,
+    package: &'a P,
     query: &Select,
 ) -> Result<Vec<&'a Table>, AllocError> {
     let mut tables = Vec::new(alloc);
@@ -40,8 +40,8 @@ pub(crate) fn selected_tables<'a>(
     Ok(tables)
 }
 
-fn add_tables<'a>(
-    package: &'a Package<Opened>,
+fn add_tables<'a, P: PackageTables>(
+    package: &'a P,
     tree: &SelectTree,
     tables: &mut Vec<&'a Table>,
 ) -> Result<(), AllocError> {
@@ -55,8 +55,8 @@ fn add_tables<'a>(
     }
 }
 
-fn add_sides<'a>(
-    package: &'a Package<Opened>,
+fn add_sides<'a, P: PackageTables>(
+    package: &'a P,
     sides: &[Side],
     tables: &mut Vec<&'a Table>,
 ) -> Result<(), AllocError> {
@@ -66,8 +66,8 @@ fn add_sides<'a>(
     Ok(())
 }
 
-fn add_table<'a>(
-    package: &'a Package<Opened>,
+fn add_table<'a, P: PackageTables>(
+    package: &'a P,
     name: &str,
     tables: &mut Vec<&'a Table>,
 ) -> Result<(), AllocError> {

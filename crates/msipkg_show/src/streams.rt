@@ -3,9 +3,8 @@
 use crate::listing::{Listing, Subject};
 use crate::tables::note_unread;
 use msipkg_format::Style;
-use msipkg_packages::msi::Package;
-use msipkg_packages::output::{Failure, Opened, Output, System};
-use msipkg_packages::{StoredStreams, stored_streams, stream_bytes};
+use msipkg_looking::{PackageView, StoredNames};
+use msipkg_packages::output::{Failure, Output};
 use std::alloc::Global;
 
 /// What is printed of streams.
@@ -18,29 +17,22 @@ static STREAMS: Subject = Subject {
 /// Prints the name and the length of each stream, and returns whether all streams can be found. One that can't be has
 /// no number, and a line in `notes`.
 pub(crate) fn print_streams(
-    rt: &System,
+    alloc: Global,
     style: Style,
     file: &str,
-    package: &Package<Opened>,
+    package: &mut PackageView,
     is_json: bool,
     output: &mut Output,
     notes: &mut Output,
 ) -> Result<bool, Failure> {
-    let stored = stored_streams(rt, file, package)?;
-    let mut listing = Listing::new(rt.alloc(), style, file, is_json, &STREAMS);
+    let stored = package.stored_names()?;
+    let mut listing = Listing::new(alloc, style, file, is_json, &STREAMS);
     let mut is_read = true;
-    for name in package.streams() {
-        let name = name?;
-        let count = count_or_note(
-            rt.alloc(),
-            file,
-            package,
-            stored.as_ref(),
-            name.as_str(),
-            notes,
-        );
+    for name in &package.stream_names()? {
+        let name = name.as_str();
+        let count = count_or_note(alloc, file, package, stored.as_ref(), name, notes);
         is_read &= count.is_some();
-        listing.put(name.as_str(), count);
+        listing.put(name, count);
     }
     listing.print(output);
     Ok(is_read)
@@ -49,13 +41,13 @@ pub(crate) fn print_streams(
 fn count_or_note(
     alloc: Global,
     file: &str,
-    package: &Package<Opened>,
-    stored: Option<&StoredStreams>,
+    package: &mut PackageView,
+    stored: Option<&StoredNames>,
     name: &str,
     notes: &mut Output,
-) -> Option<usize> {
-    match stream_bytes(package, stored, name) {
-        Ok(bytes) => Some(bytes.len()),
+) -> Option<u64> {
+    match package.stream_length(stored, name) {
+        Ok(length) => Some(length),
         Err(error) => {
             let failure = Failure::from(error).at(alloc, "stream", name);
             note_unread(file, &failure, notes);

@@ -2,8 +2,10 @@
 
 use crate::listing::{Listing, Subject};
 use msipkg_format::{Shown, Style};
-use msipkg_packages::msi::{Error, Package, Select};
-use msipkg_packages::output::{Failure, Opened, Output};
+use msipkg_looking::PackageView;
+use msipkg_packages::PackageTables;
+use msipkg_packages::msi::{Error, Select};
+use msipkg_packages::output::{Failure, Output};
 use std::alloc::Global;
 
 /// What is printed of tables.
@@ -19,7 +21,7 @@ pub(crate) fn print_tables(
     alloc: Global,
     style: Style,
     file: &str,
-    package: &Package<Opened>,
+    package: &PackageView,
     is_json: bool,
     output: &mut Output,
     notes: &mut Output,
@@ -29,7 +31,7 @@ pub(crate) fn print_tables(
     for table in package.tables() {
         let count = count_or_note(alloc, file, package, table.name(), notes);
         is_read &= count.is_some();
-        listing.put(table.name(), count);
+        listing.put(table.name(), count.and_then(|count| u64::try_from(count).ok()));
     }
     listing.print(output);
     is_read
@@ -37,7 +39,7 @@ pub(crate) fn print_tables(
 
 pub(crate) fn count_rows(
     alloc: Global,
-    package: &Package<Opened>,
+    package: &PackageView,
     table: &str,
 ) -> Result<usize, Error> {
     let rows = package.select_rows(Select::table(alloc, table)?)?;
@@ -47,7 +49,7 @@ pub(crate) fn count_rows(
 fn count_or_note(
     alloc: Global,
     file: &str,
-    package: &Package<Opened>,
+    package: &PackageView,
     table: &str,
     notes: &mut Output,
 ) -> Option<usize> {

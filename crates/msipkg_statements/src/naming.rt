@@ -2,8 +2,8 @@
 
 use msi_query_tokens::token::Kind;
 use msipkg_format::{Shown, near_text};
-use msipkg_packages::msi::{Package, Table};
-use msipkg_packages::output::Opened;
+use msipkg_packages::PackageTables;
+use msipkg_packages::msi::Table;
 use msipkg_queries::pieces::{Piece, has_kind, is_at, own_name_at, table_at};
 use std::alloc::{AllocError, Global};
 
@@ -14,14 +14,14 @@ pub(crate) struct NamedTable<'a> {
     pub(crate) table: &'a Table,
 }
 
-pub(crate) fn table_fault(
+pub(crate) fn table_fault<P: PackageTables>(
     alloc: Global,
-    package: &Package<Opened>,
+    package: &P,
     pieces: &[Piece<'_>],
 ) -> Result<Option<String>, AllocError> {
     for i in 0..pieces.len() {
         if let Some(name) = table_at(pieces, i)
-            && !package.has_table(name)
+            && package.get_table(name).is_none()
         {
             return Ok(Some(missing_table(alloc, package, name)?));
         }
@@ -29,9 +29,9 @@ pub(crate) fn table_fault(
     Ok(None)
 }
 
-fn missing_table(
+fn missing_table<P: PackageTables>(
     alloc: Global,
-    package: &Package<Opened>,
+    package: &P,
     name: &str,
 ) -> Result<String, AllocError> {
     let mut names = Vec::new(alloc);
@@ -48,9 +48,9 @@ fn missing_table(
 }
 
 /// Returns the tables that a text names, as far as a package has them.
-pub(crate) fn tables_in<'a>(
+pub(crate) fn tables_in<'a, P: PackageTables>(
     alloc: Global,
-    package: &'a Package<Opened>,
+    package: &'a P,
     pieces: &[Piece<'a>],
 ) -> Result<Vec<NamedTable<'a>>, AllocError> {
     let mut tables = Vec::new(alloc);

@@ -4,17 +4,17 @@ use crate::inserting::insert_fault;
 use crate::naming::{NamedTable, column_fault, table_fault, tables_in};
 use crate::values::update_fault;
 use msi_query_tokens::token::Kind;
-use msipkg_packages::msi::Package;
-use msipkg_packages::output::{Failure, Opened, said};
+use msipkg_packages::PackageTables;
+use msipkg_packages::output::{Failure, said};
 use msipkg_queries::pieces::Piece;
 use msipkg_queries::written::{Written, pieces_of};
 use std::alloc::{AllocError, Global};
 
 /// Returns the failure of a query or a statement that a package refused, with the table, the column and the value that
 /// is at fault, where one is.
-pub fn explained(
+pub fn explained<P: PackageTables>(
     alloc: Global,
-    package: &Package<Opened>,
+    package: &P,
     written: Written<'_>,
     failure: Failure,
 ) -> Failure {
@@ -28,9 +28,9 @@ pub fn explained(
     }
 }
 
-fn fault_in(
+fn fault_in<P: PackageTables>(
     alloc: Global,
-    package: &Package<Opened>,
+    package: &P,
     written: Written<'_>,
 ) -> Result<Option<String>, AllocError> {
     let pieces = pieces_of(alloc, written)?;

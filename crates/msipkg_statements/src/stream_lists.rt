@@ -1,10 +1,13 @@
 //! The installer's lists of the streams and of the storages of a package, which no file has as tables.
 
 use msi_query::parts::{SelectTree, Side, select_tree};
+use msipkg_looking::PackageView;
 use msipkg_packages::msi::compound::list_storages;
-use msipkg_packages::msi::{Column, Error, Insert, Package, Select, Text, Value, ValueView};
+use msipkg_packages::msi::{
+    Column, Error, Insert, Package, PackageType, Select, Text, Value, ValueView,
+};
 use msipkg_packages::output::{Failure, Opened, System};
-use msipkg_packages::{new_package, rows_of};
+use msipkg_packages::{PackageTables, new_package, rows_of};
 use std::alloc::{AllocError, Global};
 use std::collections::BTreeSet;
 
@@ -23,7 +26,7 @@ pub const STORAGES: &str = "_Storages";
 pub fn lists_for(
     rt: &System,
     file: &str,
-    package: &Package<Opened>,
+    package: &PackageView,
     query: &Select,
 ) -> Result<Option<Package<Opened>>, Failure> {
     let named = named_in(package, select_tree(query));
@@ -33,7 +36,8 @@ pub fn lists_for(
     if named.tables > 0 {
         return Err(Failure::rule("_Streams and _Storages are asked without other tables"));
     }
-    let mut lists = with_stream_lists(rt.alloc(), package)?;
+    let names = package.stream_names()?;
+    let mut lists = stream_lists(rt.alloc(), package.package_type(), names)?;
     if named.storages > 0 && package.has_storages() {
         let rows = storage_rows(rt, file)?;
         lists.insert_rows(Insert::into(rt.alloc(), STORAGES)?.rows(rows)?)?;
@@ -77,10 +81,10 @@ const NONE: Named = Named {
 };
 
 impl Named {
-    fn of(package: &Package<Opened>, name: &str) -> Named {
+    fn of(package: &PackageView, name: &str) -> Named {
         match name {
-            STREAMS if !package.has_table(STREAMS) => Named { streams: 1, ..NONE },
-            STORAGES if !package.has_table(STORAGES) => Named {
+            STREAMS if package.get_table(STREAMS).is_none() => Named { streams: 1, ..NONE },
+            STORAGES if package.get_table(STORAGES).is_none() => Named {
                 storages: 1,
                 ..NONE
             },
@@ -97,7 +101,7 @@ impl Named {
     }
 }
 
-fn named_in(package: &Package<Opened>, tree: &SelectTree) -> Named {
+fn named_in(package: &PackageView, tree: &SelectTree) -> Named {
     match tree {
         SelectTree::Table { name, .. } => Named::of(package, name.as_str()),
         SelectTree::Join { left, right, .. } => {
@@ -107,7 +111,7 @@ fn named_in(package: &Package<Opened>, tree: &SelectTree) -> Named {
     }
 }
 
-fn named_among(package: &Package<Opened>, sides: &[Side]) -> Named {
+fn named_among(package: &PackageView, sides: &[Side]) -> Named {
     let mut named = NONE;
     for side in sides {
         named = named.and(Named::of(package, side.table().as_str()));
@@ -123,10 +127,23 @@ pub fn with_stream_lists(
     alloc: Global,
     package: &Package<Opened>,
 ) -> Result<Package<Opened>, Failure> {
-    let mut lists = new_package(alloc, package.package_type())?;
+    let mut names = Vec::new(alloc);
+    for name in package.streams() {
+        names.push(name?)?;
+    }
+    stream_lists(alloc, package.package_type(), names)
+}
+
+/// Returns a package that has as tables the list of these streams, and the one of storages, which is empty.
+fn stream_lists(
+    alloc: Global,
+    kind: PackageType,
+    names: Vec<String>,
+) -> Result<Package<Opened>, Failure> {
+    let mut lists = new_package(alloc, kind)?;
     lists.create_table(STREAMS, list_columns(alloc)?)?;
     lists.create_table(STORAGES, list_columns(alloc)?)?;
-    lists.insert_rows(Insert::into(alloc, STREAMS)?.rows(stream_rows(alloc, package)?)?)?;
+    lists.insert_rows(Insert::into(alloc, STREAMS)?.rows(stream_rows(alloc, names)?)?)?;
     Ok(lists)
 }
 
@@ -137,10 +154,10 @@ fn list_columns(alloc: Global) -> Result<Vec<Column>, Error> {
     Ok(columns)
 }
 
-fn stream_rows(alloc: Global, package: &Package<Opened>) -> Result<Vec<Vec<Value>>, Failure> {
-    let mut rows = Vec::new(alloc);
-    for name in package.streams() {
-        rows.push(list_row(alloc, name?)?)?;
+fn stream_rows(alloc: Global, names: Vec<String>) -> Result<Vec<Vec<Value>>, Failure> {
+    let mut rows = Vec::with_capacity(alloc, names.len())?;
+    for name in names {
+        rows.push(list_row(alloc, name)?)?;
     }
     Ok(rows)
 }

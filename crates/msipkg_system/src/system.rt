@@ -4,7 +4,7 @@ use crate::identity::Identity;
 use crate::meter::Meter;
 use std::alloc::{AllocError, Global};
 use std::fs::{self, File, Metadata, OpenFile, OpenOptions, Permissions, TryLockError};
-use std::io::{self, Cursor, ErrorKind, Read, Write};
+use std::io::{self, Cursor, ErrorKind, Read, Seek, SeekFrom, Write};
 use std::os::unix::fs::{MetadataExt, PermissionsExt, fchown};
 use std::thread;
 use std::time::Duration;
@@ -69,10 +69,7 @@ impl System {
     fn opened_input(&self, bytes: &[u8]) -> io::Result<SystemFile> {
         let mut copy = Vec::new(self.alloc());
         copy.extend_from_slice(bytes)?;
-        Ok(SystemFile {
-            source: Source::Input(Cursor::new(copy)),
-            meter: None,
-        })
+        Ok(SystemFile::of_bytes(copy))
     }
 
     /// Returns the bytes of a file.
@@ -169,7 +166,7 @@ fn kept_bits(own: &Metadata, other: &Metadata) -> u32 {
 enum Source {
     /// Those of a file.
     File(File),
-    /// Those of standard input, which were read.
+    /// Those of standard input, which were read, or of a package that was recoded.
     Input(Cursor<Vec<u8>>),
 }
 
@@ -190,6 +187,14 @@ impl Drop for SystemFile {
 }
 
 impl SystemFile {
+    /// Returns a file that has these bytes and no path: it is only read.
+    pub fn of_bytes(bytes: Vec<u8>) -> SystemFile {
+        SystemFile {
+            source: Source::Input(Cursor::new(bytes)),
+            meter: None,
+        }
+    }
+
     fn count(&mut self, bytes: usize, word: &'static str) {
         if let Some(meter) = &mut self.meter {
             meter.count(bytes, word);
@@ -263,6 +268,15 @@ impl Read for SystemFile {
         };
         self.count(read, "read");
         Ok(read)
+    }
+}
+
+impl Seek for SystemFile {
+    fn seek(&mut self, to: SeekFrom) -> io::Result<u64> {
+        match &mut self.source {
+            Source::File(file) => file.seek(to),
+            Source::Input(bytes) => bytes.seek(to),
+        }
     }
 }
 
