@@ -5,6 +5,4 @@ pub mod StreamRefusalLemmas
 pub mod StreamWriteLemmas
 pub mod OtherStreamLemmas
 pub mod KeyNameLemmas
-pub mod NameLemmas
 pub mod OpenStreamLemmas
-pub mod CursorLemmas

@@ -7,8 +7,8 @@ use Rattle.msi_database_schema.specs.Keys.{stream_key}
 use Rattle.msi_summary.specs.Properties.{Properties}
 use Rattle.msi_summary.specs.contracts.summary.SummaryInfo as summary
 use Rattle.msi_database_storage.specs.Streams.{with_stream}
-use Rattle.msi.specs.Cursor.{Cursor}
-use Rattle.msi.specs.contracts.writer.OpenStream as stream
+use Rattle.msi_streams.specs.Cursor.{Cursor}
+use Rattle.msi_streams.specs.contracts.writer.OpenStream as stream
 use Rattle.msi.specs.Steps.{with_lent_summary, with_streams, with_summary_calls}
 use Rattle.msi.specs.Whole.{Whole, with_state}
 use Rattle.msi.specs.contracts.package.Package as whole

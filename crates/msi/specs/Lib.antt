@@ -1,7 +1,4 @@
 -- The words of this crate.
-pub mod Cursor
-pub mod Refusals
-pub mod Listing
 pub mod Renewing
 pub mod Kinds
 pub mod State
@@ -21,6 +18,7 @@ pub mod Flushing
 pub mod Opening
 pub mod Text
 pub mod Container
+pub mod Streams
 pub mod Summary
 pub mod Table
 pub mod Query

@@ -29,7 +29,7 @@ use Rattle.msi_database.specs.Creating.{create_refusals}
 use Rattle.msi_database.specs.Listed.{table_def_at, tables_listed}
 use Rattle.msi_database.specs.Listed as listed
 use Rattle.msi_database.specs.Recounting as recounts
-use Rattle.msi.specs.Listing.{is_listed, text_of_key}
+use Rattle.msi_streams.specs.Listing.{is_listed, text_of_key}
 use Rattle.msi.specs.Renewing.{pool_over, summary_over}
 use Rattle.msi.specs.Renewing as renewals
 use Rattle.msi.specs.Kinds.{clsid_of}

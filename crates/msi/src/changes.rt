@@ -35,7 +35,7 @@ impl<F: Source> Package<F> {
     /// Fails with `InvalidInput` if storages lie below the root, and otherwise with `InvalidData` if the package
     /// isn't sound. Then nothing has changed.
     pub fn set_database_codepage(&mut self, page: CodePage) -> Result<(), Error>
-        ensures answer { let s = self.old.state in
+        ensures kind { let s = self.old.state in
             result ≡ unless_refused (storage_refusal (parts_of s) ++ sound_refusal s.kept.database) tt }
         ensures ok { OnOk result (self.new ≡ with_state (with_page page self.old.state) self.old) }
         ensures same { OnErr result (self.new ≡ self.old) }

@@ -7,29 +7,23 @@
 pub mod changes;
 pub mod compound;
 mod creating;
-pub mod faults;
 pub mod files;
 mod flushing;
 mod imaging;
-mod keys;
 pub mod kinds;
 pub mod laws;
 pub mod listing;
-pub mod names;
 mod opening;
 pub mod package;
 pub mod parts;
-pub mod reader;
 mod reasons;
 pub mod recounting;
 mod renewing;
-mod seeking;
 pub mod streams;
 mod transform_making;
 pub mod transforms;
 pub mod uuids;
 mod writable;
-pub mod writer;
 
 pub use files::{open, open_rw};
 pub use kinds::PackageType;
@@ -43,6 +37,7 @@ pub use msi_pool::{
 };
 pub use msi_query::{Delete, Expr, Insert, Select, Update};
 pub use msi_query_parse::{Expected, Parse, ParseError, Refused, Statement};
+pub use msi_streams::{OpenStream, StreamReader, StreamWriter, Streams, faults, names};
 pub use msi_summary::{
     NumberProperty, OperatingSystem, PropertySet, PropertyText, PropertyValue, SummaryInfo,
     SummaryProperty, TextProperty, TimeProperty,
@@ -50,8 +45,5 @@ pub use msi_summary::{
 pub use msi_table::{
     Column, ColumnBuilder, ColumnType, Row, Rows, Table, Value, ValueRef, ValueView,
 };
-pub use names::Streams;
 pub use package::Package;
-pub use reader::StreamReader;
 pub use uuids::{FromUuid, HasUuid};
-pub use writer::{OpenStream, StreamWriter};

@@ -14,10 +14,6 @@ pub(crate) const NO_SUMMARY: Reason = Reason("the summary's stream is missing");
 
 pub(crate) const NO_POOL: Reason = Reason("a stream of the string pool is missing");
 
-pub(crate) const OUTSIDE: &str = "a seek before a stream's first byte, or past its end";
-
-pub(crate) const STREAM_NAME: Reason = Reason("no stream may have this name");
-
 pub(crate) const OLD_NO_INSTALLER: Reason = Reason("the old package is no installer package");
 
 pub(crate) const NEW_NO_INSTALLER: Reason = Reason("the new package is no installer package");

@@ -13,7 +13,7 @@ ghost use Rattle.msi_database_storage.specs.Streams.{Streams};
 ghost use Rattle.msi.specs.Renewing.{IsUnwritten, keys_in, opened, pool_keys, pool_put, renewed_keys};
 ghost use Rattle.msi.specs.Renewing.{renewed_over, summary_keys, summary_over, text_refusals, with_renewed};
 
-use crate::writer::OpenStream;
+use crate::OpenStream;
 use msi_base::errors::Error;
 use msi_container_format::contents::{Bytes, StreamMap};
 use msi_container_format::name::Name;

@@ -8,7 +8,7 @@ ghost use Rattle.msi_base.specs.declared.errors.ErrorKind.TheVariants.{InvalidIn
 ghost use Rattle.msi_base.specs.Refusals.{AnswersFirst, first_refusal, unless_refused};
 ghost use Rattle.msi_database_schema.specs.Keys.{is_stream_name, signature_key as signature_of, stream_key};
 ghost use Rattle.msi_database_storage.specs.Streams.{has_stream_at, stream_at, without_stream};
-ghost use Rattle.msi.specs.Cursor.{at_start};
+ghost use Rattle.msi_streams.specs.Cursor.{at_start};
 ghost use Rattle.msi.specs.Lending.{LendsStream};
 ghost use Rattle.msi.specs.State.{parts_of};
 ghost use Rattle.msi.specs.Steps.{bytes_of_stream, has_stream as has_one, name_refusals, storage_refusal, stream_names};
@@ -98,7 +98,7 @@ impl<F: Source> Package<F> {
     /// Fails with `InvalidInput` if storages lie below the root, and if no stream may have this name, and otherwise
     /// with `NotFound` if there is none. Then nothing has changed.
     pub fn remove_stream(&mut self, name: &str) -> Result<(), Error>
-        ensures answer { let p = parts_of self.old.state in result ≡ unless_refused
+        ensures kind { let p = parts_of self.old.state in result ≡ unless_refused
             (name_refusals p name.now ++ (not (has_one p name.now), NotFound) ∷ []) tt }
         ensures ok { let edit = without_stream (stream_key name.now) in
             OnOk result (self.new ≡ with_state (with_streams edit self.old.state) self.old) }
@@ -120,7 +120,7 @@ impl<F: Source> Package<F> {
     /// # Errors
     /// Fails with `InvalidInput` if storages lie below the root; then nothing has changed.
     pub fn remove_digital_signature(&mut self) -> Result<(), Error>
-        ensures answer { result ≡ unless_refused (storage_refusal (parts_of self.old.state)) tt }
+        ensures kind { result ≡ unless_refused (storage_refusal (parts_of self.old.state)) tt }
         ensures ok { OnOk result (self.new ≡ with_state (with_streams without_signature self.old.state) self.old) }
         ensures same { OnErr result (self.new ≡ self.old) }
     {

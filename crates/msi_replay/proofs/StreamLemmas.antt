@@ -3,7 +3,7 @@ use Rattle.std.proofs.Common.{◌≡◌, ℕ, Bool, true, false, cond, Result, r
 use Rattle.std.specs.declared.io.SeekFrom.{SeekFrom}
 use Rattle.std.specs.declared.io.SeekFrom.TheVariants.{Start, End, Current}
 use Rattle.msi.specs.Text.ErrorKind.{ErrorKind}
-use Rattle.msi.specs.Cursor as streams
+use Rattle.msi_streams.specs.Cursor as streams
 use Rattle.msi.specs.Calls.{StreamAnswer}
 use Rattle.msi.specs.Calls as calls
 use Rattle.msi.specs.Lent.{Cursor, sought}

@@ -12,7 +12,7 @@ use Rattle.msi.specs.Container.Names.{name_cmp}
 use Rattle.msi.proofs.NamesLemmas.{names_total}
 use Rattle.msi.specs.Database.Keys.{is_stream_name, stream_key}
 use Rattle.msi.specs.Database.Streams.{Streams, with_stream}
-use Rattle.msi.specs.Cursor as streams
+use Rattle.msi_streams.specs.Cursor as streams
 use Rattle.msi.specs.State.{State, parts_of}
 use Rattle.msi.specs.Calls.{Answer, StreamAnswer, ReaderCall, WriterCall}
 use Rattle.msi.specs.Calls as calls

@@ -2,7 +2,7 @@
 use Rattle.std.specs.Prelude.{map, string_bytes}
 use Rattle.std.specs.declared.io.SeekFrom.{SeekFrom}
 use Rattle.std.specs.declared.io.SeekFrom.TheVariants.{Start, End, Current}
-use Rattle.msi.specs.Cursor as streams
+use Rattle.msi_streams.specs.Cursor as streams
 use Rattle.msi.specs.Calls as calls
 use Rattle.msi.specs.Lent.{Cursor}
 use Rattle.msi_replay.specs.declared.call.Setting.{Setting}

@@ -2,8 +2,8 @@
 
 ghost use Rattle.std.specs.Prelude.{◌≡◌, IfOk, Ok, OnOk, map, true};
 ghost use Rattle.msi.specs.Text.Results.{OnlyMemory};
-ghost use Rattle.msi.specs.Cursor.{after_read, piece_read};
-ghost use Rattle.msi.specs.Refusals as faults;
+ghost use Rattle.msi_streams.specs.Cursor.{after_read, piece_read};
+ghost use Rattle.msi_streams.specs.Refusals as faults;
 ghost use Rattle.msi.specs.Calls as calls;
 ghost use Rattle.msi.specs.Lent.{Gives, RunsTo, reader_outcome, reader_wants_memory, sought};
 ghost use Rattle.msi.specs.Lent.{writer_outcome, writer_wants_memory};

@@ -15,7 +15,7 @@ use Rattle.msi_container_format.proofs.NamesLemmas.{names_total}
 use Rattle.msi_database_schema.specs.Keys.{document_summary_key, signature_ex_key, signature_key, summary_key}
 use Rattle.msi_database_storage.specs.Kept.{Kept}
 use Rattle.msi_database_storage.specs.Streams.{Streams}
-use Rattle.msi.specs.Listing.{is_listed, listed_names, text_of_key}
+use Rattle.msi_streams.specs.Listing.{is_listed, listed_names, text_of_key}
 use Rattle.msi.specs.State.{is_other_name, names_of, others_among}
 use Rattle.msi.specs.Renewing.{opened}
 use Rattle.msi.specs.Whole.{IsOpen}

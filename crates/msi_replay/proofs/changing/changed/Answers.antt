@@ -91,7 +91,7 @@ returns-in-SetDatabaseCodepage c =
     let s = c.args.target.now.state in
     rw c.in-SetDatabaseCodepage.is (left_takes c.args.target.now c.set_database_codepage.new.self (calls.set_database_codepage c.in-SetDatabaseCodepage.page) refl
     (storage_refusal (parts_of s) ++ sound_refusal s.kept.database) (with_page c.in-SetDatabaseCodepage.page s) (λ n. refl)
-    c.set_database_codepage.result c.set_database_codepage.ensures.answer c.set_database_codepage.ensures.ok c.set_database_codepage.ensures.same)
+    c.set_database_codepage.result c.set_database_codepage.ensures.kind c.set_database_codepage.ensures.ok c.set_database_codepage.ensures.same)
 
 -- why a stream isn't taken out, and what is left
 unremoved : State → List ℕ → Refusals
@@ -108,11 +108,11 @@ returns-in-RemoveStream c =
     rw c.in-RemoveStream.is (left_takes c.args.target.now c.remove_stream.new.self (calls.remove_stream c.in-RemoveStream.name) refl
     (unremoved s c.as_str-in-RemoveStream.result.now) (removed s c.as_str-in-RemoveStream.result.now)
     (λ n. ap (λ (x : List ℕ). leaving s (unremoved s x) (removed s x)) name)
-    c.remove_stream.result c.remove_stream.ensures.answer c.remove_stream.ensures.ok c.remove_stream.ensures.same)
+    c.remove_stream.result c.remove_stream.ensures.kind c.remove_stream.ensures.ok c.remove_stream.ensures.same)
 
 pub returns-in-RemoveDigitalSignature : goal.returns-in-RemoveDigitalSignature
 returns-in-RemoveDigitalSignature c =
     let s = c.args.target.now.state in
     rw c.in-RemoveDigitalSignature.is (left_takes c.args.target.now c.remove_digital_signature.new.self calls.remove_digital_signature refl
     (storage_refusal (parts_of s)) (with_streams without_signature s) (λ n. refl)
-    c.remove_digital_signature.result c.remove_digital_signature.ensures.answer c.remove_digital_signature.ensures.ok c.remove_digital_signature.ensures.same)
+    c.remove_digital_signature.result c.remove_digital_signature.ensures.kind c.remove_digital_signature.ensures.ok c.remove_digital_signature.ensures.same)

@@ -1,5 +1,5 @@
 use Rattle.std.proofs.Common.{◌∙◌, Some, ap, sym}
-use Rattle.msi.specs.Cursor.{at_start}
+use Rattle.msi_streams.specs.Cursor.{at_start}
 use Rattle.msi.proofs.named_streams.StreamRefusalLemmas.{read_bytes, read_missing, read_passes}
 use Rattle.msi.proofs.package.Package.read_stream.Goals as goal
 

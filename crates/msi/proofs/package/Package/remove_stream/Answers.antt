@@ -6,8 +6,8 @@ use Rattle.msi.proofs.named_streams.StreamWriteLemmas.{stream_is_other}
 use Rattle.std.proofs.lemmas.Result.{err_from_is_err_and}
 use Rattle.msi.proofs.package.Package.remove_stream.Goals as goal
 
-pub returns-then-not-contains-clause-answer : goal.returns-then-not-contains-clause-answer
-returns-then-not-contains-clause-answer g c =
+pub returns-then-not-contains-clause-kind : goal.returns-then-not-contains-clause-kind
+returns-then-not-contains-clause-kind g c =
     let error : ErrorKind → Result (Unit {0}) ErrorKind = λ kind. Err kind in
     ap error c.new.ensures
     ∙ removal_missing c.args.self.now.state c.args.name.now c.in_ok-key.key c.in_ok-key.ensures c.in_ok-check_storages.ensures _ c.if-not-contains.ensures refl
@@ -18,8 +18,8 @@ remove_stream-requires g c =
     stream_is_other c.settle.new.database.database c.args.name.now c.in_ok-key.key
     (key_accepted s c.args.name.now c.in_ok-key.key c.in_ok-key.ensures) (key_is s c.args.name.now c.in_ok-key.key c.in_ok-key.ensures)
 
-pub returns-clause-answer : goal.returns-clause-answer
-returns-clause-answer g c =
+pub returns-clause-kind : goal.returns-clause-kind
+returns-clause-kind g c =
     removal_passes c.args.self.now.state c.args.name.now c.in_ok-key.key c.in_ok-key.ensures c.in_ok-check_storages.ensures _ c.if-not-contains.ensures refl
 
 pub returns-in_err-check_storages-clause-ok : goal.returns-in_err-check_storages-clause-ok

@@ -1,0 +1,4 @@
+-- The words of this crate.
+pub mod Cursor
+pub mod Refusals
+pub mod Listing
