@@ -14,11 +14,11 @@ pub use Rattle.msi_container_format.specs.Lending
 pub use Rattle.msi_container_format.specs.Container
 pub use Rattle.msi_container_format.specs.StreamNames
 pub use Rattle.msi_container_format.specs.StreamNameLaws
-pub use Rattle.msi_container_read.specs.Claims
-pub use Rattle.msi_container_read.specs.Walks
-pub use Rattle.msi_container_read.specs.Outcomes
-pub use Rattle.msi_container_read.specs.Counts
-pub use Rattle.msi_container_read.specs.Reading
+pub use Rattle.msi_container_tables.specs.Claims
+pub use Rattle.msi_container_tables.specs.Walks
+pub use Rattle.msi_container_tables.specs.Outcomes
+pub use Rattle.msi_container_tables.specs.Counts
+pub use Rattle.msi_container_tables.specs.Reading
 pub use Rattle.msi_container_read.specs.Steps
 pub use Rattle.msi_container_read.specs.Listings
 pub use Rattle.msi_container_write.specs.Extents

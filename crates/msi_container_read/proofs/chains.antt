@@ -1,13 +1,4 @@
--- Chains of sectors: their members, their bytes, and claims.
-pub mod ChainLemmas
-pub mod ChainPassedLemmas
-pub mod ChainStepLemmas
-pub mod WholeChainLemmas
-pub mod StreamChainLemmas
-pub mod ClaimLemmas
-pub mod CountRows
-pub mod FatLemmas
-pub mod RoomLemmas
+-- Chains of sectors: their bytes, and steps along them.
 pub mod RunLemmas
 pub mod SectorBytesLemmas
 pub mod StepLemmas

@@ -4,8 +4,8 @@ use Rattle.std.specs.Int.{div_ceil}
 use Rattle.std.specs.FinMap.{entries}
 use Rattle.msi_container_format.specs.declared.contents.Contents.{Contents}
 use Rattle.msi_container_format.specs.Container.{Plan, sector_size, fat_of}
-use Rattle.msi_container_read.specs.Counts.{sectors_inside, links}
-use Rattle.msi_container_read.specs.Reading.{IsStart, IsMini, mini_limit}
+use Rattle.msi_container_tables.specs.Counts.{sectors_inside, links}
+use Rattle.msi_container_tables.specs.Reading.{IsStart, IsMini, mini_limit}
 
 -- a mini stream that header, FAT and directory lead to, by sectors that start inside the file, none of them used twice
 abbrev pub HasMiniStream : (bytes mini_stream : List ℕ) → Type 0

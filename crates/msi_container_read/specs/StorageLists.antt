@@ -6,8 +6,9 @@ use Rattle.std.specs.List.{flat_map, range_with_len}
 use Rattle.msi_container_format.specs.Chains.{AreDistinct}
 use Rattle.msi_container_format.specs.Trees.{Tree, members}
 use Rattle.msi_container_format.specs.Container.{kind, name, streams_among}
-use Rattle.msi_container_read.specs.Reading.{storages_among}
-use Rattle.msi_container_read.specs.Storages.{IsStorageTree, HasDirectory, IsPath, storage_clsid}
+use Rattle.msi_container_tables.specs.Reading.{storages_among}
+use Rattle.msi_container_tables.specs.Paths.{IsStorageTree, IsPath, storage_clsid}
+use Rattle.msi_container_read.specs.Storages.{HasDirectory}
 use Rattle.msi_container_read.specs.declared.storages.Storage.{Storage}
 
 -- what lies in these storages, and then in those that lie in them: a tree for each storage, in turn

@@ -8,15 +8,14 @@ ghost use Rattle.msi_container_format.specs.declared.contents.Contents as held;
 ghost use Rattle.msi_container_format.specs.Chains.{AreBelow};
 ghost use Rattle.msi_container_format.specs.Container as container;
 ghost use Rattle.msi_container_read.specs.Listings.{listing_of, named_sizes};
-ghost use Rattle.msi_container_read.specs.Outcomes.{FailsByData};
-ghost use Rattle.msi_container_read.specs.Reading.{HaveNamesApart};
+ghost use Rattle.msi_container_tables.specs.Outcomes.{FailsByData};
+ghost use Rattle.msi_container_tables.specs.Reading.{HaveNamesApart};
 
-use crate::directory::Directory;
-use crate::names::{insert_size, names_of, own_name};
+use crate::names::insert_size;
 use crate::reading::read_outline;
 use crate::sizes::{Listing, Sizes};
-use crate::table::Steps;
 use msi_base::Error;
+use msi_container_tables::{Directory, Steps, names_of, own_name};
 use std::alloc::Global;
 
 /// Returns the names and sizes of the streams that `read` would return, and whether storages lie below the root. No

@@ -1,39 +1,31 @@
 //! Reading a compound file.
 
-ghost use Rattle.std.specs.Prelude.{◌≡◌, ℕ, List, [], ◌+◌, ◌-◌, ◌<◌, ◌≤◌, ◌^◌, ◌++◌, length, sum_by, vec_len, IfOk};
-ghost use Rattle.std.specs.Prelude.{IfSome, OnOk, OnErr, IsErrOf, Some};
+ghost use Rattle.std.specs.Prelude.{◌≡◌, ℕ, List, [], ◌+◌, ◌-◌, ◌<◌, ◌≤◌, ◌^◌, ◌++◌, vec_len, IfOk};
+ghost use Rattle.std.specs.Prelude.{IfSome, OnOk, Some};
 ghost use Rattle.msi_base.specs.Results.{IsUnlessMemory};
-ghost use Rattle.msi_base.specs.declared.errors.ErrorKind.TheVariants.{InvalidData};
 ghost use Rattle.std.specs.List.{AllZip};
 ghost use Rattle.msi_container_format.specs.declared.contents.Contents as held;
 ghost use Rattle.msi_container_format.specs.Chains.{AreBelow};
-ghost use Rattle.msi_container_read.specs.Claims.{CanClaim};
-ghost use Rattle.msi_container_read.specs.Outcomes.{ViewIsUnlessMemory, FailsByData, FailsByPath, IsNotFound};
 ghost use Rattle.msi_container_format.specs.Container as container;
 ghost use Rattle.msi_container_format.specs.Format as marks;
-ghost use Rattle.msi_container_format.specs.Container.{IsMiniFat};
-ghost use Rattle.msi_container_read.specs.Reading.{IsStart, IsNamelessListing, IsMini, AreChained, IsCovered};
-ghost use Rattle.msi_container_read.specs.Reading.{IsOutline, HaveNamesApart, storages_among, mini_limit, views};
+ghost use Rattle.msi_container_format.specs.Trees.{members};
+ghost use Rattle.msi_container_tables.specs.Outcomes.{ViewIsUnlessMemory, FailsByData, FailsByPath, IsNotFound};
+ghost use Rattle.msi_container_tables.specs.Paths.{IsPath};
+ghost use Rattle.msi_container_tables.specs.Reading.{IsStart, IsCovered, HaveNamesApart, storages_among, views};
+ghost use Rattle.msi_container_read.specs.Outlines.{IsOutline};
 ghost use Rattle.msi_container_read.specs.Steps as counted;
 ghost use Rattle.msi_container_read.specs.Storages as storages;
-ghost use Rattle.msi_container_read.specs.Counts.{links};
-ghost use Rattle.msi_container_format.specs.Trees.{Tree, members};
 
-use crate::claims::{Claimed, Claims};
-use crate::directory::{Directory, read_listing};
-use crate::fat::{read_difat, read_fat};
-use crate::header::{check_header, sector_count, sector_size};
-use crate::paths::find_storage;
-use crate::streams::{Tables, Uses, collect, has_storage, of_kind, walk_each};
-use crate::table::{AllocationTable, Steps};
-use crate::walks::{walk, walk_to_end};
+use crate::streams::collect;
 use msi_base::Error;
 use msi_container_format::contents::Contents;
-use msi_container_format::format::{
-    DIRECTORY_START_AT, MAX_REGULAR_SECTOR, MINI_FAT_START_AT, MINI_SECTOR_SIZE, STORAGE, STREAM,
-};
+use msi_container_format::format::DIRECTORY_START_AT;
 use msi_container_format::name::Name;
 use msi_container_format::parts::number32;
+use msi_container_tables::{
+    AllocationTable, Claimed, Claims, Directory, Entries, Mini, Steps, check_header, find_storage,
+    read_chains, read_difat, read_entries, read_fat, read_mini, sector_count, walk_to_end,
+};
 use std::alloc::Global;
 use std::rc::Rc;
 
@@ -245,7 +237,7 @@ fn read_outline_at(
 ) -> Result<Outline, Error>
     requires { steps.old ≤ 2 ^ 63 }
     ensures found { IfOk result (λ o. (storage : ℕ) × (plan : container.Plan)
-        × storages.IsPath bytes.now plan.directory path.now (Some storage)
+        × IsPath bytes.now plan.directory path.now (Some storage)
         × (HaveNamesApart bytes.now plan.directory
         (storages_among bytes.now plan.directory (members plan.tree)) (container.stream_entries bytes.now plan)
         → storages.IsPlanAt bytes.now path.now storage plan)
@@ -319,35 +311,6 @@ impl Drop for Start {
     }
 }
 
-/// The entries of storages, and those of streams, in the tree's order.
-pub struct Entries {
-    pub has_storages: bool,
-    pub storages: Vec<u32>,
-    pub streams: Vec<u32>,
-}
-
-impl Drop for Entries {
-    fn drop(self) {
-        let Entries {
-            has_storages: _,
-            storages: _,
-            streams: _,
-        } = self;
-    }
-}
-
-/// The sectors of the mini FAT and of the mini stream.
-pub struct Mini {
-    pub fat: Vec<u32>,
-    pub stream: Vec<u32>,
-}
-
-impl Drop for Mini {
-    fn drop(self) {
-        let Mini { fat: _, stream: _ } = self;
-    }
-}
-
 pub(crate) fn read_start(
     alloc: Global,
     bytes: &[u8],
@@ -382,141 +345,4 @@ pub(crate) fn read_start(
         fat,
         directory,
     })
-}
-
-pub fn read_entries(alloc: Global, directory: &Directory, storage: u32) -> Result<Entries, Error>
-    requires { storage < container.entry_count directory.now.bytes.now directory.now.sectors.now }
-    ensures found { IfOk result
-        (λ e. (tree : Tree) × IsNamelessListing directory.now.bytes.now directory.now.sectors.now storage tree
-        × (e.has_storages ≡ container.has_storage directory.now.bytes.now directory.now.sectors.now (members tree))
-        × (e.storages.items ≡ storages_among directory.now.bytes.now directory.now.sectors.now (members tree))
-        × (e.streams.items
-        ≡ container.streams_among directory.now.bytes.now directory.now.sectors.now (members tree))) }
-    ensures only { (tree : Tree) → IsNamelessListing directory.now.bytes.now directory.now.sectors.now storage tree
-        → ViewIsUnlessMemory {Y = List ℕ × List ℕ} (λ e. (e.storages.items, e.streams.items)) result (
-          storages_among directory.now.bytes.now directory.now.sectors.now (members tree),
-          container.streams_among directory.now.bytes.now directory.now.sectors.now (members tree),
-        ) }
-    ensures storages { IfOk result
-        (λ e. AreBelow (container.entry_count directory.now.bytes.now directory.now.sectors.now) e.storages.items) }
-    ensures below { IfOk result
-        (λ e. AreBelow (container.entry_count directory.now.bytes.now directory.now.sectors.now) e.streams.items) }
-    ensures kinds { FailsByData result }
-{
-    let entries = read_listing(alloc, directory, storage)?;
-    let storages = of_kind(alloc, directory, &entries, STORAGE)?;
-    let streams = of_kind(alloc, directory, &entries, STREAM)?;
-    let has_storages = has_storage(directory, &entries);
-    Ok(Entries {
-        has_storages,
-        storages,
-        streams,
-    })
-}
-
-fn read_mini_fat(
-    alloc: Global,
-    bytes: &[u8],
-    fat: &AllocationTable,
-    claims: &mut Claims,
-    steps: &mut Steps,
-) -> Result<Vec<u32>, Error>
-    requires same { fat.now.bytes.now ≡ bytes.now }
-    requires regular { vec_len claims.old.marks ≤ marks.MAX_REGULAR_SECTOR + 1 }
-    requires steps { steps.old + vec_len claims.old.marks + vec_len claims.old.marks + 1 < 2 ^ 64 }
-    ensures limit { vec_len claims.new.marks ≡ vec_len claims.old.marks }
-    ensures found { IfOk result (λ mini_fat. IsMiniFat fat.now.bytes.now fat.now.sectors.now mini_fat.items
-        × (claims.new.list.items ≡ claims.old.list.items ++ mini_fat.items)) }
-    ensures only { (mini_fat : List ℕ) → IsMiniFat fat.now.bytes.now fat.now.sectors.now mini_fat
-        → CanClaim (vec_len claims.old.marks) claims.old.list.items mini_fat
-        → ViewIsUnlessMemory (λ v. v.items) result mini_fat }
-    ensures kinds { FailsByData result }
-    ensures grows { steps.old ≤ steps.new }
-    ensures bounded { steps.new + vec_len claims.old.list ≤ steps.old + vec_len claims.new.list }
-    ensures exact { IfOk result (λ mini_fat. steps.new ≡ steps.old + vec_len mini_fat) }
-{
-    let first = number32(bytes, MINI_FAT_START_AT);
-    if first <= MAX_REGULAR_SECTOR {
-        walk_to_end(alloc, fat, first, claims, steps)
-    } else {
-        Ok(Vec::new(alloc))
-    }
-}
-
-pub fn read_mini(
-    alloc: Global,
-    fat: &AllocationTable,
-    directory: &Directory,
-    claims: &mut Claims,
-    steps: &mut Steps,
-) -> Result<Mini, Error>
-    requires same { fat.now.bytes.now ≡ directory.now.bytes.now }
-    requires root { 0 < container.entry_count directory.now.bytes.now directory.now.sectors.now }
-    requires regular { vec_len claims.old.marks ≤ marks.MAX_REGULAR_SECTOR + 1 }
-    requires steps { steps.old + vec_len claims.old.marks + vec_len claims.old.marks + 1 < 2 ^ 64 }
-    ensures limit { vec_len claims.new.marks ≡ vec_len claims.old.marks }
-    ensures found { IfOk result
-        (λ m. IsMini directory.now.bytes.now
-        (vec_len claims.old.marks) claims.old.list.items fat.now.sectors.now directory.now.sectors.now m.fat.items
-        m.stream.items
-        × (claims.new.list.items ≡ claims.old.list.items ++ m.fat.items ++ m.stream.items)) }
-    ensures only { (mini_fat mini_stream : List ℕ)
-        → IsMini directory.now.bytes.now
-        (vec_len claims.old.marks) claims.old.list.items fat.now.sectors.now directory.now.sectors.now mini_fat
-        mini_stream
-        → ViewIsUnlessMemory {Y = List ℕ × List ℕ} (λ m. (m.fat.items, m.stream.items)) result (mini_fat, mini_stream) }
-    ensures kinds { FailsByData result }
-    ensures few { IfOk result (λ m. vec_len m.fat + vec_len m.stream ≤ vec_len claims.old.marks) }
-    ensures grows { steps.old ≤ steps.new }
-    ensures bounded { steps.new + vec_len claims.old.list ≤ steps.old + vec_len claims.new.list }
-    ensures exact { IfOk result (λ m. steps.new ≡ steps.old + vec_len m.fat + links m.stream.items) }
-{
-    let mini_fat = read_mini_fat(alloc, directory.bytes, fat, claims, steps)?;
-    let size = sector_size(directory.bytes) as u64;
-    let count = directory.size(0).div_ceil(size) as usize;
-    let stream = walk(alloc, fat, directory.start_sector(0), count, claims, steps)?;
-    Ok(Mini {
-        fat: mini_fat,
-        stream,
-    })
-}
-
-pub fn read_chains<'a>(
-    alloc: Global,
-    fat: &AllocationTable<'a>,
-    directory: &Directory<'a>,
-    mini: &'a Mini,
-    streams: &[u32],
-    claims: Claims,
-    steps: &mut Steps,
-) -> Result<Vec<Vec<u32>>, Error>
-    requires same { fat.now.bytes.now ≡ directory.now.bytes.now }
-    requires below { AreBelow (container.entry_count directory.now.bytes.now directory.now.sectors.now) streams.now }
-    requires few { vec_len mini.now.fat + vec_len mini.now.stream ≤ 2 ^ 32 }
-    requires regular { vec_len claims.marks ≤ marks.MAX_REGULAR_SECTOR + 1 }
-    requires steps { steps.old ≤ 2 ^ 63 + vec_len claims.list }
-    ensures found { IfOk result
-        (λ chains. AreChained directory.now.bytes.now fat.now.sectors.now mini.now.fat.items directory.now.sectors.now
-        mini.now.stream.items
-        (vec_len claims.marks) claims.list.items streams.now (views chains.items)) }
-    ensures invalid { IsErrOf result InvalidData → (chains : List (List ℕ))
-        → AreChained directory.now.bytes.now fat.now.sectors.now mini.now.fat.items directory.now.sectors.now
-        mini.now.stream.items
-        (vec_len claims.marks) claims.list.items streams.now chains → ⊥ }
-    ensures kinds { FailsByData result }
-    ensures grows { steps.old ≤ steps.new }
-    ensures bounded { steps.new + vec_len claims.list
-        ≤ steps.old + vec_len claims.marks + mini_limit directory.now.bytes.now mini.now.stream.items }
-    ensures exact { IfOk result (λ chains. steps.new ≡ steps.old + sum_by links (views chains.items)) }
-{
-    let tables = Tables {
-        fat: *fat,
-        mini_fat: AllocationTable::new(directory.bytes, &mini.fat),
-    };
-    let limit = mini.stream.len() * (sector_size(directory.bytes) / MINI_SECTOR_SIZE);
-    let mut uses = Uses {
-        sectors: claims,
-        mini_sectors: Claims::new(alloc, Claimed::MiniSectors, limit)?,
-    };
-    walk_each(alloc, &tables, directory, streams, &mut uses, steps)
 }

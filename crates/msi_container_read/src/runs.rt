@@ -6,7 +6,7 @@ ghost use Rattle.msi_container_format.specs.Bytes.{bytes_at};
 ghost use Rattle.msi_container_format.specs.Container as container;
 ghost use Rattle.msi_container_read.specs.Runs.{IsRun};
 
-use crate::header::sector_size;
+use msi_container_tables::sector_size;
 
 fn is_run(sectors: &[u32], first: u32) -> bool
     ensures { IsTrue result → IsRun first sectors.now }

@@ -6,24 +6,22 @@ ghost use Rattle.msi_base.specs.declared.errors.ErrorKind.TheVariants.{InvalidDa
 ghost use Rattle.msi_container_format.specs.Chains.{AreBelow};
 ghost use Rattle.msi_container_format.specs.Container as container;
 ghost use Rattle.msi_container_format.specs.Trees.{Tree, members};
-ghost use Rattle.msi_container_read.specs.Claims.{CanClaim};
-ghost use Rattle.msi_container_read.specs.Outcomes.{ViewIsUnlessMemory, FailsByData};
-ghost use Rattle.msi_container_read.specs.Reading.{storages_among};
+ghost use Rattle.msi_container_tables.specs.Claims.{CanClaim};
+ghost use Rattle.msi_container_tables.specs.Outcomes.{ViewIsUnlessMemory, FailsByData};
+ghost use Rattle.msi_container_tables.specs.Paths.{IsStorageTree};
+ghost use Rattle.msi_container_tables.specs.Reading.{storages_among};
 ghost use Rattle.msi_container_read.specs.Storages as spec;
 ghost use Rattle.msi_container_read.specs.StorageLists as lists;
 ghost use Rattle.msi_container_read.specs.declared.storages.Storage as a_storage;
 
-use crate::claims::{Claimed, Claims};
-use crate::directory::{Directory, check_kinds, reach_more};
-use crate::header::sector_count;
-use crate::names::names_of;
 use crate::reading::{Start, read_start};
 use crate::reasons;
-use crate::streams::of_kind;
-use crate::table::Steps;
 use msi_base::{Error, ErrorKind};
 use msi_container_format::format::{ROOT, STORAGE, STREAM};
 use msi_container_format::name::Name;
+use msi_container_tables::{
+    Claimed, Claims, Directory, Steps, check_kinds, names_of, of_kind, reach_more, sector_count,
+};
 use std::alloc::Global;
 
 /// A storage below the root.
@@ -179,7 +177,7 @@ fn look_into(
         found.old.entries.items }
     ensures limit { vec_len claims.new.marks ≡ vec_len claims.old.marks }
     ensures ok { OnOk result ((tree : Tree)
-        × spec.IsStorageTree directory.now.bytes.now directory.now.sectors.now
+        × IsStorageTree directory.now.bytes.now directory.now.sectors.now
         (slice_index found.old.entries.items number) tree
         × (claims.new.list.items ≡ claims.old.list.items ++ members tree)
         × (found.new.entries.items ≡ found.old.entries.items
@@ -193,7 +191,7 @@ fn look_into(
     ensures below { OnOk result
         (AreBelow (container.entry_count directory.now.bytes.now directory.now.sectors.now) found.new.entries.items) }
     ensures invalid { IsErrOf result InvalidData → (tree : Tree)
-        → spec.IsStorageTree directory.now.bytes.now directory.now.sectors.now
+        → IsStorageTree directory.now.bytes.now directory.now.sectors.now
         (slice_index found.old.entries.items number) tree
         → CanClaim (vec_len claims.old.marks) claims.old.list.items (members tree) → ⊥ }
     ensures kinds { FailsByData result }
@@ -219,11 +217,11 @@ fn listing_beside(
     ensures limit { vec_len claims.new.marks ≡ vec_len claims.old.marks }
     ensures found { IfOk result
         (λ entries. (tree : Tree)
-        × spec.IsStorageTree directory.now.bytes.now directory.now.sectors.now storage tree
+        × IsStorageTree directory.now.bytes.now directory.now.sectors.now storage tree
         × (members tree ≡ entries.items)
         × (claims.new.list.items ≡ claims.old.list.items ++ entries.items)) }
     ensures only { (tree : Tree)
-        → spec.IsStorageTree directory.now.bytes.now directory.now.sectors.now storage tree
+        → IsStorageTree directory.now.bytes.now directory.now.sectors.now storage tree
         → CanClaim (vec_len claims.old.marks) claims.old.list.items (members tree)
         → ViewIsUnlessMemory (λ v. v.items) result (members tree) }
     ensures below { IfOk result

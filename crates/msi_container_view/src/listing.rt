@@ -7,16 +7,15 @@ ghost use Rattle.msi_container_format.specs.Chains.{AreBelow};
 ghost use Rattle.msi_container_format.specs.Container as container;
 ghost use Rattle.msi_container_format.specs.Format as marks;
 ghost use Rattle.msi_container_format.specs.Trees.{Tree, members};
-ghost use Rattle.msi_container_read.specs.Outcomes.{FailsByData};
-ghost use Rattle.msi_container_read.specs.Reading.{AreChained, IsCovered, IsNamelessListing, storages_among, views};
+ghost use Rattle.msi_container_tables.specs.Outcomes.{FailsByData};
+ghost use Rattle.msi_container_tables.specs.Reading.{AreChained, IsCovered, IsNamelessListing, storages_among, views};
 ghost use Rattle.msi_container_view.specs.Copied.{AreCopied, HasHeaderOf};
 
 use crate::looking::MiniTables;
 use crate::tables::Copied;
 use msi_base::Error;
-use msi_container_read::Steps;
-use msi_container_read::parts::{
-    AllocationTable, Claims, Directory, Entries, find_storage, read_chains, read_entries,
+use msi_container_tables::{
+    AllocationTable, Claims, Directory, Entries, Steps, find_storage, read_chains, read_entries,
 };
 use std::alloc::Global;
 

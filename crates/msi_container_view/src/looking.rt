@@ -7,8 +7,8 @@ ghost use Rattle.std.specs.Int.{div_ceil};
 ghost use Rattle.msi_container_format.specs.Container as container;
 ghost use Rattle.msi_container_format.specs.Container.{IsDifat, IsDirectory, fat_of};
 ghost use Rattle.msi_container_format.specs.Format as marks;
-ghost use Rattle.msi_container_read.specs.Claims.{CanClaim};
-ghost use Rattle.msi_container_read.specs.Reading.{IsMini};
+ghost use Rattle.msi_container_tables.specs.Claims.{CanClaim};
+ghost use Rattle.msi_container_tables.specs.Reading.{IsMini};
 ghost use Rattle.msi_container_view.specs.Reading.{Answers};
 ghost use Rattle.msi_container_view.specs.Tables.{IsCopy, ReadsOn, StandAt};
 
@@ -19,9 +19,8 @@ use msi_container_format::format::{
     DIRECTORY_START_AT, FAT_COUNT_AT, HEADER_FAT_SECTORS, LINK_SIZE,
 };
 use msi_container_format::parts::number32;
-use msi_container_read::Steps;
-use msi_container_read::parts::{
-    AllocationTable, Claims, Directory, Mini, next_sector, read_fat, read_mini, sector_size,
+use msi_container_tables::{
+    AllocationTable, Claims, Directory, Mini, Steps, next_sector, read_fat, read_mini, sector_size,
     walk_to_end,
 };
 use std::alloc::Global;

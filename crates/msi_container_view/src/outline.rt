@@ -10,8 +10,8 @@ ghost use Rattle.msi_container_format.specs.Chains.{AreBelow};
 ghost use Rattle.msi_container_format.specs.Container as container;
 ghost use Rattle.msi_container_format.specs.Container.{Holds, IsPlan, IsSector, Plan};
 ghost use Rattle.msi_container_format.specs.Format as marks;
-ghost use Rattle.msi_container_read.specs.Outcomes.{FailsByData};
-ghost use Rattle.msi_container_read.specs.Reading.{AreChained, HaveNamesApart, IsStart};
+ghost use Rattle.msi_container_tables.specs.Outcomes.{FailsByData};
+ghost use Rattle.msi_container_tables.specs.Reading.{AreChained, HaveNamesApart, IsStart};
 ghost use Rattle.msi_container_view.specs.Copied.{AreCopied, HasHeaderOf};
 ghost use Rattle.msi_container_view.specs.Reading.{Answers, Tells};
 ghost use Rattle.msi_container_view.specs.Tables.{IsCopy, ReadsOn, StandAt};
@@ -23,7 +23,7 @@ use crate::looking::{MiniTables, look_difat, look_directory, look_fat, look_mini
 use crate::tables::{Copied, Tables};
 use msi_base::Error;
 use msi_container_device::Seekable;
-use msi_container_read::parts::{Claimed, Claims, Directory, Entries};
+use msi_container_tables::{Claimed, Claims, Directory, Entries};
 use std::alloc::Global;
 
 /// The sectors of the DIFAT, the FAT and the directory.

@@ -13,7 +13,7 @@ use crate::counted::Counted;
 use crate::extents::run_len;
 use msi_base::Error;
 use msi_container_device::{Seekable, Source};
-use msi_container_read::parts::{check_header, sector_size};
+use msi_container_tables::{check_header, sector_size};
 use std::alloc::Global;
 use std::marker::Model;
 

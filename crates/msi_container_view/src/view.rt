@@ -22,7 +22,7 @@ use crate::tables::Tables;
 use msi_base::Error;
 use msi_container_device::{Seekable, Source};
 use msi_container_format::name::Name;
-use msi_container_read::parts::{sector_size, usable_sectors};
+use msi_container_tables::{sector_size, usable_sectors};
 use std::alloc::Global;
 use std::io::Write;
 use std::marker::Model;

@@ -4,7 +4,7 @@ use Rattle.std.specs.List.{range_with_len}
 use Rattle.std.proofs.lemmas.Nat.{div-mul-add, mod-mul-add}
 use Rattle.msi_container_format.specs.Bytes.{bytes_at, place}
 use Rattle.msi_container_format.specs.Container.{version, sector_size, sector_byte, mini_sector_byte}
-use Rattle.msi_container_read.proofs.plans.ListLemmas.{from_fn_append}
+use Rattle.msi_container_tables.proofs.parts.ListLemmas.{from_fn_append}
 
 -- byte j of member i
 pub place_within : (size : ℕ) (members : List ℕ) (i j : ℕ) → j < size → place size members (i * size + j) ≡ (get_or members i 0 + 1) * size + j

@@ -1,9 +1,9 @@
 -- How often a successor is looked up, and what its bounds follow from.
 use Rattle.std.proofs.Common.{◌≡◌, ℕ, ◌+◌, ◌-◌, ◌≤◌, List, ◌++◌, inl, inr, subst, arith}
 use Rattle.msi_container_format.specs.Container.{fat_of}
-use Rattle.msi_container_read.specs.Claims.{CanClaim}
-use Rattle.msi_container_read.specs.Reading.{IsStart, IsMini, mini_limit}
-use Rattle.msi_container_read.specs.Counts.{sectors_inside}
+use Rattle.msi_container_tables.specs.Claims.{CanClaim}
+use Rattle.msi_container_tables.specs.Reading.{IsStart, IsMini, mini_limit}
+use Rattle.msi_container_tables.specs.Counts.{sectors_inside}
 use Rattle.msi_container_read.specs.Steps.{HasMiniStream, IsWithinSectors}
 
 -- what can be claimed below a limit can be below a higher one

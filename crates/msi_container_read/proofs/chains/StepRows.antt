@@ -2,7 +2,7 @@
 use Rattle.std.specs.Prelude.{◌≡◌, [], ◌∷◌, refl, replicate}
 use Rattle.msi_container_format.specs.Container.{Plan}
 use Rattle.msi_container_format.specs.Trees.{Leaf, Node}
-use Rattle.msi_container_read.specs.Reading.{mini_limit}
+use Rattle.msi_container_tables.specs.Reading.{mini_limit}
 use Rattle.msi_container_read.specs.Steps.{steps_of, rounded_length}
 
 -- a file of one stream of 4096 bytes, in sectors 1 to 8

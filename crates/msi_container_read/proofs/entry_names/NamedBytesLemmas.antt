@@ -7,7 +7,7 @@ use Rattle.std.proofs.lemmas.Slice.Zip.{length-zip, get_or-zip}
 use Rattle.msi_container_format.specs.Names.{name_cmp}
 use Rattle.msi_container_format.specs.Container.{name, stream_bytes, named_bytes}
 use Rattle.msi_container_format.proofs.NamesLemmas.{from_entries_push_new}
-use Rattle.msi_container_read.proofs.entry_names.OwnNameLemmas.{AreOwn}
+use Rattle.msi_container_tables.proofs.entry_names.OwnNameLemmas.{AreOwn}
 
 pub length-named_bytes : (bytes mini_stream directory ks : List ℕ) (chains : List (List ℕ)) → length (named_bytes bytes mini_stream directory ks chains) ≡ min (length ks) (length chains)
 length-named_bytes bytes mini_stream directory ks chains =

@@ -9,7 +9,7 @@ use Rattle.std.proofs.lemmas.List.FromFn.{length-map-range_with_len}
 use Rattle.msi_container_format.specs.Names.{name_cmp}
 use Rattle.msi_container_format.specs.Container.{name, size, IsMembers, stream_bytes, named_bytes, stream_entries, Plan, IsPlan, contents_of}
 use Rattle.msi_container_format.proofs.NamesLemmas.{names_total, exact_names, from_entries_push_new}
-use Rattle.msi_container_read.proofs.entry_names.OwnNameLemmas.{AreOwn}
+use Rattle.msi_container_tables.proofs.entry_names.OwnNameLemmas.{AreOwn}
 use Rattle.msi_container_read.specs.Listings.{named_sizes, sizes_of}
 
 pub length-named_sizes : (bytes directory ks : List ℕ) → length (named_sizes bytes directory ks) ≡ length ks

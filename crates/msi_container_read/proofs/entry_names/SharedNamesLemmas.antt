@@ -6,9 +6,10 @@ use Rattle.msi_base.specs.declared.errors.ErrorKind.TheVariants.{InvalidData}
 use Rattle.msi_container_format.specs.Trees.{Tree, members}
 use Rattle.msi_container_format.specs.Container.{kind, name, HasName, AreEntries, HaveOwnNames, Plan, IsPlan, stream_entries, streams_among}
 use Rattle.msi_container_format.proofs.PlanOnceLemmas.{Each}
-use Rattle.msi_container_read.specs.Reading.{AreOfKinds, IsNamelessListing, HaveNamesApart, storages_among}
-use Rattle.msi_container_read.specs.Storages.{IsStorageTree, IsPlanAt}
-use Rattle.msi_container_read.proofs.plans.ListingLemmas.{Apart, each_rest, each_more, apart_more, filter_each, filter_apart}
+use Rattle.msi_container_tables.specs.Reading.{AreOfKinds, IsNamelessListing, HaveNamesApart, storages_among}
+use Rattle.msi_container_tables.specs.Paths.{IsStorageTree}
+use Rattle.msi_container_read.specs.Storages.{IsPlanAt}
+use Rattle.msi_container_tables.proofs.parts.ListingLemmas.{Apart, each_rest, each_more, apart_more, filter_each, filter_apart}
 
 -- each of the first is told from each of the second
 abbrev pub Cross : (ℕ → List ℕ) → List ℕ → List ℕ → Type 0

@@ -20,11 +20,11 @@ use Rattle.msi_container_format.specs.Names.{name_cmp}
 use Rattle.msi_container_format.specs.declared.contents.Contents.{Contents}
 use Rattle.msi_container_format.specs.Container.{Plan, IsSector, IsMembers, version, sector_size, size, start_sector, successor, is_mini, name, stream_bytes, sectors_in, mini_sectors_in, all_sectors, all_mini_sectors, named_bytes, stream_entries, sectors_used, sectors_of_streams, mini_sectors_of_streams}
 use Rattle.msi_container_format.proofs.NamesLemmas.{names_total}
-use Rattle.msi_container_read.specs.Reading.{mini_limit}
+use Rattle.msi_container_tables.specs.Reading.{mini_limit}
 use Rattle.msi_container_read.specs.Storages.{IsPlanAt, HoldsAt, contents_at}
-use Rattle.msi_container_read.specs.Counts.{sectors_inside}
+use Rattle.msi_container_tables.specs.Counts.{sectors_inside}
 use Rattle.msi_container_read.specs.Steps.{bytes_kept, rounded_length}
-use Rattle.msi_container_read.proofs.plans.ListingLemmas.{some_size}
+use Rattle.msi_container_tables.proofs.parts.ListingLemmas.{some_size}
 use Rattle.msi_container_read.proofs.plans.PlanPartsLemmas.{mini_below}
 
 -- DISTINCT NUMBERS BELOW A LIMIT

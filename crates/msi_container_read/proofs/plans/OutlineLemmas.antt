@@ -1,30 +1,22 @@
 -- What the parts of a file say of its plan, where the code has sectors and entries under other names: behind a slice, or
 -- as they stood before a call. Over plain lists and numbers, since a function that owns all parts has long goals.
 use Rattle.std.proofs.Common.{◌≡◌, ℕ, ◌+◌, ◌-◌, ◌<◌, ◌≤◌, ◌^◌, Bool, List, ◌++◌, length, sum_by, inl, sym, ◌∙◌, ap, arith, refl, Option, Some, None}
-use Rattle.msi_container_format.specs.Chains.{AreBelow, AreDistinct}
+use Rattle.msi_container_format.specs.Chains.{AreBelow}
 use Rattle.msi_container_format.specs.Format.{MAX_REGULAR_SECTOR}
 use Rattle.msi_container_format.specs.Trees.{Tree, members}
-use Rattle.msi_container_format.specs.Container.{Plan, IsSector, fat_of, IsDirectoryTree, child, entry_count, has_storage, streams_among, stream_entries}
-use Rattle.msi_container_read.specs.Counts.{links, sectors_inside}
-use Rattle.msi_container_read.specs.Reading.{AreOfKinds, IsStart, IsNamelessListing, IsMini, AreChained, IsOutline, HaveNamesApart, storages_among, mini_limit}
+use Rattle.msi_container_format.specs.Container.{Plan, IsSector, fat_of, entry_count, has_storage, streams_among, stream_entries}
+use Rattle.msi_container_tables.specs.Counts.{links, sectors_inside}
+use Rattle.msi_container_tables.specs.Reading.{IsStart, IsNamelessListing, IsMini, AreChained, HaveNamesApart, storages_among, mini_limit}
+use Rattle.msi_container_read.specs.Outlines.{IsOutline}
 use Rattle.msi_container_read.specs.Steps.{steps_of, IsWithinSectors}
-use Rattle.msi_container_read.specs.Storages.{IsPath, IsPlanAt, IsMissing, storage_clsid}
-use Rattle.msi_container_read.proofs.plans.ListingLemmas.{some_entries}
+use Rattle.msi_container_tables.specs.Paths.{IsPath, storage_clsid}
+use Rattle.msi_container_read.specs.Storages.{IsPlanAt, IsMissing}
+use Rattle.msi_container_tables.proofs.parts.ListingLemmas.{some_entries}
 use Rattle.msi_container_read.proofs.plans.PlanPartsLemmas.{Limits, starts, befores, plan_of, to_plan, start_of_directory, directory_of_start, mini_of, chained_of}
 use Rattle.msi_container_read.proofs.entry_names.SharedNamesLemmas.{nameless, with_names}
 use Rattle.msi_container_read.proofs.chains.StepLemmas.{has_mini_stream, within_both}
 
 -- NUMBERS
-
-pub grown : (a b c : ℕ) → a ≤ b → b ≤ c → a ≤ c
-grown a b c p q = omega arith
-
-pub grown_twice : (a b c d : ℕ) → a ≤ b → b ≤ c → c ≤ d → a ≤ d
-grown_twice a b c d p q r = omega arith
-
--- steps that were taken for what was claimed, in two calls
-pub steps_twice : (s t u k l m : ℕ) → t + k ≤ s + l → u + l ≤ t + m → u + k ≤ s + m
-steps_twice s t u k l m p q = omega arith
 
 -- sectors are few: each has a regular number
 pub few_of : (n marks limit count : ℕ) → n ≤ marks → marks ≡ limit → limit ≡ count → count ≤ MAX_REGULAR_SECTOR + 1 → n ≤ 2 ^ 32
@@ -212,30 +204,6 @@ within_all bytes s t u v k l m limit count mini_marks marks difat fat directory 
     let minis : IsMini bytes limit (difat ++ fat ++ directory) fat directory mini_fat mini_stream = rw (n, w, f, d) at mini in
     within_both bytes mini_stream s v limit (has_mini_stream bytes limit difat fat directory mini_fat mini_stream (omega (arith, e, inside)) start minis) (omega (arith, x, y, z, n, q)) (omega (arith, e, inside))
 
--- THE LISTING
-
--- the entries that are reached, where each of them is a storage or a stream
-pub listing_found : (bytes directory : List ℕ) (storage top : ℕ) (tree : Tree) (entries seen : List ℕ)
-    → top ≡ child bytes directory storage
-    → IsDirectoryTree bytes directory top tree
-    → members tree ≡ entries
-    → AreDistinct entries
-    → seen ≡ entries
-    → AreOfKinds bytes directory seen
-    → IsNamelessListing bytes directory storage tree
-listing_found bytes directory storage top tree entries seen t spelled same distinct s kinds = record {
-  spelled = rw t at spelled;
-  once = rw same distinct;
-  kinds = rw same (rw s at kinds);
-}
-
 -- sectors in the last of three parts are few, too
 pub few_last : (a b d limit count : ℕ) → a + b + d ≤ limit → limit ≡ count → count ≤ MAX_REGULAR_SECTOR + 1 → d ≤ 2 ^ 32
 few_last a b d limit count h e r = omega arith
-
--- what was made of the entries, behind a slice, is made of the tree's members
-pub made_of : {X : Type 0} (f : List ℕ → X) (found : X) (seen entries all : List ℕ) → found ≡ f seen → seen ≡ entries → entries ≡ all → found ≡ f all
-made_of f found seen entries all e s m = e ∙ ap f (s ∙ m)
-
-pub both_are : {X Y : Type 0} (a b : X) (d e : Y) → a ≡ b → d ≡ e → ◌≡◌ {A = X × Y} (a, d) (b, e)
-both_are a b d e p q = rw (p, q) refl

@@ -12,9 +12,9 @@ use Rattle.msi_container_format.specs.Names.{name_cmp}
 use Rattle.msi_container_format.specs.Trees.{Tree, members}
 use Rattle.msi_container_format.specs.Container.{kind, name}
 use Rattle.msi_container_format.proofs.NamesLemmas.{names_total, exact_names}
-use Rattle.msi_container_read.specs.Storages.{is_storage_named, storage_named, IsStorageTree, Leads}
+use Rattle.msi_container_tables.specs.Paths.{is_storage_named, storage_named, IsStorageTree, Leads}
 use Rattle.msi_container_read.specs.StorageLists.{LieInTurn, numbered, IsAmong}
-use Rattle.msi_container_read.proofs.plans.ListingLemmas.{Apart}
+use Rattle.msi_container_tables.proofs.parts.ListingLemmas.{Apart}
 use Rattle.msi_container_read.proofs.plans.StorageLemmas.{Onward, storage_tree_once, found_named}
 use Rattle.msi_container_read.proofs.plans.StorageListLemmas.{lying}
 

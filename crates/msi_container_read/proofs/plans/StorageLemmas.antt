@@ -12,9 +12,10 @@ use Rattle.msi_container_format.specs.Format.{MAX_REGULAR_SECTOR}
 use Rattle.msi_container_format.specs.Trees.{Tree, members}
 use Rattle.msi_container_format.specs.Container.{Plan, IsPlan, Holds, fat_of, kind, name, child, IsDirectoryTree, left, right, entry_count, sectors_used, sectors_of_streams, stream_entries}
 use Rattle.msi_container_format.proofs.PlanOnceLemmas.{chain_once, whole_once, tree_once, chains_once, same_plan}
-use Rattle.msi_container_read.specs.Storages.{is_storage_named, storage_named, IsStorageTree, Leads, IsPath, HasDirectory, IsMissing, IsPlanAt, contents_at, HoldsAt}
-use Rattle.msi_container_read.specs.Reading.{AreOfKinds, AreNamed}
-use Rattle.msi_container_read.proofs.plans.PlanPartsLemmas.{below_front, below_back, distinct_back}
+use Rattle.msi_container_tables.specs.Paths.{is_storage_named, storage_named, IsStorageTree, Leads, IsPath}
+use Rattle.msi_container_read.specs.Storages.{HasDirectory, IsMissing, IsPlanAt, contents_at, HoldsAt}
+use Rattle.msi_container_tables.specs.Reading.{AreOfKinds, AreNamed}
+use Rattle.msi_container_tables.proofs.chains.ClaimedLemmas.{below_front, below_back, distinct_back}
 
 -- WHAT LIES IN A STORAGE
 

@@ -3,8 +3,8 @@ use Rattle.std.proofs.Common.{◌≡◌, ℕ, zero, suc, ◌+◌, ◌-◌, ◌<�
 use Rattle.std.specs.Prelude.{IsErr}
 use Rattle.msi_base.specs.declared.errors.ErrorKind.{ErrorKind}
 use Rattle.msi_base.specs.declared.errors.ErrorKind.TheVariants.{OutOfMemory}
-use Rattle.msi_container_read.specs.Outcomes.{ViewIsUnlessMemory}
-use Rattle.msi_container_read.proofs.plans.PassedLemmas.{kind_of}
+use Rattle.msi_container_tables.specs.Outcomes.{ViewIsUnlessMemory}
+use Rattle.msi_container_tables.proofs.parts.PassedLemmas.{kind_of}
 use Rattle.std.specs.List.{flat_map, range_with_len}
 use Rattle.std.proofs.lemmas.Grind.{flat_map-append}
 use Rattle.std.proofs.lemmas.Bool.{cases_lt}
@@ -15,15 +15,15 @@ use Rattle.msi_container_format.specs.Chains.{AreBelow, AreDistinct}
 use Rattle.msi_container_format.specs.Trees.{Tree, members}
 use Rattle.msi_container_format.specs.Container.{HasName, left, right, child, entry_count, kind}
 use Rattle.msi_container_format.proofs.PlanOnceLemmas.{Each}
-use Rattle.msi_container_read.specs.Claims.{CanClaim}
-use Rattle.msi_container_read.specs.Reading.{storages_among}
-use Rattle.msi_container_read.specs.Storages.{IsStorageTree}
+use Rattle.msi_container_tables.specs.Claims.{CanClaim}
+use Rattle.msi_container_tables.specs.Reading.{storages_among}
+use Rattle.msi_container_tables.specs.Paths.{IsStorageTree}
 use Rattle.msi_container_read.specs.StorageLists.{LieInTurn, numbered, homes, homes_from, stream_count, storage_count, storages_of, HasStorages}
 use Rattle.msi_container_read.specs.declared.storages.Storage.{Storage}
-use Rattle.msi_container_read.proofs.plans.ListingLemmas.{filter_each}
-use Rattle.msi_container_read.proofs.plans.PlanPartsLemmas.{distinct_front}
+use Rattle.msi_container_tables.proofs.parts.ListingLemmas.{filter_each}
+use Rattle.msi_container_tables.proofs.chains.ClaimedLemmas.{distinct_front}
 use Rattle.msi_container_read.proofs.plans.StorageLemmas.{storage_tree_once, directory_once}
-use Rattle.msi_container_read.proofs.plans.TreeLemmas.{members_below}
+use Rattle.msi_container_tables.proofs.parts.TreeLemmas.{members_below}
 
 -- one more storage is listed
 pub next_listed : (at : ℕ → Storage) (n : ℕ) (list new : List Storage) (x : Storage)

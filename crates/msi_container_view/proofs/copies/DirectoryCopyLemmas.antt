@@ -5,7 +5,7 @@ use Rattle.msi_container_format.specs.Bytes.{number16}
 use Rattle.msi_container_format.specs.Chains.{AreBelow}
 use Rattle.msi_container_format.specs.Container.{version, sector_size, field, entry_count, kind, left, right, child, start_sector, size, name_size, name, HasName}
 use Rattle.msi_container_format.specs.Names.{is_text}
-use Rattle.msi_container_read.specs.Storages.{storage_clsid}
+use Rattle.msi_container_tables.specs.Paths.{storage_clsid}
 use Rattle.msi_container_view.specs.Copied.{HasHeaderOf, AreCopied}
 use Rattle.msi_container_view.proofs.copies.HeaderCopyLemmas.{Agree, agree_byte, agree_number16, agree_number32, agree_number64, agree_bytes, same_from_fn, same_version, same_size, sector_size_known, header_swapped, swapped}
 use Rattle.msi_container_view.proofs.copies.TableCopyLemmas.{place_agrees}

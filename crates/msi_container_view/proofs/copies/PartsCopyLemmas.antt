@@ -4,9 +4,9 @@ use Rattle.std.specs.Int.{div_ceil}
 use Rattle.std.specs.List.{AllZip, zip, flat_map}
 use Rattle.msi_container_format.specs.Chains.{AreBelow, IsChain}
 use Rattle.msi_container_format.specs.Container.{sector_size, successor, entry_count, size, IsWholeChain, IsDirectory, IsMiniFat, IsMembers, sectors_in, mini_sectors_in, all_sectors, all_mini_sectors}
-use Rattle.msi_container_read.specs.Claims.{CanClaim}
-use Rattle.msi_container_read.specs.Reading.{IsMini, AreChained, mini_limit}
-use Rattle.msi_container_read.proofs.plans.ListingLemmas.{each_rest}
+use Rattle.msi_container_tables.specs.Claims.{CanClaim}
+use Rattle.msi_container_tables.specs.Reading.{IsMini, AreChained, mini_limit}
+use Rattle.msi_container_tables.proofs.parts.ListingLemmas.{each_rest}
 use Rattle.msi_container_view.specs.Copied.{HasHeaderOf, AreCopied}
 use Rattle.msi_container_view.proofs.copies.HeaderCopyLemmas.{same_size, same_directory_start, same_mini_fat_start, header_swapped, swapped}
 use Rattle.msi_container_view.proofs.copies.TableCopyLemmas.{same_successor, chain_along, whole_chain_along}

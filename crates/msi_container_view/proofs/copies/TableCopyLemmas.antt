@@ -7,7 +7,7 @@ use Rattle.std.proofs.Math.Nat.{add_assoc}
 use Rattle.msi_container_format.specs.Bytes.{number16, number32, number64, place}
 use Rattle.msi_container_format.specs.Chains.{IsChain}
 use Rattle.msi_container_format.specs.Container.{sector_size, fat_count, successor, IsWholeChain, listed, next_difat, fat_of}
-use Rattle.msi_container_read.proofs.plans.ListingLemmas.{some_size}
+use Rattle.msi_container_tables.proofs.parts.ListingLemmas.{some_size}
 use Rattle.msi_container_view.specs.Copied.{HasHeaderOf, AreCopied}
 use Rattle.msi_container_view.proofs.copies.HeaderCopyLemmas.{Agree, agree_number16, agree_number32, agree_number64, same_from_fn, header_agrees, same_size, same_fat_count, sector_size_known}
 

@@ -4,9 +4,9 @@ use Rattle.std.specs.List.{list_any}
 use Rattle.msi_container_format.specs.Chains.{AreBelow}
 use Rattle.msi_container_format.specs.Trees.{Tree, Leaf, Node, members, IsSpelled}
 use Rattle.msi_container_format.specs.Container.{entry_count, kind, left, right, child, name, HasName, IsDirectoryTree, streams_among, has_storage}
-use Rattle.msi_container_read.specs.Reading.{IsNamelessListing, storages_among, AreNamed, HaveNamesApart}
-use Rattle.msi_container_read.proofs.plans.ListingLemmas.{each_rest}
-use Rattle.msi_container_read.proofs.plans.TreeLemmas.{members_below as spelled_below}
+use Rattle.msi_container_tables.specs.Reading.{IsNamelessListing, storages_among, AreNamed, HaveNamesApart}
+use Rattle.msi_container_tables.proofs.parts.ListingLemmas.{each_rest}
+use Rattle.msi_container_tables.proofs.parts.TreeLemmas.{members_below as spelled_below}
 use Rattle.msi_container_view.specs.Copied.{HasHeaderOf, AreCopied}
 use Rattle.msi_container_view.proofs.copies.HeaderCopyLemmas.{header_swapped, swapped}
 use Rattle.msi_container_view.proofs.copies.DirectoryCopyLemmas.{same_entry_count, entry_in_copy, entries_in_copy, same_kind, same_left, same_right, same_child, same_name, name_of_copy}

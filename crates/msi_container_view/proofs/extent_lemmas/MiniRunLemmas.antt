@@ -4,7 +4,7 @@ use Rattle.std.specs.List.{range_with_len}
 use Rattle.msi_container_format.specs.Bytes.{bytes_at, place}
 use Rattle.msi_container_format.specs.Chains.{AreBelow}
 use Rattle.msi_container_format.specs.Container.{sector_size, mini_sector_byte}
-use Rattle.msi_container_read.proofs.plans.ListLemmas.{from_fn_append}
+use Rattle.msi_container_tables.proofs.parts.ListLemmas.{from_fn_append}
 use Rattle.msi_container_view.proofs.extent_lemmas.SectorRunLemmas.{Follow}
 
 -- a run ends within the mini stream

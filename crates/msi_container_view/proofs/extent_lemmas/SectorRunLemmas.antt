@@ -7,7 +7,7 @@ use Rattle.msi_container_format.specs.Bytes.{bytes_at, place}
 use Rattle.msi_container_format.specs.Container.{sector_size, sector_byte}
 use Rattle.msi_container_read.specs.Runs.{IsRun}
 use Rattle.msi_container_read.proofs.chains.SectorBytesLemmas.{place_within}
-use Rattle.msi_container_read.proofs.plans.ListLemmas.{from_fn_append}
+use Rattle.msi_container_tables.proofs.parts.ListLemmas.{from_fn_append}
 
 -- so many members, from one on, follow the number first
 abbrev pub Follow : (sectors : List ℕ) → (first at run : ℕ) → Type 0

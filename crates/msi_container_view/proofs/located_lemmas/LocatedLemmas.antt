@@ -4,7 +4,7 @@ use Rattle.std.specs.FinMap.{from_entries}
 use Rattle.msi_container_format.specs.Names.{name_cmp}
 use Rattle.msi_container_format.specs.Chains.{AreBelow}
 use Rattle.msi_container_format.specs.Container.{entry_count, sector_size, size, named_bytes}
-use Rattle.msi_container_read.specs.Reading.{HaveNamesApart}
+use Rattle.msi_container_tables.specs.Reading.{HaveNamesApart}
 use Rattle.msi_container_view.specs.Copied.{HasHeaderOf, AreCopied}
 use Rattle.msi_container_view.specs.Extents.{bytes_stored}
 use Rattle.msi_container_view.specs.Views.{Located, streams_in}

@@ -11,9 +11,9 @@ use Rattle.std.proofs.lemmas.Map.Steps.{length-le_from_distinct_below}
 use Rattle.msi_container_format.specs.Chains.{AreBelow, AreDistinct, IsChain}
 use Rattle.msi_container_format.specs.Format.{MAX_REGULAR_SECTOR}
 use Rattle.msi_container_format.specs.Container.{entry_count, size, sector_size, start_sector, successor, is_mini, IsMembers, sectors_in, all_sectors}
-use Rattle.msi_container_read.specs.Reading.{AreChained, IsCovered}
-use Rattle.msi_container_read.proofs.plans.ListingLemmas.{covered, some_size}
-use Rattle.msi_container_read.proofs.plans.PlanPartsLemmas.{below_front, below_back, distinct_front, distinct_back}
+use Rattle.msi_container_tables.specs.Reading.{AreChained, IsCovered}
+use Rattle.msi_container_tables.proofs.parts.ListingLemmas.{covered, some_size}
+use Rattle.msi_container_tables.proofs.chains.ClaimedLemmas.{below_front, below_back, distinct_front, distinct_back}
 use Rattle.msi_container_view.specs.Copied.{HasHeaderOf, AreCopied}
 use Rattle.msi_container_view.proofs.copies.DirectoryCopyLemmas.{same_entry_count}
 use Rattle.msi_container_view.proofs.copies.PartsCopyLemmas.{chained_of_copy, chained_in_copy}

@@ -9,8 +9,8 @@ use Rattle.msi_container_format.specs.Chains.{AreBelow}
 use Rattle.msi_container_format.specs.Container.{entry_count, name, size, HasName, named_bytes}
 use Rattle.msi_container_format.proofs.NamesLemmas.{from_entries_push_new}
 use Rattle.msi_container_format.proofs.PlanOnceLemmas.{Each}
-use Rattle.msi_container_read.proofs.entry_names.OwnNameLemmas.{AreOwn}
-use Rattle.msi_container_read.proofs.plans.ListingLemmas.{each_rest}
+use Rattle.msi_container_tables.proofs.entry_names.OwnNameLemmas.{AreOwn}
+use Rattle.msi_container_tables.proofs.parts.ListingLemmas.{each_rest}
 use Rattle.msi_container_view.specs.Copied.{HasHeaderOf, AreCopied}
 use Rattle.msi_container_view.specs.Extents.{bytes_stored}
 use Rattle.msi_container_view.proofs.copies.DirectoryCopyLemmas.{same_entry_size, same_name, name_of_copy}

@@ -2,9 +2,9 @@
 use Rattle.std.proofs.Common.{◌≡◌, ℕ, ◌<◌, Bool, List, [], length, Option, Some, sym, ◌∙◌, arith, refl}
 use Rattle.msi_container_format.specs.Trees.{Tree, members}
 use Rattle.msi_container_format.specs.Container.{entry_count, kind, has_storage, streams_among}
-use Rattle.msi_container_read.specs.Reading.{IsNamelessListing, storages_among}
-use Rattle.msi_container_read.specs.Storages.{IsPath}
-use Rattle.msi_container_read.proofs.plans.ListingLemmas.{some_entries}
+use Rattle.msi_container_tables.specs.Reading.{IsNamelessListing, storages_among}
+use Rattle.msi_container_tables.specs.Paths.{IsPath}
+use Rattle.msi_container_tables.proofs.parts.ListingLemmas.{some_entries}
 use Rattle.msi_container_view.specs.Copied.{HasHeaderOf, AreCopied}
 use Rattle.msi_container_view.proofs.copies.DirectoryCopyLemmas.{same_kind}
 use Rattle.msi_container_view.proofs.copies.TreeCopyLemmas.{members_below, listing_of_copy, listing_in_copy, same_storages, same_streams, same_has_storage}

@@ -3,8 +3,8 @@ use Rattle.std.proofs.Common.{◌≡◌, ℕ, ◌+◌, ◌*◌, ◌/◌, ◌<◌
 use Rattle.msi_container_format.specs.Chains.{AreBelow}
 use Rattle.msi_container_format.specs.Format.{MAX_REGULAR_SECTOR}
 use Rattle.msi_container_format.specs.Container.{sector_size, entry_count}
-use Rattle.msi_container_read.specs.Storages.{storage_clsid}
-use Rattle.msi_container_read.proofs.plans.ListingLemmas.{some_entries}
+use Rattle.msi_container_tables.specs.Paths.{storage_clsid}
+use Rattle.msi_container_tables.proofs.parts.ListingLemmas.{some_entries}
 use Rattle.msi_container_view.specs.Copied.{HasHeaderOf, AreCopied}
 use Rattle.msi_container_view.specs.Reading.{Tells}
 use Rattle.msi_container_view.specs.Tables.{TablesRead, IsCopy, ReadsOn}

@@ -3,7 +3,7 @@ use Rattle.std.proofs.Common.{◌≡◌, Bool, List, ℕ, Option, Result, Ok, Er
 use Rattle.std.specs.Prelude.{IsErrAnd}
 use Rattle.msi_base.specs.declared.errors.ErrorKind.{ErrorKind}
 use Rattle.msi_base.specs.declared.errors.ErrorKind.TheVariants.{AlreadyExists, InvalidData, InvalidInput, NotFound, Io, OutOfMemory}
-use Rattle.msi_container_read.proofs.plans.PassedLemmas.{kind_of}
+use Rattle.msi_container_tables.proofs.parts.PassedLemmas.{kind_of}
 use Rattle.msi_container_device.specs.Held.{Held, bytes_told}
 use Rattle.msi_container_view.specs.Reading.{Tells, Answers}
 

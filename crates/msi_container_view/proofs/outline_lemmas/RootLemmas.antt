@@ -9,9 +9,10 @@ use Rattle.msi_container_format.specs.Names.{name_cmp}
 use Rattle.msi_container_format.specs.Trees.{Tree, members}
 use Rattle.msi_container_format.specs.Container.{Plan, IsPlan, Holds, IsSector, IsMiniFat, fat_of, clsid, kind, left, right, entry_count, sector_size, has_storage, streams_among, named_bytes, contents_of}
 use Rattle.msi_container_format.proofs.PlanOnceLemmas.{chain_once, whole_once, tree_once}
-use Rattle.msi_container_read.specs.Reading.{IsStart, IsNamelessListing, IsMini, AreChained, HaveNamesApart, storages_among}
-use Rattle.msi_container_read.specs.Storages.{IsPath, storage_clsid}
-use Rattle.msi_container_read.proofs.plans.PlanPartsLemmas.{Limits, below_front, below_back, start_of, plan_of}
+use Rattle.msi_container_tables.specs.Reading.{IsStart, IsNamelessListing, IsMini, AreChained, HaveNamesApart, storages_among}
+use Rattle.msi_container_tables.specs.Paths.{IsPath, storage_clsid}
+use Rattle.msi_container_read.proofs.plans.PlanPartsLemmas.{Limits, start_of, plan_of}
+use Rattle.msi_container_tables.proofs.chains.ClaimedLemmas.{below_front, below_back}
 use Rattle.msi_container_read.proofs.plans.OutlineLemmas.{IsStarted, started, listing_seen, mini_seen, chained_seen, found_plan}
 use Rattle.msi_container_read.proofs.plans.StorageLemmas.{at_root, of_root}
 use Rattle.msi_container_read.proofs.entry_names.SharedNamesLemmas.{plan_names}

@@ -2,9 +2,9 @@
 use Rattle.std.proofs.Common.{◌≡◌, ℕ, ◌+◌, ◌*◌, ◌≤◌, List, [], ◌++◌, length, ◌∙◌, sym, ap, arith, Vec, Global, vec_len}
 use Rattle.msi_container_format.specs.Container.{sector_size, fat_of, IsDifat, IsDirectory}
 use Rattle.msi_container_format.proofs.PlanOnceLemmas.{chain_once}
-use Rattle.msi_container_read.specs.Claims.{CanClaim}
-use Rattle.msi_container_read.specs.Reading.{IsStart}
-use Rattle.msi_container_read.proofs.plans.PlanPartsLemmas.{claim_front, claim_back}
+use Rattle.msi_container_tables.specs.Claims.{CanClaim}
+use Rattle.msi_container_tables.specs.Reading.{IsStart}
+use Rattle.msi_container_tables.proofs.chains.ClaimedLemmas.{claim_front, claim_back}
 use Rattle.msi_container_view.specs.Tables.{TablesRead, IsCopy, ReadsOn}
 use Rattle.msi_container_view.proofs.table_lemmas.StandLemmas.{size_read_on}
 

@@ -5,9 +5,9 @@ use Rattle.std.proofs.Math.Nat.{mul-le-mul_right}
 use Rattle.std.proofs.lemmas.Bool.{cases_eq}
 use Rattle.std.proofs.lemmas.List.{append_assoc}
 use Rattle.msi_container_format.specs.Container.{sector_size, fat_count, difat_start, next_difat, IsDifat}
-use Rattle.msi_container_read.specs.Claims.{CanClaim, IsFree}
-use Rattle.msi_container_read.specs.Walks.{follower}
-use Rattle.msi_container_read.proofs.chains.ChainLemmas.{follower_nil, follower_more, next_is, free_at}
+use Rattle.msi_container_tables.specs.Claims.{CanClaim, IsFree}
+use Rattle.msi_container_tables.specs.Walks.{follower}
+use Rattle.msi_container_tables.proofs.chains.ChainLemmas.{follower_nil, follower_more, next_is, free_at}
 use Rattle.msi_container_view.specs.Copied.{HasHeaderOf, AreCopied}
 use Rattle.msi_container_view.specs.Reading.{Tells}
 use Rattle.msi_container_view.specs.Tables.{TablesRead, IsCopy, ReadsOn, StandAt}

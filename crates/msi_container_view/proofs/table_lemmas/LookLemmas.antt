@@ -3,7 +3,7 @@ use Rattle.std.proofs.Common.{◌≡◌, ℕ, ◌-◌, ◌*◌, ◌/◌, ◌≤�
 use Rattle.std.specs.Int.{div_ceil}
 use Rattle.std.proofs.Math.Nat.{mul-le-mul_right}
 use Rattle.msi_container_format.specs.Container.{sector_size, fat_count, fat_of, entry_count, IsDirectory}
-use Rattle.msi_container_read.specs.Reading.{IsMini}
+use Rattle.msi_container_tables.specs.Reading.{IsMini}
 use Rattle.msi_container_view.specs.Reading.{Tells}
 use Rattle.msi_container_view.specs.Tables.{TablesRead, IsCopy, StandAt}
 use Rattle.msi_container_view.proofs.table_lemmas.StandLemmas.{least_size}

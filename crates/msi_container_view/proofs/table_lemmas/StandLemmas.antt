@@ -6,7 +6,7 @@ use Rattle.std.proofs.lemmas.List.{length_push}
 use Rattle.std.proofs.lemmas.List.FromFn.{length-range_with_len, get_or-range_with_len}
 use Rattle.msi_container_device.specs.Held.{Held, bytes_told}
 use Rattle.msi_container_format.specs.Container.{sector_size}
-use Rattle.msi_container_read.proofs.chains.ClaimLemmas.{push_cases}
+use Rattle.msi_container_tables.proofs.chains.ClaimLemmas.{push_cases}
 use Rattle.msi_container_view.specs.Reading.{IsAppended}
 use Rattle.msi_container_view.specs.Tables.{TablesRead, IsCopy, ReadsOn, StandAt}
 use Rattle.msi_container_view.proofs.copies.HeaderCopyLemmas.{same_size, sector_size_known}

@@ -4,7 +4,7 @@ use Rattle.msi_container_format.specs.Container.{contents_of, stream_entries, Is
 use Rattle.msi_container_format.specs.Trees.{members}
 use Rattle.msi_container_format.proofs.PlanOnceLemmas.{held_once}
 use Rattle.msi_container_read.specs.Listings.{listing_of, sizes_of}
-use Rattle.msi_container_read.specs.Reading.{HaveNamesApart, storages_among}
+use Rattle.msi_container_tables.specs.Reading.{HaveNamesApart, storages_among}
 use Rattle.msi_container_read.proofs.entry_names.NamedSizesLemmas.{plan_sizes}
 use Rattle.msi_container_read.proofs.plans.PlanPartsLemmas.{memory_left}
 use Rattle.msi_container_read.proofs.entry_names.SharedNamesLemmas.{plan_names}

@@ -5,10 +5,10 @@ use Rattle.std.proofs.lemmas.List.{take_all}
 use Rattle.std.proofs.lemmas.Result.{IfOk-from_err, err_from_is_err_and}
 use Rattle.msi_container_format.specs.Names.{name_cmp}
 use Rattle.msi_container_format.specs.Container.{name, size}
-use Rattle.msi_container_read.proofs.entry_names.MapNamesLemmas.{begun_none, begun_more, begun_all, taken_clash, held_clash}
+use Rattle.msi_container_tables.proofs.entry_names.MapNamesLemmas.{begun_none, begun_more, begun_all, taken_clash, held_clash}
 use Rattle.msi_container_read.proofs.entry_names.NamedSizesLemmas.{length-named_sizes, from_named_sizes_more}
 use Rattle.msi_container_read.proofs.entry_names.SharedNamesLemmas.{refused}
-use Rattle.msi_container_read.proofs.plans.PassedLemmas.{kind_passed, kind_of}
+use Rattle.msi_container_tables.proofs.parts.PassedLemmas.{kind_passed, kind_of}
 use Rattle.msi_container_read.proofs.listing.sizes_of.Goals as goal
 
 pub loop-entry-init : goal.loop-entry-init

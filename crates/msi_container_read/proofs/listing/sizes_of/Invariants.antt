@@ -3,7 +3,7 @@ use Rattle.std.specs.BTreeSet.{contains}
 use Rattle.std.specs.FinMap.{from_entries, contains_key}
 use Rattle.msi_container_format.specs.Names.{name_cmp}
 use Rattle.msi_container_read.specs.Listings.{named_sizes}
-use Rattle.msi_container_read.proofs.entry_names.MapNamesLemmas.{Begun}
+use Rattle.msi_container_tables.proofs.entry_names.MapNamesLemmas.{Begun}
 use Rattle.msi_container_read.proofs.listing.sizes_of.Given as goal
 
 abbrev pub invariant-loop-entry : goal.invariant-loop-entry

@@ -1,5 +1,5 @@
 use Rattle.std.proofs.Common.{sym, ◌∙◌}
-use Rattle.msi_container_read.proofs.entry_names.MapNamesLemmas.{was_there, was_absent}
+use Rattle.msi_container_tables.proofs.entry_names.MapNamesLemmas.{was_there, was_absent}
 use Rattle.msi_container_read.proofs.names.insert_stream.Goals as goal
 
 pub returns-then-len-before-clause-invalid : goal.returns-then-len-before-clause-invalid

@@ -2,12 +2,12 @@ use Rattle.std.proofs.Common.{◌≡◌, ℕ, List, ◌∙◌, ap, arith, refl}
 use Rattle.std.proofs.lemmas.Result.{err_from_is_err_and}
 use Rattle.msi_container_format.specs.Container.{stream_entries}
 use Rattle.msi_container_format.specs.Trees.{members}
-use Rattle.msi_container_read.specs.Reading.{HaveNamesApart, storages_among}
+use Rattle.msi_container_tables.specs.Reading.{HaveNamesApart, storages_among}
 use Rattle.msi_container_read.specs.Steps.{steps_of}
 use Rattle.msi_container_read.specs.Storages.{IsPlanAt}
 use Rattle.msi_container_read.proofs.plans.KeptBytesLemmas.{kept}
 use Rattle.msi_container_read.proofs.plans.PlanPartsLemmas.{memory_left}
-use Rattle.msi_container_read.proofs.plans.PassedLemmas.{kind_passed_along, missing_passed, not_found_passed}
+use Rattle.msi_container_tables.proofs.parts.PassedLemmas.{kind_passed_along, missing_passed, not_found_passed}
 use Rattle.msi_container_read.proofs.plans.StorageLemmas.{held_at_once, plan_at_once}
 use Rattle.msi_container_read.proofs.entry_names.SharedNamesLemmas.{plan_at_names}
 use Rattle.msi_container_read.proofs.chains.StepLemmas.{within_from_none}

@@ -1,7 +1,8 @@
 use Rattle.std.proofs.Common.{subst}
 use Rattle.std.proofs.lemmas.Option.{same_Some}
 use Rattle.std.proofs.lemmas.Result.{IfOk-weaker}
-use Rattle.msi_container_read.specs.Reading.{IsOutline, views}
+use Rattle.msi_container_read.specs.Outlines.{IsOutline}
+use Rattle.msi_container_tables.specs.Reading.{views}
 use Rattle.msi_container_read.proofs.plans.StorageLemmas.{at_root, of_root}
 use Rattle.msi_container_read.proofs.reading.read_outline.Goals as goal
 

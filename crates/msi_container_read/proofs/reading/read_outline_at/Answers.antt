@@ -1,13 +1,15 @@
 use Rattle.std.proofs.Common.{◌≡◌, ℕ, List, vec_len, sym, ◌∙◌, ap, refl, inr}
 use Rattle.std.proofs.lemmas.Result.{IfOk-from_err, err_from_is_err_and}
 use Rattle.msi_base.specs.declared.errors.ErrorKind.TheVariants.{OutOfMemory}
-use Rattle.msi_container_read.specs.Reading.{views}
-use Rattle.msi_container_read.proofs.plans.ListingLemmas.{some_size, covered}
-use Rattle.msi_container_read.proofs.plans.PlanPartsLemmas.{plan_of, start_of, memory_left, few_claimed}
-use Rattle.msi_container_read.proofs.plans.OutlineLemmas.{grown, grown_twice, steps_twice, few_of, regular_of, room_of, started_late}
+use Rattle.msi_container_tables.specs.Reading.{views}
+use Rattle.msi_container_tables.proofs.parts.ListingLemmas.{some_size, covered}
+use Rattle.msi_container_read.proofs.plans.PlanPartsLemmas.{plan_of, start_of, memory_left}
+use Rattle.msi_container_tables.proofs.chains.ClaimedLemmas.{few_claimed}
+use Rattle.msi_container_tables.proofs.chains.RoomLemmas.{grown, grown_twice, steps_twice}
+use Rattle.msi_container_read.proofs.plans.OutlineLemmas.{few_of, regular_of, room_of, started_late}
 use Rattle.msi_container_read.proofs.plans.OutlineLemmas.{limits_are, entries_seen, started, path_seen, missing_seen, missing_found, listing_seen, mini_seen, chained_seen, sorted_seen}
 use Rattle.msi_container_read.proofs.plans.OutlineLemmas.{found_plan, found_outline, found_steps, below_seen, within_claims, within_all}
-use Rattle.msi_container_read.proofs.plans.PassedLemmas.{kind_passed_along, missing_passed, not_found_passed, memory_viewed}
+use Rattle.msi_container_tables.proofs.parts.PassedLemmas.{kind_passed_along, missing_passed, not_found_passed, memory_viewed}
 use Rattle.msi_container_read.proofs.reading.read_outline_at.Goals as goal
 
 -- MEMORY IS REFUSED

@@ -1,11 +1,11 @@
 use Rattle.std.proofs.Common.{arith, ◌≡◌, ℕ, List, [], ◌++◌, length, vec_len, ◌∙◌, sym, ap, refl, length-append}
 use Rattle.std.proofs.lemmas.Result.{IfOk-from_err, err_from_is_err_and}
-use Rattle.msi_container_read.specs.Claims.{CanClaim}
+use Rattle.msi_container_tables.specs.Claims.{CanClaim}
 use Rattle.msi_container_format.specs.Container.{IsWholeChain, successor, fat_of}
-use Rattle.msi_container_read.specs.Reading.{IsStart}
-use Rattle.msi_container_read.proofs.plans.PlanPartsLemmas.{claim_front, claim_back, claimed_room, few_claimed}
-use Rattle.msi_container_read.proofs.chains.RoomLemmas.{bounded_from_none, unmoved_from_none}
-use Rattle.msi_container_read.proofs.plans.PassedLemmas.{kind_passed}
+use Rattle.msi_container_tables.specs.Reading.{IsStart}
+use Rattle.msi_container_tables.proofs.chains.ClaimedLemmas.{claim_front, claim_back, claimed_room, few_claimed}
+use Rattle.msi_container_tables.proofs.chains.RoomLemmas.{bounded_from_none, unmoved_from_none}
+use Rattle.msi_container_tables.proofs.parts.PassedLemmas.{kind_passed}
 use Rattle.msi_container_read.proofs.reading.read_start.Goals as goal
 
 -- what each part of a start can claim

@@ -4,7 +4,8 @@ use Rattle.std.proofs.lemmas.Result.{err_from_is_err_and}
 use Rattle.msi_container_format.specs.Chains.{AreDistinct}
 use Rattle.msi_container_format.specs.Container.{entry_count}
 use Rattle.msi_container_read.specs.StorageLists.{AreAllStorages}
-use Rattle.msi_container_read.proofs.plans.PlanPartsLemmas.{memory_left, few_claimed}
+use Rattle.msi_container_read.proofs.plans.PlanPartsLemmas.{memory_left}
+use Rattle.msi_container_tables.proofs.chains.ClaimedLemmas.{few_claimed}
 use Rattle.msi_container_read.proofs.plans.StorageListLemmas.{below_root, looked_none, looked_few, looked_more, looked_next, looked_all, looked_only, looked_long, looked_named}
 use Rattle.msi_container_read.proofs.storages.find_all.Goals as goal
 

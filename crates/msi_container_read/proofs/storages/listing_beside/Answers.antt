@@ -1,7 +1,7 @@
 use Rattle.std.proofs.Common.{subst}
 use Rattle.msi_container_format.specs.Chains.{AreBelow, AreDistinct}
 use Rattle.msi_container_format.specs.Container.{left, right, entry_count}
-use Rattle.msi_container_read.proofs.plans.TreeLemmas.{members_below}
+use Rattle.msi_container_tables.proofs.parts.TreeLemmas.{members_below}
 use Rattle.msi_container_read.proofs.plans.StorageLemmas.{lies_in}
 use Rattle.msi_container_read.proofs.storages.listing_beside.Goals as goal
 

@@ -3,10 +3,10 @@ use Rattle.std.proofs.lemmas.Grind.{get_or_default_zero}
 use Rattle.msi_container_format.specs.Chains.{AreBelow}
 use Rattle.msi_container_format.specs.Trees.{members}
 use Rattle.msi_container_format.specs.Container.{entry_count, streams_among}
-use Rattle.msi_container_read.specs.Reading.{storages_among}
-use Rattle.msi_container_read.specs.Storages.{IsStorageTree}
+use Rattle.msi_container_tables.specs.Reading.{storages_among}
+use Rattle.msi_container_tables.specs.Paths.{IsStorageTree}
 use Rattle.msi_container_read.specs.StorageLists.{stream_count}
-use Rattle.msi_container_read.proofs.plans.PlanPartsLemmas.{below_both}
+use Rattle.msi_container_tables.proofs.chains.ClaimedLemmas.{below_both}
 use Rattle.msi_container_read.proofs.storages.look_into.Goals as goal
 
 pub returns-clause-ok : goal.returns-clause-ok

@@ -2,7 +2,7 @@ use Rattle.std.proofs.Common.{ℕ, List}
 use Rattle.msi_container_format.specs.Container.{fat_of}
 use Rattle.msi_container_read.proofs.plans.PlanPartsLemmas.{start_of_directory}
 use Rattle.msi_container_read.proofs.plans.OutlineLemmas.{limits_are}
-use Rattle.msi_container_read.proofs.plans.PassedLemmas.{view_weaker}
+use Rattle.msi_container_tables.proofs.parts.PassedLemmas.{view_weaker}
 use Rattle.msi_container_read.proofs.storages.read_directory.Goals as goal
 
 pub returns-clause-only : goal.returns-clause-only

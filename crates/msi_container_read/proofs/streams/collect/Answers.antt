@@ -8,12 +8,12 @@ use Rattle.std.proofs.lemmas.Result.{IfOk-from_err, err_from_is_err_and}
 use Rattle.std.proofs.lemmas.Slice.Zip.{zip_turn, zip_end, AllZip-long}
 use Rattle.msi_container_format.specs.Names.{name_cmp}
 use Rattle.msi_container_format.specs.Container.{name, stream_bytes, HasName}
-use Rattle.msi_container_read.specs.Reading.{views}
-use Rattle.msi_container_read.proofs.plans.ListLemmas.{paired_at, below_at}
-use Rattle.msi_container_read.proofs.entry_names.MapNamesLemmas.{begun_none, begun_more, begun_all, taken_clash, held_clash}
+use Rattle.msi_container_tables.specs.Reading.{views}
+use Rattle.msi_container_tables.proofs.parts.ListLemmas.{paired_at, below_at}
+use Rattle.msi_container_tables.proofs.entry_names.MapNamesLemmas.{begun_none, begun_more, begun_all, taken_clash, held_clash}
 use Rattle.msi_container_read.proofs.entry_names.SharedNamesLemmas.{refused}
 use Rattle.msi_container_read.proofs.entry_names.NamedBytesLemmas.{length-named_bytes, from_named_bytes_more}
-use Rattle.msi_container_read.proofs.plans.PassedLemmas.{kind_passed, memory_is_valid, kind_of}
+use Rattle.msi_container_tables.proofs.parts.PassedLemmas.{kind_passed, memory_is_valid, kind_of}
 use Rattle.msi_container_read.proofs.streams.collect.Goals as goal
 
 -- what a vector holds

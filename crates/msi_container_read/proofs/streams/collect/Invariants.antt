@@ -3,8 +3,8 @@ use Rattle.std.specs.BTreeSet.{contains}
 use Rattle.std.specs.FinMap.{from_entries, contains_key}
 use Rattle.msi_container_format.specs.Names.{name_cmp}
 use Rattle.msi_container_format.specs.Container.{named_bytes}
-use Rattle.msi_container_read.specs.Reading.{views}
-use Rattle.msi_container_read.proofs.entry_names.MapNamesLemmas.{Begun}
+use Rattle.msi_container_tables.specs.Reading.{views}
+use Rattle.msi_container_tables.proofs.entry_names.MapNamesLemmas.{Begun}
 use Rattle.msi_container_read.proofs.streams.collect.Given as goal
 
 abbrev pub invariant-loop-entry : goal.invariant-loop-entry

@@ -1,6 +1,6 @@
 use Rattle.std.proofs.Common.{◌∙◌}
 use Rattle.std.proofs.lemmas.Result.{IfOk-weaker}
-use Rattle.msi_container_read.specs.Reading.{views}
+use Rattle.msi_container_tables.specs.Reading.{views}
 use Rattle.msi_container_view.proofs.located_lemmas.MembersLemmas.{chains_found, chains_in_copy, chains_covered, chains_few}
 use Rattle.msi_container_view.proofs.listing.look_chains.Goals as goal
 

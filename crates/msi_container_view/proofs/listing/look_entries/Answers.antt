@@ -1,6 +1,6 @@
 use Rattle.std.proofs.Common.{◌∙◌, arith}
 use Rattle.std.proofs.lemmas.Result.{IfOk-weaker}
-use Rattle.msi_container_read.proofs.plans.ListingLemmas.{gives_not_invalid}
+use Rattle.msi_container_tables.proofs.parts.ListingLemmas.{gives_not_invalid}
 use Rattle.msi_container_view.proofs.located_lemmas.RootLemmas.{root_is, root_found, listing_in_root}
 use Rattle.msi_container_view.proofs.listing.look_entries.Goals as goal
 

@@ -1,6 +1,6 @@
 use Rattle.std.proofs.Common.{◌∙◌}
-use Rattle.msi_container_read.specs.Reading.{views}
-use Rattle.msi_container_read.proofs.plans.ListingLemmas.{if_ok_map3}
+use Rattle.msi_container_tables.specs.Reading.{views}
+use Rattle.msi_container_tables.proofs.parts.ListingLemmas.{if_ok_map3}
 use Rattle.msi_container_view.proofs.located_lemmas.LocatedLemmas.{names_found, names_in_copy, streams_found}
 use Rattle.msi_container_view.proofs.located.locate.Goals as goal
 

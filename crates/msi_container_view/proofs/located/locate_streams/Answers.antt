@@ -8,9 +8,9 @@ use Rattle.std.proofs.lemmas.Result.{err_from_is_err_and}
 use Rattle.std.proofs.lemmas.Slice.Zip.{zip_turn, zip_end, AllZip-long}
 use Rattle.msi_container_format.specs.Names.{name_cmp}
 use Rattle.msi_container_format.specs.Container.{name, size, HasName}
-use Rattle.msi_container_read.specs.Reading.{views}
-use Rattle.msi_container_read.proofs.plans.ListLemmas.{paired_at, below_at}
-use Rattle.msi_container_read.proofs.entry_names.MapNamesLemmas.{begun_none, begun_more, begun_all, taken_clash, held_clash}
+use Rattle.msi_container_tables.specs.Reading.{views}
+use Rattle.msi_container_tables.proofs.parts.ListLemmas.{paired_at, below_at}
+use Rattle.msi_container_tables.proofs.entry_names.MapNamesLemmas.{begun_none, begun_more, begun_all, taken_clash, held_clash}
 use Rattle.msi_container_read.proofs.entry_names.SharedNamesLemmas.{refused}
 use Rattle.msi_container_view.specs.Extents.{Extent, bytes_of, bytes_stored}
 use Rattle.msi_container_view.proofs.located_lemmas.MappedLemmas.{mapped_none, mapped_insert}

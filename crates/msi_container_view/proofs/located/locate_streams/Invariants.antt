@@ -3,8 +3,8 @@ use Rattle.std.specs.BTreeSet.{contains}
 use Rattle.std.specs.FinMap.{from_entries, contains_key}
 use Rattle.msi_container_format.specs.Names.{name_cmp}
 use Rattle.msi_container_format.specs.Container.{sector_size, size}
-use Rattle.msi_container_read.specs.Reading.{views}
-use Rattle.msi_container_read.proofs.entry_names.MapNamesLemmas.{Begun}
+use Rattle.msi_container_tables.specs.Reading.{views}
+use Rattle.msi_container_tables.proofs.entry_names.MapNamesLemmas.{Begun}
 use Rattle.msi_container_view.specs.Extents.{bytes_stored}
 use Rattle.msi_container_view.specs.Views.{streams_in}
 use Rattle.msi_container_view.proofs.located_lemmas.NamedLemmas.{named}

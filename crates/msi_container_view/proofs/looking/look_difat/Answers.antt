@@ -1,11 +1,11 @@
 use Rattle.std.proofs.Common.{rules, ◌≡◌, ◌+◌, ◌<◌, ◌≤◌, vec_len, Some, Err, arith, ap, sym, ◌∙◌}
 use Rattle.std.proofs.lemmas.List.{length_push}
 use Rattle.msi_container_format.specs.Container.{next_difat, difat_start}
-use Rattle.msi_container_read.specs.Walks.{follower}
-use Rattle.msi_container_read.proofs.chains.ChainLemmas.{chain_push, same_push}
-use Rattle.msi_container_read.proofs.chains.ChainStepLemmas.{used_more, used_one_more}
-use Rattle.msi_container_read.proofs.chains.FatLemmas.{difat_count_is}
-use Rattle.msi_container_read.proofs.plans.PlanPartsLemmas.{few_claimed}
+use Rattle.msi_container_tables.specs.Walks.{follower}
+use Rattle.msi_container_tables.proofs.chains.ChainLemmas.{chain_push, same_push}
+use Rattle.msi_container_tables.proofs.chains.ChainStepLemmas.{used_more, used_one_more}
+use Rattle.msi_container_tables.proofs.chains.FatLemmas.{difat_count_is}
+use Rattle.msi_container_tables.proofs.chains.ClaimedLemmas.{few_claimed}
 use Rattle.msi_container_view.proofs.table_lemmas.AnswerLemmas.{broken_or_refused}
 use Rattle.msi_container_view.proofs.table_lemmas.StandLemmas.{copy_read_on, reads_further}
 use Rattle.msi_container_view.proofs.table_lemmas.DifatLemmas.{difat_count, count_told, count_kept, follows_told, next_free, claimed_more, room_on, one_more_stands}

@@ -1,7 +1,7 @@
 use Rattle.std.proofs.Common.{◌≡◌, List, ℕ, ◌++◌, length, take, vec_len}
 use Rattle.msi_container_format.specs.Chains.{IsChain}
 use Rattle.msi_container_format.specs.Container.{next_difat, difat_start, IsDifat}
-use Rattle.msi_container_read.specs.Claims.{CanClaim}
+use Rattle.msi_container_tables.specs.Claims.{CanClaim}
 use Rattle.msi_container_view.specs.Reading.{Tells}
 use Rattle.msi_container_view.specs.Tables.{ReadsOn, StandAt}
 use Rattle.msi_container_view.proofs.looking.look_difat.Given as goal

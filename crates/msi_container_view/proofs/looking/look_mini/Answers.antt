@@ -1,5 +1,5 @@
 use Rattle.std.proofs.Common.{◌<◌, length, vec_len, arith, ◌∙◌}
-use Rattle.msi_container_read.specs.Reading.{IsMini}
+use Rattle.msi_container_tables.specs.Reading.{IsMini}
 use Rattle.msi_container_view.proofs.table_lemmas.AnswerLemmas.{broken_or_refused, not_memory}
 use Rattle.msi_container_view.proofs.table_lemmas.LookLemmas.{mini_is, mini_was}
 use Rattle.msi_container_view.proofs.looking.look_mini.Goals as goal

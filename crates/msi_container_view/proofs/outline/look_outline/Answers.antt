@@ -1,5 +1,5 @@
 use Rattle.std.proofs.Common.{Err, vec_len, ap, arith, ◌∙◌, refl}
-use Rattle.msi_container_read.proofs.plans.PlanPartsLemmas.{few_claimed}
+use Rattle.msi_container_tables.proofs.chains.ClaimedLemmas.{few_claimed}
 use Rattle.msi_container_view.specs.Copied.{HasHeaderOf, AreCopied}
 use Rattle.msi_container_view.specs.Reading.{Tells}
 use Rattle.msi_container_view.proofs.table_lemmas.AnswerLemmas.{broken_or_refused}

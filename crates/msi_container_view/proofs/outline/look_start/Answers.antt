@@ -1,6 +1,6 @@
 use Rattle.std.proofs.Common.{◌++◌, [], sym, arith, ◌∙◌, refl}
-use Rattle.msi_container_read.proofs.chains.ChainStepLemmas.{used_more}
-use Rattle.msi_container_read.proofs.plans.PlanPartsLemmas.{claimed_room}
+use Rattle.msi_container_tables.proofs.chains.ChainStepLemmas.{used_more}
+use Rattle.msi_container_tables.proofs.chains.ClaimedLemmas.{claimed_room}
 use Rattle.msi_container_view.proofs.table_lemmas.StandLemmas.{copy_read_on, reads_further, stand_further, stand_told}
 use Rattle.msi_container_view.proofs.outline_lemmas.PassedAnswers.{answer_passed}
 use Rattle.msi_container_view.proofs.outline_lemmas.StartLemmas.{room_after, none_used, claimed_behind, no_difat, no_fat, no_directory}

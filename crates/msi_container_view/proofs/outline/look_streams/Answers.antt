@@ -1,5 +1,5 @@
 use Rattle.std.proofs.lemmas.Result.{IfOk-weaker}
-use Rattle.msi_container_read.specs.Reading.{views}
+use Rattle.msi_container_tables.specs.Reading.{views}
 use Rattle.msi_container_view.proofs.outline.look_streams.Goals as goal
 
 pub returns-clause-found : goal.returns-clause-found

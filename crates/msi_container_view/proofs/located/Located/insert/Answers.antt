@@ -1,7 +1,7 @@
 use Rattle.std.proofs.Common.{◌∙◌, ap, sym}
 use Rattle.std.specs.FinMap as finite
 use Rattle.msi_container_format.proofs.NamesLemmas.{from_entries_updated, len-from_entries}
-use Rattle.msi_container_read.proofs.entry_names.MapNamesLemmas.{was_there, was_absent}
+use Rattle.msi_container_tables.proofs.entry_names.MapNamesLemmas.{was_there, was_absent}
 use Rattle.msi_container_view.proofs.located.Located.insert.Goals as goal
 
 pub returns-clause-ok : goal.returns-clause-ok

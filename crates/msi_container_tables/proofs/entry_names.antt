@@ -1,0 +1,3 @@
+-- Names of storages and streams.
+pub mod OwnNameLemmas
+pub mod MapNamesLemmas
