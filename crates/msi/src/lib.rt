@@ -32,6 +32,7 @@ pub use msi_base::{CodePage, Error, ErrorKind, IntoText, Items, Reason, Text};
 pub use msi_categories::{Category, LanguageId, Timestamp};
 pub use msi_container_device::{Buffered, Device, Memory, Metered, Seekable, Source};
 pub use msi_container_format::streamname;
+pub use msi_database::Database;
 pub use msi_pool::{
     IndexedPool, Operations, StringPool, StringPoolBuilder, StringRef, pool_streams,
 };

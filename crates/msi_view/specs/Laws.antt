@@ -6,7 +6,7 @@ use Rattle.msi_base.specs.declared.errors.ErrorKind.{ErrorKind}
 use Rattle.msi_container_format.specs.declared.contents.Contents.{Contents}
 use Rattle.msi_container_format.specs.Container.{Holds}
 use Rattle.msi_database.specs.Database.{columns_by_name, values_of}
-use Rattle.msi_database_storage.specs.Kept.{schema_listed}
+use Rattle.msi_database_storage.specs.Kept.{Kept, schema_listed}
 use Rattle.msi_pool.specs.Pool.{Pool}
 use Rattle.msi_query.specs.Queries.{Query}
 use Rattle.msi_query.specs.Selection.{relation_of}
@@ -18,7 +18,7 @@ use Rattle.msi.specs.Meaning.{FailsFirst, OpenStep, OpensTo, Passes, RawPoolIs, 
 use Rattle.msi.specs.Meaning.{has_summary, knows_kind, reads_summary}
 use Rattle.msi.specs.State.{State}
 use Rattle.msi.specs.declared.kinds.PackageType.{PackageType}
-use Rattle.msi_view.specs.Looking.{IsCatalog, database_seen, table_steps}
+use Rattle.msi_view.specs.Looking.{IsCatalog, IsDatabaseSeen, database_seen, table_steps}
 
 -- each part of the contents is that of the opened package
 pub record ShowsPackage (c : Contents) (s : State) : Type 0 where
@@ -32,6 +32,7 @@ pub record ShowsPackage (c : Contents) (s : State) : Type 0 where
   pub rows : (pool : Pool) (tables : List TableDef) → IsCatalog (entries c.streams) pool tables → (query : Query)
       → relation_of (values_of (database_seen (entries c.streams) pool tables)) query
       ≡ relation_of (values_of s.kept.database) query
+  pub database : (d : Kept) → IsDatabaseSeen (entries c.streams) d → d.database ≡ s.kept.database
 
 -- Where a package opens, looking shows the same.
 abbrev pub LooksShowPackages : Type 0

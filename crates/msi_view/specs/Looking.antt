@@ -1,16 +1,17 @@
 -- What a look at a package says of the contents of its file.
-use Rattle.std.specs.Prelude.{◌≡◌, ℕ, Bool, true, List, [], ◌∷◌, ◌++◌, map, sum_by, Option, Some, IfSome, ◌⊎◌}
+use Rattle.std.specs.Prelude.{◌≡◌, ◌-◌, ◌^◌, min, ℕ, Bool, true, List, [], ◌∷◌, ◌++◌, map, sum_by, Option, Some, All, IfSome, ◌⊎◌}
 use Rattle.std.specs.FinMap.{entries}
 use Rattle.msi_base.specs.declared.errors.ErrorKind.{ErrorKind}
 use Rattle.msi_container_view.specs.Reading.{Tells, IsReadRefusal}
 use Rattle.std.specs.Option.{option_map_or}
-use Rattle.msi_container_view.specs.Extents.{size_of}
+use Rattle.msi_container_view.specs.Extents.{Extent, size_of}
 use Rattle.msi_container_view.specs.Views.{View, ReadsMore, contents_in, extents_at, streams_at}
 use Rattle.msi_database_schema.specs.Keys.{table_key, string_pool_name, string_data_name}
 use Rattle.msi_database_schema.specs.System.{tables_name, columns_name, validation_name}
 use Rattle.msi_database.specs.Database.{Database}
+use Rattle.msi_database.specs.Transforming.{database_read}
 use Rattle.msi_database_storage.specs.Agreement.{schema_in}
-use Rattle.msi_database_storage.specs.Kept.{AreAsLong, database_kept, schema_listed}
+use Rattle.msi_database_storage.specs.Kept.{AreAsLong, Kept, database_kept, schema_listed}
 use Rattle.msi_database_storage.specs.Streams.{Streams, stream_at, has_stream_at}
 use Rattle.msi_pool.specs.Pool.{Pool}
 use Rattle.msi_query.specs.Queries.{Query, table, join, product}
@@ -51,6 +52,10 @@ pub record Catalogued : Type 0 where
 abbrev pub size_at : List ℕ → View → ℕ
 size_at name v = option_map_or size_of (extents_at name v.streams) 0
 
+-- how many bytes pieces have, as far as the type of the number tells
+abbrev pub bytes_counted : List Extent → ℕ
+bytes_counted extents = min (size_of extents) (2 ^ 64 - 1)
+
 -- no more bytes were read than these streams have
 abbrev pub ReadsStreams : View → View → List (List ℕ) → Type 0
 ReadsStreams old new names = ReadsMore old new (sum_by (λ name. size_at name old) names)
@@ -73,15 +78,47 @@ AreStreamsOf root loaded = (name : List ℕ) → has_stream_at name loaded ≡ t
 abbrev pub IsLoaded : Streams → Streams → List ℕ → Type 0
 IsLoaded root loaded name = stream_at name loaded ≡ stream_at name root
 
+-- the streams of the system tables were read
+abbrev pub IsSchemaLoaded : Streams → Streams → Type 0
+IsSchemaLoaded root loaded = IsLoaded root loaded (table_key validation_name)
+    × IsLoaded root loaded (table_key tables_name) × IsLoaded root loaded (table_key columns_name)
+
+-- the streams of these tables were read
+abbrev pub AreTablesLoaded : Streams → Streams → List TableDef → Type 0
+AreTablesLoaded root loaded tables = All (λ t. IsLoaded root loaded (table_key t.name)) tables
+
 -- the tables that a query is for
 abbrev pub tables_read : Query → List (List ℕ)
 tables_read (table name clauses) = name ∷ []
 tables_read (join kind l r on clauses) = tables_read l ++ tables_read r
 tables_read (product sides clauses) = map (λ side. side.table) sides
 
+-- THE WHOLE DATABASE
+
+-- the database that all streams of the root describe; of the streams it has those alone that were read
+pub record IsDatabaseSeen (root : Streams) (d : Kept) : Type 0 where
+  pub raw : Pool
+  pub pools : RawPoolIs root raw
+  pub whole : Kept
+  pub read : database_read raw root ≡ Some whole
+  pub database : d.database ≡ whole.database
+  pub streams : AreStreamsOf root d.streams
+
+abbrev pub table_keys : List TableDef → List (List ℕ)
+table_keys tables = map (λ t. table_key t.name) tables
+
+-- No more bytes were read than the streams of the pool, of the system tables and of the tables have; before it is known
+-- which tables there are, none of theirs
+pub record ReadsDatabase (old new : View) : Type 0 where
+  pub tables : List TableDef
+  pub read : ReadsStreams old new (catalog_names ++ table_keys tables)
+  pub described : (tables ≡ []) ⊎ ((file : List ℕ) → Tells old.held file
+      → (pool : Pool) × IsCatalog (root_in file old) pool tables)
+
 -- THE VIEW
 
 -- what was read of the tables before is what they are
 abbrev pub IsLook : View → Option Catalogued → Type 0
 IsLook v catalog = (file : List ℕ) → Tells v.held file
-    → IfSome catalog (λ c. IsCatalog (root_in file v) c.pool c.tables × AreStreamsOf (root_in file v) c.streams)
+    → IfSome catalog (λ c. IsCatalog (root_in file v) c.pool c.tables × AreStreamsOf (root_in file v) c.streams
+    × IsSchemaLoaded (root_in file v) c.streams)

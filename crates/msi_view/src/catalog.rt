@@ -4,17 +4,21 @@ ghost use Rattle.std.specs.Prelude.{◌≡◌, ℕ, List, [], ◌∷◌, Err, If
 ghost use Rattle.std.specs.Prelude.{◌++◌, All, IfSome, map};
 ghost use Rattle.std.specs.FinMap as finite;
 ghost use Rattle.std.specs.FinMap.{entries};
-ghost use Rattle.msi_base.specs.declared.errors.ErrorKind.TheVariants.{NotFound};
+ghost use Rattle.msi_base.specs.declared.errors.ErrorKind.TheVariants.{InvalidData, NotFound};
+ghost use Rattle.msi_base.specs.Refusals.{IsRefusal, or_refused};
 ghost use Rattle.msi_container_view.specs.Reading.{IsReadRefusal, Tells};
 ghost use Rattle.msi_container_view.specs.Views.{streams_at};
 ghost use Rattle.msi_database_schema.specs.Keys.{string_pool_name, table_key as key_of};
+ghost use Rattle.msi_database_storage.specs.Agreement.{schema_in};
+ghost use Rattle.msi_database.specs.Transforming.{database_read};
 ghost use Rattle.msi_pool.specs.Pool.{Pool, PoolStream};
-ghost use Rattle.msi_view.specs.Looking.{AreStreamsOf, IsCatalog, IsLoaded, IsLook, IsPartRefusal};
-ghost use Rattle.msi_view.specs.Looking.{ReadsStreams, tables_read, catalog_names, pool_names, root_in, table_steps};
+ghost use Rattle.msi_view.specs.Looking.{AreStreamsOf, AreTablesLoaded, IsCatalog, IsLoaded, IsLook, IsPartRefusal};
+ghost use Rattle.msi_view.specs.Looking.{IsSchemaLoaded, ReadsDatabase, ReadsStreams, tables_read, catalog_names};
+ghost use Rattle.msi_view.specs.Looking.{pool_names, root_in, table_steps};
 ghost use Rattle.msi.specs.Meaning.{RawPoolIs, has_pool, has_texts, reads_pool, reads_texts};
 ghost use Rattle.msi.specs.Opening.{PoolStreamIs};
 
-use crate::loading::{load_query, load_schema};
+use crate::loading::{load_query, load_schema, load_tables_of};
 use crate::reasons;
 use msi_base::{Error, ErrorKind, Items, Reason};
 use msi_container_device::Seekable;
@@ -22,6 +26,7 @@ use msi_container_format::contents::StreamMap;
 use msi_container_format::name::Name;
 use msi_container_format::parts::{part_of, shared_part};
 use msi_container_view::ContainerView;
+use msi_database::Database;
 use msi_database_schema::names::{string_data_key, string_pool_key};
 use msi_database_storage::listing::table_named;
 use msi_database_storage::{DescribedTables, look_at, table_rows, tables_in};
@@ -65,6 +70,22 @@ impl Model for Catalog {
     ghost view = { λ c. record { pool = c.pool; tables = c.tables; streams = entries c.streams } };
 
     ghost invariant = { λ c. AreAsLong c.pool.long c.tables };
+}
+
+impl Catalog {
+    /// The database of the pool and of the streams that were read.
+    pub(crate) fn into_database(self, alloc: Global) -> Result<Database, Error>
+        ensures read { IfOk result (λ d. database_read self.pool self.streams ≡ Some d) }
+        ensures streams { IfOk result (λ d. d.streams ≡ self.streams) }
+        ensures kind { IfErr result (IsRefusal (or_refused InvalidData (schema_in self.streams self.pool))) }
+    {
+        let Catalog {
+            pool,
+            tables: _,
+            streams,
+        } = self;
+        Database::read(alloc, pool, streams)
+    }
 }
 
 /// The bytes of the stream of a name. Fails with `NotFound` without one.
@@ -131,7 +152,8 @@ pub(crate) fn read_catalog<S: Seekable + Drop>(
     ensures reads { ReadsStreams container.old container.new catalog_names }
     ensures ok { IfOk result (λ c. (file : List ℕ) → Tells container.old.held file
         → IsCatalog (root_in file container.old) c.pool c.tables
-        × AreStreamsOf (root_in file container.old) c.streams) }
+        × AreStreamsOf (root_in file container.old) c.streams
+        × IsSchemaLoaded (root_in file container.old) c.streams) }
     ensures kind { IfErr result (IsPartRefusal S.can_fail container.old table_steps) }
 {
     let pool = read_pool(alloc, container)?;
@@ -187,6 +209,34 @@ pub(crate) fn look_for<S: Seekable + Drop>(
     look(alloc, container, catalog)?;
     match catalog {
         Some(catalog) => load_query(alloc, container, &mut catalog.streams, select_tree(query)),
+        None => unreachable!(),
+    }
+}
+
+/// Reads the pool, the tables, and the streams of all tables, unless they were read before.
+pub(crate) fn look_at_all<S: Seekable + Drop>(
+    alloc: Global,
+    container: &mut ContainerView<S>,
+    catalog: &mut Option<Catalog>,
+) -> Result<(), Error>
+    requires before { IsLook container.old catalog.old }
+    ensures look { IsLook container.new catalog.new }
+    ensures there { OnOk result (IsSome catalog.new) }
+    ensures loaded { OnOk result ((file : List ℕ) → Tells container.old.held file → IfSome catalog.new
+        (λ c. AreTablesLoaded (root_in file container.old) c.streams c.tables)) }
+    ensures reads { ReadsDatabase container.old container.new }
+    ensures kind { IfErr result (IsPartRefusal S.can_fail container.old table_steps) }
+{
+    look(alloc, container, catalog)?;
+    match catalog {
+        Some(catalog) => {
+            let Catalog {
+                pool: _,
+                tables,
+                streams,
+            } = catalog;
+            load_tables_of(alloc, container, streams, tables.as_slice())
+        }
         None => unreachable!(),
     }
 }

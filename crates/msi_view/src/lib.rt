@@ -3,12 +3,16 @@
 #![tactic(auto)]
 
 mod catalog;
+pub mod database;
 pub mod files;
 pub mod laws;
 mod loading;
+pub mod readable;
 mod reasons;
 pub mod view;
 
 pub use files::open;
 pub use msi_container_view::{Extent, Located, byte_count};
+pub use msi_database::Database;
+pub use readable::Readable;
 pub use view::View;

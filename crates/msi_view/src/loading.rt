@@ -6,7 +6,8 @@ ghost use Rattle.msi_container_view.specs.Reading.{IsReadRefusal, Tells};
 ghost use Rattle.msi_database_schema.specs.Keys.{table_key as key_of};
 ghost use Rattle.msi_database_schema.specs.System.{columns_name, tables_name, validation_name};
 ghost use Rattle.msi_query.specs.QueryTrees.{query_of};
-ghost use Rattle.msi_view.specs.Looking.{AreStreamsOf, IsLoaded, ReadsStreams, root_in, tables_read};
+ghost use Rattle.msi_view.specs.Looking.{AreStreamsOf, AreTablesLoaded, IsLoaded, IsSchemaLoaded, ReadsStreams, root_in};
+ghost use Rattle.msi_view.specs.Looking.{table_keys, tables_read};
 
 use msi_base::Error;
 use msi_container_device::Seekable;
@@ -16,6 +17,7 @@ use msi_container_view::ContainerView;
 use msi_database_schema::names::table_key;
 use msi_database_schema::system::{COLUMNS, TABLES, VALIDATION};
 use msi_query::parts::{SelectTree, Side};
+use msi_table::Table;
 use std::alloc::Global;
 
 /// Reads the stream of a name, unless it was read before or there is none.
@@ -32,9 +34,9 @@ pub(crate) fn load<S: Seekable + Drop>(
     ensures loaded { OnOk result ((file : List ℕ) → Tells container.old.held file
         → AreStreamsOf (root_in file container.old) (entries streams.old)
         → IsLoaded (root_in file container.old) (entries streams.new) name) }
-    ensures others { OnOk result ((file : List ℕ) → Tells container.old.held file → (other : List ℕ)
+    ensures others { (file : List ℕ) → Tells container.old.held file → (other : List ℕ)
         → IsLoaded (root_in file container.old) (entries streams.old) other
-        → IsLoaded (root_in file container.old) (entries streams.new) other) }
+        → IsLoaded (root_in file container.old) (entries streams.new) other }
     ensures kinds { IfErr result (IsReadRefusal S.can_fail) }
 {
     if streams.contains(&name) {
@@ -63,9 +65,9 @@ pub(crate) fn load_table<S: Seekable + Drop>(
     ensures loaded { OnOk result ((file : List ℕ) → Tells container.old.held file
         → AreStreamsOf (root_in file container.old) (entries streams.old)
         → IsLoaded (root_in file container.old) (entries streams.new) (key_of table.now)) }
-    ensures others { OnOk result ((file : List ℕ) → Tells container.old.held file → (other : List ℕ)
+    ensures others { (file : List ℕ) → Tells container.old.held file → (other : List ℕ)
         → IsLoaded (root_in file container.old) (entries streams.old) other
-        → IsLoaded (root_in file container.old) (entries streams.new) other) }
+        → IsLoaded (root_in file container.old) (entries streams.new) other }
     ensures kinds { IfErr result (IsReadRefusal S.can_fail) }
 {
     match table_key(table) {
@@ -90,14 +92,37 @@ pub(crate) fn load_schema<S: Seekable + Drop>(
         → AreStreamsOf (root_in file container.old) (entries streams.new) }
     ensures loaded { OnOk result ((file : List ℕ) → Tells container.old.held file
         → AreStreamsOf (root_in file container.old) (entries streams.old)
-        → IsLoaded (root_in file container.old) (entries streams.new) (key_of validation_name)
-        × IsLoaded (root_in file container.old) (entries streams.new) (key_of tables_name)
-        × IsLoaded (root_in file container.old) (entries streams.new) (key_of columns_name)) }
+        → IsSchemaLoaded (root_in file container.old) (entries streams.new)) }
     ensures kinds { IfErr result (IsReadRefusal S.can_fail) }
 {
     load_table(alloc, container, streams, VALIDATION)?;
     load_table(alloc, container, streams, TABLES)?;
     load_table(alloc, container, streams, COLUMNS)
+}
+
+/// Reads the streams of these tables.
+pub(crate) fn load_tables_of<S: Seekable + Drop>(
+    alloc: Global,
+    container: &mut ContainerView<S>,
+    streams: &mut StreamMap,
+    tables: &[Table],
+) -> Result<(), Error>
+    ensures reads { ReadsStreams container.old container.new (table_keys tables.now) }
+    ensures streams { (file : List ℕ) → Tells container.old.held file
+        → AreStreamsOf (root_in file container.old) (entries streams.old)
+        → AreStreamsOf (root_in file container.old) (entries streams.new) }
+    ensures loaded { OnOk result ((file : List ℕ) → Tells container.old.held file
+        → AreStreamsOf (root_in file container.old) (entries streams.old)
+        → AreTablesLoaded (root_in file container.old) (entries streams.new) tables.now) }
+    ensures others { (file : List ℕ) → Tells container.old.held file → (other : List ℕ)
+        → IsLoaded (root_in file container.old) (entries streams.old) other
+        → IsLoaded (root_in file container.old) (entries streams.new) other }
+    ensures kinds { IfErr result (IsReadRefusal S.can_fail) }
+{
+    for table in tables {
+        load_table(alloc, container, streams, table.name())?;
+    }
+    Ok(())
 }
 
 fn load_sides<S: Seekable + Drop>(
@@ -113,9 +138,9 @@ fn load_sides<S: Seekable + Drop>(
     ensures loaded { OnOk result ((file : List ℕ) → Tells container.old.held file
         → AreStreamsOf (root_in file container.old) (entries streams.old)
         → All (λ side. IsLoaded (root_in file container.old) (entries streams.new) (key_of side.table)) sides.now) }
-    ensures others { OnOk result ((file : List ℕ) → Tells container.old.held file → (other : List ℕ)
+    ensures others { (file : List ℕ) → Tells container.old.held file → (other : List ℕ)
         → IsLoaded (root_in file container.old) (entries streams.old) other
-        → IsLoaded (root_in file container.old) (entries streams.new) other) }
+        → IsLoaded (root_in file container.old) (entries streams.new) other }
     ensures kinds { IfErr result (IsReadRefusal S.can_fail) }
 {
     for side in sides {
@@ -139,9 +164,9 @@ pub(crate) fn load_query<S: Seekable + Drop>(
         → AreStreamsOf (root_in file container.old) (entries streams.old)
         → All (λ table. IsLoaded (root_in file container.old) (entries streams.new) (key_of table))
         (tables_read (query_of tree.now))) }
-    ensures others { OnOk result ((file : List ℕ) → Tells container.old.held file → (other : List ℕ)
+    ensures others { (file : List ℕ) → Tells container.old.held file → (other : List ℕ)
         → IsLoaded (root_in file container.old) (entries streams.old) other
-        → IsLoaded (root_in file container.old) (entries streams.new) other) }
+        → IsLoaded (root_in file container.old) (entries streams.new) other }
     ensures kinds { IfErr result (IsReadRefusal S.can_fail) }
 {
     match tree {

@@ -1,7 +1,8 @@
 //! A package that is looked at.
 
 ghost use Rattle.std.specs.Prelude.{◌≡◌, ℕ, List, [], ◌∷◌, ◌++◌, ◌⊎◌, Err, IfErr, IfOk, IsErrOf, Ok, OnOk, Some, not};
-ghost use Rattle.std.specs.Prelude.{MatchOption, is_none, is_some, map};
+ghost use Rattle.std.specs.Prelude.{MatchOption, None, is_none, is_some, map, option_map, unwrap_or, ◌&&◌};
+ghost use Rattle.std.specs.Prelude.{if◌then◌else◌};
 ghost use Rattle.std.specs.FinMap.{entries};
 ghost use Rattle.std.specs.Io.KnownBytes.{Appends};
 ghost use Rattle.msi_base.specs.declared.errors.ErrorKind.TheVariants.{InvalidData, InvalidInput, Io, NotFound};
@@ -20,18 +21,19 @@ ghost use Rattle.msi_pool.specs.Pool.{Pool};
 ghost use Rattle.msi_query.specs.Selected.{Selects};
 ghost use Rattle.msi_query.specs.Selection.{relation_of};
 ghost use Rattle.msi_table.specs.Tables.{TableDef};
-ghost use Rattle.msi_view.specs.Looking.{IsCatalog, IsPartRefusal, ReadsStreams, catalog_names, database_seen};
-ghost use Rattle.msi_view.specs.Looking.{pool_names, root_in, table_steps, tables_read};
+ghost use Rattle.msi_view.specs.Looking.{IsCatalog, IsPartRefusal, ReadsStreams, bytes_counted};
+ghost use Rattle.msi_view.specs.Looking.{catalog_names, database_seen, pool_names, root_in, table_steps, tables_read};
 ghost use Rattle.msi.specs.Kinds.{clsid_of};
 ghost use Rattle.msi.specs.Meaning.{RawPoolIs, SummaryIs, has_pool, has_summary, has_texts, reads_pool, reads_summary};
 ghost use Rattle.msi.specs.Meaning.{reads_texts};
 
 use crate::catalog::{Catalog, look, look_for, read_pool};
 use crate::reasons;
-use msi::parts::checked_key;
+use msi::compound::Name;
+use msi::parts::{accepted_key, checked_key};
 use msi::{CodePage, PackageType, Rows, Seekable, Select, Source, SummaryInfo, Table};
 use msi_base::{Error, ErrorKind};
-use msi_container_view::{ContainerView, Located};
+use msi_container_view::{ContainerView, Located, byte_count};
 use msi_database_schema::names::{signature_key, summary_key};
 use msi_query_rows::select_rows;
 use msi_summary::parts::summary_of;
@@ -45,9 +47,9 @@ use std::marker::Model;
 ///
 /// If another program changes the file meanwhile, each answer is that of some bytes, or an error.
 pub struct View<S: Source> {
-    container: ContainerView<S>,
-    alloc: Global,
-    catalog: Option<Catalog>,
+    pub(crate) container: ContainerView<S>,
+    pub(crate) alloc: Global,
+    pub(crate) catalog: Option<Catalog>,
 }
 
 /// Written out, so that a function that owns one calls one drop, and its proof doesn't go through those of the parts.
@@ -108,6 +110,30 @@ impl<S: Source> View<S> {
         ensures { entries result.now ≡ self.now.streams }
     {
         self.container.streams()
+    }
+
+    /// Returns whether there is a stream of this name, as [`Package::has_stream`](msi::Package::has_stream) does. It
+    /// takes no memory.
+    pub fn has_stream(&self, name: &str) -> bool
+        ensures { result ≡ (is_stream_name name.now && is_some (extents_at (stream_key name.now) self.now.streams)) }
+    {
+        match accepted_key(name) {
+            Some(key) => self.container.streams().get(&key).is_some(),
+            None => false,
+        }
+    }
+
+    /// Returns how many bytes the stream of this name has, or nothing where there is none or no stream may have the
+    /// name. It takes no memory.
+    pub fn stream_size(&self, name: &str) -> Option<u64>
+        ensures { result ≡ (if is_stream_name name.now
+            then option_map bytes_counted (extents_at (stream_key name.now) self.now.streams) else None) }
+    {
+        let key = accepted_key(name)?;
+        match self.container.streams().get(&key) {
+            Some(extents) => Some(byte_count(extents.as_slice())),
+            None => None,
+        }
     }
 
     /// Returns how many bytes were read of the source.
@@ -273,5 +299,22 @@ impl<S: Seekable + Drop> View<S> {
             return Err(Error::new(ErrorKind::NotFound, reasons::NO_STREAM));
         }
         Ok(())
+    }
+
+    /// Writes the bytes of the stream that has this container's name to a writer, in pieces of at most 1 MiB, and
+    /// returns whether there is one: any stream of the root, a table's, the summary's or the signature's among them.
+    /// Only that stream is read.
+    ///
+    /// # Errors
+    /// Fails with `Io` if a call of the source or the writer fails, or with `OutOfMemory`. Then some of the bytes may
+    /// have been written.
+    pub fn copy_stream<W: Write>(&mut self, name: &Name, to: &mut W) -> Result<bool, Error>
+        ensures reads { ReadsStreams self.old self.new (name.now ∷ []) }
+        ensures there { IfOk result (λ there. there ≡ is_some (extents_at name.now self.old.streams)) }
+        ensures ok { OnOk result ((file : List ℕ) → Tells self.old.held file → Appends (W.contents to.old)
+            (W.contents to.new) (unwrap_or (stream_at name.now (root_in file self.old)) [])) }
+        ensures kinds { IfErr result (λ kind. (kind ≡ Io) ⊎ (kind ≡ OutOfMemory)) }
+    {
+        self.container.copy(self.alloc, name, to)
     }
 }

@@ -1,7 +1,7 @@
 //! Packages in files: a new one, one that is looked at, and whether a file can be written.
 
 use msi::{Buffered, Error, Metered, Package, PackageType};
-use msi_view::View;
+use msi_view::{Readable, View};
 use std::fs::{self, File, OpenOptions};
 use std::io;
 
@@ -19,7 +19,7 @@ pub(crate) fn create(rt: &HostRuntime, path: &str) -> Result<(), Error> {
 }
 
 /// Looks at the package of a file. Each of its parts has to be had, as when it is opened.
-pub(crate) fn look(rt: &HostRuntime, path: &str) -> Result<View<Metered<File>>, Error> {
+pub(crate) fn look(rt: &HostRuntime, path: &str) -> Result<View<Metered<Readable<File>>>, Error> {
     let mut view = msi_view::open(rt, path)?;
     view.package_type()?;
     view.summary_info()?;
