@@ -50,13 +50,6 @@ pub record IsOpen (k : Kept) (name : List ℕ) : Type 0 where
   pub named : name ≡ stream_key text
   pub there : has_stream_at name k.streams ≡ true
 
--- The database as it is kept is the package's, but for the bytes of the stream that lies open, if one does
-pub record IsButForOpen (k whole : Kept) : Type 0 where
-  pub name : Option (List ℕ)
-  pub bytes : List ℕ
-  pub current : IfSome name (IsOpen k)
-  pub is : whole ≡ with_open name bytes k
-
 -- What holds between calls: the stream that lies open is a user's and there, and only a sound database has changed its
 -- pool
 pub record IsHeld (k : Kept) (name : Option (List ℕ)) (is_pool_changed : Bool) : Type 0 where

@@ -13,7 +13,7 @@ ghost use Rattle.msi.specs.Lending.{LendsSummary};
 ghost use Rattle.msi_query.specs.Selected.{Selects};
 ghost use Rattle.msi.specs.State.{parts_of};
 ghost use Rattle.msi.specs.Steps.{storage_refusal};
-ghost use Rattle.msi.specs.Whole.{IsButForOpen, IsOpen, with_open, with_state};
+ghost use Rattle.msi.specs.Whole.{IsOpen, with_open, with_state};
 
 use crate::kinds::PackageType;
 use crate::listing::Tables;
@@ -86,15 +86,6 @@ impl<F: Source> Package<F> {
         ensures { result ≡ self.now.state.kind }
     {
         self.kind
-    }
-
-    /// Returns the database: the tables, and the streams of the root. A stream that `write_stream` gave last has the
-    /// bytes that were written to it only after another call that changes streams, a transform or a flush.
-    pub fn database(&self) -> &Database
-        ensures database { result.now.database ≡ self.now.state.kept.database }
-        ensures streams { IsButForOpen result.now self.now.state.kept }
-    {
-        &self.database
     }
 
     /// Returns the code page of the texts of the database.
