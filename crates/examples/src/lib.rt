@@ -4,7 +4,7 @@
 //! - `guide`: task by task, from creating a table to handling each error. It is the code of docs/GUIDE.md.
 //! - `printing`: a whole program, which prints the rows of a query as CSV.
 //!
-//! The tests of `transcripts` run all of them, and compare what they print.
+//! `package_tests` runs all of them, and what they print is compared.
 #![tactic(auto)]
 
 pub mod guide;

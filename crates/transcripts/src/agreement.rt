@@ -1,6 +1,5 @@
 //! Whether looking at a package shows what opening it does: both ways over the same bytes.
 
-use crate::counting::Counting;
 use msi::compound::Name;
 use msi::names::is_listed;
 use msi::{
@@ -8,6 +7,7 @@ use msi::{
 };
 use msi_view::{View, byte_count};
 use std::alloc::Global;
+use transcripts_words::counting::Counting;
 
 /// Returns whether the parts of these bytes that are looked at are those of the package that was opened. Where it
 /// wasn't, the first part that isn't had has to be why: the container, the type, the summary, the tables.

@@ -1,9 +1,9 @@
 //! Calls that change a package.
 
-use crate::counting::Counting;
 use crate::summary;
 use msi::{Error, Insert, Package};
 use transcripts_words::columns::{column, columns};
+use transcripts_words::counting::Counting;
 use transcripts_words::texts::codepage;
 use transcripts_words::values::rows;
 use transcripts_words::words::Words;

@@ -1,11 +1,11 @@
 //! Calls that look at a package.
 
-use crate::counting::Counting;
 use crate::summary;
 use msi::{Error, Package, Streams};
 use std::io::Read;
 use transcripts_words::answers::Answer;
 use transcripts_words::columns::print_columns;
+use transcripts_words::counting::Counting;
 use transcripts_words::failure::Failure;
 use transcripts_words::kept::print_bytes;
 use transcripts_words::words::Words;

@@ -1,6 +1,6 @@
 //! Makes the calls of transcripts, and prints each call that answers otherwise than expected:
 //! `transcripts check FILE..`. The exit status is 1 if one does, and 2 for wrong usage. `docs/TRANSCRIPTS.md` shows
-//! what stands in a transcript. Before them it runs the tests in `tests`, of which some print lines.
+//! what stands in a transcript.
 //!
 //! `transcripts trials FILE..` is what `tools/try-faults` runs: there each call behind `try` may be refused memory.
 #![tactic(auto)]
@@ -9,7 +9,6 @@ mod agreement;
 mod calls;
 mod changes;
 mod commands;
-mod counting;
 mod cursors;
 mod files;
 mod looks;
@@ -18,7 +17,6 @@ mod pictures;
 mod session;
 mod statements;
 mod summary;
-mod tests;
 mod transcript;
 mod trials;
 
@@ -33,10 +31,7 @@ fn run(rt: &HostRuntime) -> Result<u8, Failure> {
         return Ok(2);
     };
     let are_expected = match verb.as_str() {
-        "check" => {
-            let pass = tests::run(rt);
-            run_files(rt, files, false)? && pass
-        }
+        "check" => run_files(rt, files, false)?,
         "trials" => run_files(rt, files, true)?,
         _ => return Ok(2),
     };

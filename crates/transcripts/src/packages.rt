@@ -1,11 +1,11 @@
 //! Calls that make a package, open one, apply a transform to it, write it or take it apart.
 
 use crate::agreement::looks_alike;
-use crate::counting::Counting;
 use crate::session::Session;
 use msi::transforms::{ErrorConditions, Transform};
 use msi::{Error, ErrorKind, Package, PackageType};
 use transcripts_words::contents::transform;
+use transcripts_words::counting::Counting;
 use transcripts_words::failure::Failure;
 use transcripts_words::kept::pieces;
 use transcripts_words::words::Words;

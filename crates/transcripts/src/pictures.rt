@@ -1,11 +1,11 @@
 //! All that a package answers, as bytes to compare.
 
-use crate::counting::Counting;
 use crate::session::Session;
 use msi::{Package, Select, Streams, Table};
 use std::alloc::Global;
 use std::io::Read;
 use transcripts_words::answers::Answer;
+use transcripts_words::counting::Counting;
 use transcripts_words::failure::Failure;
 use transcripts_words::rows::print_rows;
 

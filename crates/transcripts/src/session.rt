@@ -1,9 +1,9 @@
 //! What the calls of a transcript work on.
 
-use crate::counting::Counting;
 use msi::{Memory, Package};
 use std::alloc::Global;
-use std::{io, mem};
+use std::mem;
+use transcripts_words::counting::Counting;
 use transcripts_words::failure::Failure;
 use transcripts_words::kept::Kept;
 use transcripts_words::words::Words;
@@ -39,7 +39,7 @@ impl Drop for Session {
 pub(crate) const NO_PACKAGE: Failure = Failure::Unreadable("there is no package");
 
 fn plain(alloc: Global) -> Counting {
-    Counting::new(Vec::new(alloc), usize::MAX, 0)
+    Counting::new(Vec::new(alloc))
 }
 
 impl Session {
@@ -79,21 +79,8 @@ impl Session {
         self.kept.keep(name, device.memory.into_vec());
     }
 
-    /// Reads what the next device does: `most 512 most_read 7 failing 12 lasts interrupted`.
+    /// Reads what the next device does.
     pub(crate) fn behave(&mut self, words: &mut Words) {
-        self.next = plain(words.alloc);
-        for _ in 0..words.len() {
-            if words.len() == 0 {
-                break;
-            }
-            match words.word() {
-                "most" => self.next.most = words.count(),
-                "most_read" => self.next.most_read = words.count(),
-                "failing" => self.next.failing = words.count(),
-                "lasts" => self.next.lasts = true,
-                "interrupted" => self.next.fault = io::ErrorKind::Interrupted,
-                _ => words.refuse("a device has no such behaviour"),
-            }
-        }
+        self.next = Counting::described(words);
     }
 }

@@ -1,10 +1,10 @@
 //! Calls with a statement, which the library reads.
 
-use crate::counting::Counting;
 use crate::session::Session;
 use msi::{Error, Expr, Package, Parse, Rows, Statement};
 use std::alloc::Global;
 use transcripts_words::answers::Answer;
+use transcripts_words::counting::Counting;
 use transcripts_words::failure::Failure;
 use transcripts_words::parsing::print_refusal;
 use transcripts_words::rows::{print_names, print_rows, print_values, print_worths};

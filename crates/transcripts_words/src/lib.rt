@@ -1,4 +1,5 @@
-//! The language of transcripts: their lines, the tokens of a call, bytes that are kept by name, and reports of answers.
+//! The language of transcripts: their lines, the tokens of a call, bytes that are kept by name, devices that behave as
+//! a call says, and reports of answers.
 #![tactic(auto)]
 
 pub mod answers;
@@ -6,6 +7,7 @@ pub mod calls;
 pub mod columns;
 pub mod containers;
 pub mod contents;
+pub mod counting;
 pub mod failure;
 pub mod files;
 pub mod kept;

@@ -2,46 +2,67 @@
 
 ghost use Rattle.std.specs.Prelude.{◌≡◌, OnErr, OnOk, Some, false, true};
 
-use msi::{Device, Memory, Seekable, Source};
+use crate::words::Words;
+use msi_container_device::{Device, Memory, Seekable, Source};
 use std::io;
 
-/// Over memory: it takes and gives at most so many bytes a call, and one call fails, or all from one on.
+/// A device over memory: it takes and gives at most so many bytes a call, and one call fails, or all from one on.
 #[derive(Drop)]
-pub(crate) struct Counting {
+pub struct Counting {
     /// What it holds.
-    pub(crate) memory: Memory,
+    pub memory: Memory,
     /// How many bytes a write takes.
-    pub(crate) most: usize,
+    pub most: usize,
     /// How many bytes a read gives; it gives one at least.
-    pub(crate) most_read: usize,
+    pub most_read: usize,
     /// Which call fails, from 1 on; none for 0.
-    pub(crate) failing: usize,
+    pub failing: usize,
     /// Whether each call behind that one fails, too.
-    pub(crate) lasts: bool,
+    pub lasts: bool,
     /// What that call fails with.
-    pub(crate) fault: io::ErrorKind,
+    pub fault: io::ErrorKind,
     /// How many calls there were.
-    pub(crate) calls: usize,
+    pub calls: usize,
     /// How many of them were writes.
-    pub(crate) writes: usize,
+    pub writes: usize,
     /// Whether a call failed since this was last cleared.
-    pub(crate) failed: bool,
+    pub failed: bool,
 }
 
 impl Counting {
-    /// Returns a device over these bytes, whose reads return all that there is room for. Its fault is a broken pipe.
-    pub(crate) fn new(bytes: Vec<u8>, most: usize, failing: usize) -> Counting {
+    /// Returns a device over these bytes that takes and gives all that there is room for, and never fails. Its fault is
+    /// a broken pipe.
+    pub fn new(bytes: Vec<u8>) -> Counting {
         Counting {
             memory: Memory::from_vec(bytes),
-            most,
+            most: usize::MAX,
             most_read: usize::MAX,
-            failing,
+            failing: 0,
             lasts: false,
             fault: io::ErrorKind::BrokenPipe,
             calls: 0,
             writes: 0,
             failed: false,
         }
+    }
+
+    /// Reads what a device does, and returns it over no bytes: `most 512 most_read 7 failing 12 lasts interrupted`.
+    pub fn described(words: &mut Words) -> Counting {
+        let mut device = Counting::new(Vec::new(words.alloc));
+        for _ in 0..words.len() {
+            if words.len() == 0 {
+                break;
+            }
+            match words.word() {
+                "most" => device.most = words.count(),
+                "most_read" => device.most_read = words.count(),
+                "failing" => device.failing = words.count(),
+                "lasts" => device.lasts = true,
+                "interrupted" => device.fault = io::ErrorKind::Interrupted,
+                _ => words.refuse("a device has no such behaviour"),
+            }
+        }
+        device
     }
 
     /// Begins a call, which fails where its turn has come.

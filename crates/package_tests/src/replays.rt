@@ -1,6 +1,6 @@
 //! A list of calls, one of each kind, on a new package, and again on what they leave.
 
-use crate::tests::outcome::passes;
+use crate::outcome::passes;
 use msi::{Error, ErrorKind, IntoText, Items, PackageType, Select};
 use msi_replay::{
     Answer, Call, Change, LookUp, ReaderCall, Replayed, SummaryCall, SummaryProperty, WriterCall,

@@ -1,5 +1,7 @@
-//! Tests that no transcript can express: of devices, of string pools and property sets of no package, of packages in
-//! files, and of lists of calls; and the examples of the crate `examples`.
+//! Tests that no transcript can express: of devices, of sources that fail, of string pools and property sets of no
+//! package, of transforms to the byte, of packages in files, and of lists of calls; and the examples of the crate
+//! `examples`, which print lines. A test that fails is named on standard error, and then the exit status is 1.
+#![tactic(auto)]
 
 mod device_calls;
 mod devices;
@@ -13,9 +15,9 @@ mod string_pool;
 
 use examples::printing::Failure;
 use outcome::passes;
+use std::process::ExitCode;
 
-/// Runs each test, and returns whether all pass. The examples print lines, which whoever runs the program compares.
-pub(crate) fn run(rt: &HostRuntime) -> bool {
+fn run(rt: &HostRuntime) -> bool {
     let alloc = rt.alloc();
     let mut pass = run_devices(rt);
     pass &= passes(rt, &"the examples", run_examples(rt));
@@ -62,4 +64,12 @@ fn run_devices(rt: &HostRuntime) -> bool {
 fn run_examples(rt: &HostRuntime) -> Result<bool, Failure> {
     let path = files::path(rt, "examples")?;
     examples::run(rt, path.as_str())
+}
+
+fn main(rt: HostRuntime) -> ExitCode {
+    if run(&rt) {
+        ExitCode::SUCCESS
+    } else {
+        ExitCode::FAILURE
+    }
 }

@@ -1,9 +1,9 @@
 //! Devices in memory, and over readers, writers and seekers of `std`, with a buffer and without.
 
-use crate::tests::device_calls::Call::{Flush, Length, Read, ReadAll, Rewind, Write, WriteAll};
-use crate::tests::device_calls::End::{Flagged, Refused, Well};
-use crate::tests::device_calls::{DIGITS, Step, digits, gone};
-use crate::tests::outcome::passes;
+use crate::device_calls::Call::{Flush, Length, Read, ReadAll, Rewind, Write, WriteAll};
+use crate::device_calls::End::{Flagged, Refused, Well};
+use crate::device_calls::{DIGITS, Step, digits, gone};
+use crate::outcome::passes;
 use msi::{Buffered, Error, Metered};
 use std::alloc::Global;
 use std::io::{self, Cursor, Seek, SeekFrom};

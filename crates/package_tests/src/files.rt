@@ -1,7 +1,8 @@
 //! Packages in files of the folder for temporary ones.
 
+use crate::outcome::refusal;
 use examples::readme;
-use msi::{Error, ErrorKind};
+use msi::ErrorKind;
 use std::{env, fs, io, process};
 
 /// What stands at a path before it is opened.
@@ -32,14 +33,6 @@ fn put(rt: &HostRuntime, path: &str, given: Given, package: &[u8]) -> io::Result
         Given::Nothing => Ok(()),
         Given::Text(text) => fs::write(rt, path, text),
         Given::Package => fs::write(rt, path, package),
-    }
-}
-
-/// Returns why a package isn't opened. One that is opened is dropped.
-fn refusal<P: Drop>(opened: Result<P, Error>) -> Option<ErrorKind> {
-    match opened {
-        Ok(_package) => None,
-        Err(error) => Some(error.kind()),
     }
 }
 

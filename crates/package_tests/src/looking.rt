@@ -1,22 +1,29 @@
 //! Looking at packages whose source fails, gives little at a time, or is cut.
 
-use crate::agreement::looks_alike;
-use crate::counting::Counting;
-use msi::{Error, ErrorKind, Package, PackageType};
+use crate::outcome::refusal;
+use msi::{Error, ErrorKind, Memory, Package, PackageType};
 use msi_view::View;
 use std::alloc::Global;
+use transcripts_words::counting::Counting;
 
 /// How many lengths a package is cut to: those of its first sectors.
 const LENGTHS: usize = 4096;
 
 fn package(alloc: Global) -> Result<Vec<u8>, Error> {
-    let device = Counting::new(Vec::new(alloc), usize::MAX, 0);
+    let device = Memory::from_vec(Vec::new(alloc));
     let mut package = Package::create(alloc, PackageType::Installer, device)?;
     package
         .write_stream("a")?
         .write_vec(Vec::from_slice(alloc, &[7; 9000])?)?;
     package.flush()?;
-    Ok(package.into_reader().memory.into_vec())
+    Ok(package.into_reader().into_vec())
+}
+
+/// A source of these bytes, whose call of this number fails; none for 0.
+fn source_of(alloc: Global, bytes: &[u8], failing: usize) -> Result<Counting, Error> {
+    let mut source = Counting::new(Vec::from_slice(alloc, bytes)?);
+    source.failing = failing;
+    Ok(source)
 }
 
 /// Looks at all parts; one that fails since its call does is asked for again.
@@ -59,8 +66,7 @@ pub(crate) fn failing_sources_are_asked_again(alloc: Global) -> Result<bool, Err
     let bytes = package(alloc)?;
     let mut has_failed = false;
     for failing in 1..200 {
-        let copy = Vec::from_slice(alloc, bytes.as_slice())?;
-        match looks_again(alloc, Counting::new(copy, usize::MAX, failing)) {
+        match looks_again(alloc, source_of(alloc, bytes.as_slice(), failing)?) {
             Ok(is_same) if !is_same => return Ok(false),
             Ok(_) => {}
             Err(error) if error.kind() == ErrorKind::Io => has_failed = true,
@@ -74,7 +80,7 @@ pub(crate) fn failing_sources_are_asked_again(alloc: Global) -> Result<bool, Err
 pub(crate) fn short_reads_show_the_same(alloc: Global) -> Result<bool, Error> {
     let bytes = package(alloc)?;
     for most_read in [1, 7] {
-        let mut source = Counting::new(Vec::from_slice(alloc, bytes.as_slice())?, usize::MAX, 0);
+        let mut source = source_of(alloc, bytes.as_slice(), 0)?;
         source.most_read = most_read;
         if !looks_again(alloc, source)? {
             return Ok(false);
@@ -88,8 +94,9 @@ pub(crate) fn cut_packages_are_refused_alike(alloc: Global) -> Result<bool, Erro
     let bytes = package(alloc)?;
     for len in 0..LENGTHS.min(bytes.len()) {
         let cut = &bytes[..len];
-        let device = Counting::new(Vec::from_slice(alloc, cut)?, usize::MAX, 0);
-        if !looks_alike(alloc, cut, &Package::open(alloc, device))? {
+        let seen = refusal(looks_again(alloc, source_of(alloc, cut, 0)?));
+        let opened = refusal(Package::open(alloc, source_of(alloc, cut, 0)?));
+        if seen.is_none() || seen != opened {
             return Ok(false);
         }
     }

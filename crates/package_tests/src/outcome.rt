@@ -1,5 +1,6 @@
-//! Whether a test passes, and what is printed if it doesn't.
+//! How calls and tests end: whether a test passes, and what is printed if it doesn't.
 
+use msi::{Error, ErrorKind};
 use std::fmt::Display;
 
 /// Returns whether a test found what it looked for. If it didn't, its name is printed to standard error, and so is the
@@ -19,4 +20,12 @@ pub(crate) fn passes<E: Display + Drop>(
         }
     }
     false
+}
+
+/// Returns why a call fails. What one returns that doesn't is dropped.
+pub(crate) fn refusal<T: Drop>(answer: Result<T, Error>) -> Option<ErrorKind> {
+    match answer {
+        Ok(_value) => None,
+        Err(error) => Some(error.kind()),
+    }
 }
