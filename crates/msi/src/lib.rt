@@ -16,7 +16,7 @@ pub mod listing;
 mod opening;
 pub mod package;
 pub mod parts;
-mod reasons;
+pub mod reasons;
 pub mod recounting;
 mod renewing;
 pub mod streams;

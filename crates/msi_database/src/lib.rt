@@ -12,7 +12,7 @@ pub mod laws;
 mod making;
 mod others;
 mod reading;
-mod reasons;
+pub mod reasons;
 mod recounting;
 mod rows;
 mod widening;

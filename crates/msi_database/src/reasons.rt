@@ -8,9 +8,9 @@ pub(crate) const OLD_UNSOUND: Reason = Reason("the old database isn't sound");
 
 pub(crate) const NEW_UNSOUND: Reason = Reason("the new database isn't sound");
 
-pub(crate) const NO_TABLE: Reason = Reason("there is no table of this name");
+pub const NO_TABLE: Reason = Reason("there is no table of this name");
 
-pub(crate) const UNREADABLE: Reason = Reason("a table has too many rows");
+pub const UNREADABLE: Reason = Reason("a table has too many rows");
 
 pub(crate) const BARRED: Reason = Reason("this change of a system table is barred");
 

@@ -19,7 +19,7 @@ ghost use Rattle.msi.specs.Meaning.{RawPoolIs, has_pool, has_texts, reads_pool, 
 ghost use Rattle.msi.specs.Opening.{PoolStreamIs};
 
 use crate::loading::{load_query, load_schema, load_tables_of};
-use crate::reasons;
+use msi::reasons;
 use msi_base::{Error, ErrorKind, Items, Reason};
 use msi_container_device::Seekable;
 use msi_container_format::contents::StreamMap;
@@ -27,6 +27,7 @@ use msi_container_format::name::Name;
 use msi_container_format::parts::{part_of, shared_part};
 use msi_container_view::ContainerView;
 use msi_database::Database;
+use msi_database::reasons::{NO_TABLE, UNREADABLE};
 use msi_database_schema::names::{string_data_key, string_pool_key};
 use msi_database_storage::listing::table_named;
 use msi_database_storage::{DescribedTables, look_at, table_rows, tables_in};
@@ -250,11 +251,11 @@ impl Tables for Catalog {
     fn stored(&self, name: &str) -> Result<StoredRows<'_>, Error> {
         look_at(&self.streams);
         let Some(table) = table_named(self.tables.as_slice(), name) else {
-            return Err(Error::new(ErrorKind::NotFound, reasons::NO_TABLE));
+            return Err(Error::new(ErrorKind::NotFound, NO_TABLE));
         };
         match table_rows(&self.streams, table) {
             Some(stored) => Ok(stored),
-            None => Err(Error::new(ErrorKind::InvalidData, reasons::UNREADABLE)),
+            None => Err(Error::new(ErrorKind::InvalidData, UNREADABLE)),
         }
     }
 }

@@ -8,7 +8,6 @@ pub mod files;
 pub mod laws;
 mod loading;
 pub mod readable;
-mod reasons;
 pub mod view;
 
 pub use files::open;

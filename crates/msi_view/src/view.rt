@@ -7,7 +7,7 @@ ghost use Rattle.std.specs.FinMap.{entries};
 ghost use Rattle.std.specs.Io.KnownBytes.{Appends};
 ghost use Rattle.msi_base.specs.declared.errors.ErrorKind.TheVariants.{InvalidData, InvalidInput, Io, NotFound};
 ghost use Rattle.msi_base.specs.declared.errors.ErrorKind.TheVariants.{OutOfMemory};
-ghost use Rattle.msi_base.specs.Refusals.{IsRefusal, first_refusal};
+ghost use Rattle.msi_base.specs.Refusals.{IsRefusal, first_refusal, unless_refused};
 ghost use Rattle.msi_container_device.specs.Held.{bytes_told};
 ghost use Rattle.msi_container_format.specs.declared.contents.Contents as held;
 ghost use Rattle.msi_container_format.specs.Container.{Holds};
@@ -28,10 +28,9 @@ ghost use Rattle.msi.specs.Meaning.{RawPoolIs, SummaryIs, has_pool, has_summary,
 ghost use Rattle.msi.specs.Meaning.{reads_texts};
 
 use crate::catalog::{Catalog, look, look_for, read_pool};
-use crate::reasons;
 use msi::compound::Name;
 use msi::parts::{accepted_key, checked_key};
-use msi::{CodePage, PackageType, Rows, Seekable, Select, Source, SummaryInfo, Table};
+use msi::{CodePage, PackageType, Rows, Seekable, Select, Source, SummaryInfo, Table, reasons};
 use msi_base::{Error, ErrorKind};
 use msi_container_view::{ContainerView, Located, byte_count};
 use msi_database_schema::names::{signature_key, summary_key};
@@ -95,6 +94,19 @@ impl<S: Source> View<S> {
         ensures { result ≡ self.now.has_storages }
     {
         self.container.has_storages()
+    }
+
+    /// Fails if there are storages below the root, since such a package is only read.
+    ///
+    /// # Errors
+    /// Fails with `InvalidInput` if there are.
+    pub fn check_storages(&self) -> Result<(), Error>
+        ensures { result ≡ unless_refused ((self.now.has_storages, InvalidInput) ∷ []) tt }
+    {
+        if self.has_storages() {
+            return Err(Error::new(ErrorKind::InvalidInput, reasons::STORAGES));
+        }
+        Ok(())
     }
 
     /// Returns whether the package has a digital signature. It isn't checked.

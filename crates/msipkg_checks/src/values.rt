@@ -5,9 +5,7 @@ use crate::report::{Place, Report};
 use crate::shown::{Cut, row_name};
 use msipkg_looking::PackageView;
 use msipkg_packages::PackageTables;
-use msipkg_packages::msi::{
-    Column, ColumnType, Error, ErrorKind, Rows, Select, Table, ValueView,
-};
+use msipkg_packages::msi::{Column, ColumnType, Error, ErrorKind, Rows, Select, Table, ValueView};
 use msipkg_packages::output::Failure;
 use std::alloc::Global;
 use std::fmt::{self, Display};

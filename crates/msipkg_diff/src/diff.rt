@@ -108,7 +108,11 @@ fn print_differences(
     }
 }
 
-fn compare(old: &mut Compared<'_>, new: &mut Compared<'_>, report: &mut Report<'_>) -> Result<(), Failure> {
+fn compare(
+    old: &mut Compared<'_>,
+    new: &mut Compared<'_>,
+    report: &mut Report<'_>,
+) -> Result<(), Failure> {
     compare_kinds(old, new, report);
     if let (Some(summary), Some(other)) = (old.package.summary_info(), new.package.summary_info()) {
         compare_summaries(summary, other, report)?;

@@ -7,9 +7,7 @@ use crate::report::Report;
 use msi_table::{Difference as RowDifference, differences};
 use msipkg_format::Shown;
 use msipkg_looking::PackageView;
-use msipkg_packages::msi::{
-    Column, Error, Items, Row, Rows, Select, Table, Value, ValueView,
-};
+use msipkg_packages::msi::{Column, Error, Items, Row, Rows, Select, Table, Value, ValueView};
 use msipkg_packages::output::{Failure, NullCells, push_key};
 use msipkg_packages::{PackageTables, null_cells_of};
 use std::alloc::{AllocError, Global};
@@ -87,11 +85,7 @@ fn rows_of_new<'a>(
     }
 }
 
-fn selected<'a>(
-    alloc: Global,
-    package: &'a PackageView,
-    table: &Table,
-) -> Result<Rows<'a>, Error> {
+fn selected<'a>(alloc: Global, package: &'a PackageView, table: &Table) -> Result<Rows<'a>, Error> {
     package.select_rows(Select::table(alloc, table.name())?)
 }
 

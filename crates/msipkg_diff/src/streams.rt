@@ -52,7 +52,8 @@ fn have_same_bytes(
 ) -> Result<bool, Failure> {
     let bytes = old.package.stream_bytes(old.stored.as_ref(), name)?;
     let mut matcher = Matcher::new(bytes.as_slice());
-    new.package.copy_stream(new.stored.as_ref(), name, &mut matcher)?;
+    new.package
+        .copy_stream(new.stored.as_ref(), name, &mut matcher)?;
     Ok(matcher.is_match())
 }
 

@@ -207,11 +207,7 @@ fn export_page(rt: &System, package: &PackageView, folder: &Folder<'_>) -> Resul
     write_text(rt, PAGE, &page, folder)
 }
 
-fn export_summary(
-    rt: &System,
-    package: &PackageView,
-    folder: &Folder<'_>,
-) -> Result<(), Failure> {
+fn export_summary(rt: &System, package: &PackageView, folder: &Folder<'_>) -> Result<(), Failure> {
     match package.summary_info() {
         Some(summary) => {
             let summary = summary_archive(rt.alloc(), summary)?;

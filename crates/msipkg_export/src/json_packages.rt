@@ -4,9 +4,7 @@ use crate::base64_texts::Encoder;
 use msipkg_format::{JsonObject, Style, write_quoted, write_text};
 use msipkg_looking::PackageView;
 use msipkg_packages::msi::{Error, Rows, SummaryInfo, SummaryProperty, Table};
-use msipkg_packages::output::{
-    Failure, JsonRow, NullCells, Output, StoredProperty, put_columns,
-};
+use msipkg_packages::output::{Failure, JsonRow, NullCells, Output, StoredProperty, put_columns};
 use msipkg_packages::{
     PackageTables, chosen_tables, kind_name, null_cells_of, property_text, rows_of,
 };
@@ -47,13 +45,7 @@ fn write_chosen(
     write_tables(alloc, style, package, tables.as_slice(), output)
 }
 
-fn write_head(
-    alloc: Global,
-    style: Style,
-    file: &str,
-    package: &PackageView,
-    output: &mut Output,
-) {
+fn write_head(alloc: Global, style: Style, file: &str, package: &PackageView, output: &mut Output) {
     output.push_str("{\"file\":");
     write_quoted(alloc, style, file, output);
     let kind = kind_name(package.package_type());

@@ -4,9 +4,7 @@ use crate::archive_parts::text_value;
 use crate::archive_texts::{StoredText, text_of_rows};
 use crate::table_archives::StreamFile;
 use msipkg_looking::PackageView;
-use msipkg_packages::msi::{
-    CodePage, Column, Error, Items, SummaryInfo, SummaryProperty, Value,
-};
+use msipkg_packages::msi::{CodePage, Column, Error, Items, SummaryInfo, SummaryProperty, Value};
 use msipkg_packages::output::{Failure, StoredProperty};
 use msipkg_packages::{PackageTables, property_text};
 use msipkg_safe_names::SafeNames;

@@ -4,16 +4,12 @@ use crate::stored_tables::tables_among;
 use msi::compound::Name;
 use msi::names::is_listed;
 use msi::{
-    CodePage, Database, Error, ErrorKind, Metered, PackageType, Reason, Rows, Select, SummaryInfo,
-    Table, streamname,
+    CodePage, Database, Error, Metered, PackageType, Rows, Select, SummaryInfo, Table, streamname,
 };
 use msi_view::View;
 use msipkg_format::{Failure, SystemFile};
 use msipkg_packages::{PackageTables, TableNames, pool_page};
 use std::alloc::Global;
-
-/// Why a package with storages isn't changed, as the library says it.
-const STORAGES: Reason = Reason("the package has storages below its root, and is only read");
 
 /// What is looked at: a file, or the bytes of a package that was recoded.
 pub(crate) type FileView = View<Metered<SystemFile>>;
@@ -126,7 +122,8 @@ impl PackageView {
         }
         let name = streamname::encode(self.alloc, "_StringPool", true)?;
         let mut pool = Vec::new(self.alloc);
-        self.view.copy_stream(&Name::new(name.as_str())?, &mut pool)?;
+        self.view
+            .copy_stream(&Name::new(name.as_str())?, &mut pool)?;
         Ok(pool_page(pool.as_slice()))
     }
 
@@ -146,9 +143,7 @@ impl PackageView {
     /// # Errors
     /// Fails as `Package::set_database_codepage` does.
     pub fn check_changeable(&mut self) -> Result<(), Error> {
-        if self.has_storages() {
-            return Err(Error::new(ErrorKind::InvalidInput, STORAGES));
-        }
+        self.view.check_storages()?;
         let page = self.database.codepage();
         self.database.set_codepage(page)
     }

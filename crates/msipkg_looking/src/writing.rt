@@ -11,7 +11,10 @@ pub(crate) struct Watched<'a, W> {
 
 impl<W> Drop for Watched<'_, W> {
     fn drop(self) {
-        let Watched { inner: _, failure: _ } = self;
+        let Watched {
+            inner: _,
+            failure: _,
+        } = self;
     }
 }
 

@@ -30,10 +30,10 @@ pub use kinds::{check_kind, check_way};
 pub use making::{NewFile, open_new, open_output, write_file};
 pub use msi;
 pub use msipkg_format as output;
+pub use named_pages::pool_page;
 pub use null_streams::{StreamColumn, has_null_streams, null_cells_in, null_cells_of};
 pub use opening::{FileState, kind_name, new_package, open_package, open_to_change};
 pub use properties::{page_of, set_properties, set_property};
-pub use named_pages::pool_page;
 pub use recoding::{
     PackageFile, Purpose, Recoded, file_page, page_in, read_file, recoded_by_page, recoded_instead,
 };

@@ -198,10 +198,7 @@ pub fn page_in(alloc: Global, bytes: &[u8]) -> Result<Option<i32>, Error> {
 ///
 /// # Errors
 /// Fails as the calls of the system do, and at a text that its page doesn't read.
-pub fn recoded_by_page(
-    rt: &System,
-    file: &PackageFile<'_>,
-) -> Result<Option<Recoded>, Failure> {
+pub fn recoded_by_page(rt: &System, file: &PackageFile<'_>) -> Result<Option<Recoded>, Failure> {
     match file.page {
         Some(_) => recoded_bytes(rt.alloc(), read_file(rt, file.path)?, file),
         None => Ok(None),

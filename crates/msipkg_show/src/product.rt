@@ -42,13 +42,7 @@ pub(crate) fn add_product(alloc: Global, package: &PackageView, facts: &mut Fact
 }
 
 /// Adds the text that a query selects. A table that can't be read, or has other columns, adds nothing.
-fn add_property(
-    alloc: Global,
-    package: &PackageView,
-    name: &str,
-    query: &str,
-    facts: &mut Facts,
-) {
+fn add_property(alloc: Global, package: &PackageView, name: &str, query: &str, facts: &mut Facts) {
     if let Ok(rows) = selected(alloc, package, query)
         && let Some(ValueView::Str(text)) = rows.get(0)
     {
@@ -56,10 +50,6 @@ fn add_property(
     }
 }
 
-fn selected<'a>(
-    alloc: Global,
-    package: &'a PackageView,
-    query: &str,
-) -> Result<Rows<'a>, Failure> {
+fn selected<'a>(alloc: Global, package: &'a PackageView, query: &str) -> Result<Rows<'a>, Failure> {
     Ok(package.select_rows(Select::parse(alloc, query)?)?)
 }

@@ -238,7 +238,11 @@ fn selected_rows<'a, P: PackageTables>(
 }
 
 /// Returns the name of the first column of a query.
-fn first_name<P: PackageTables>(alloc: Global, package: &P, select: Select) -> Result<String, Error> {
+fn first_name<P: PackageTables>(
+    alloc: Global,
+    package: &P,
+    select: Select,
+) -> Result<String, Error> {
     let rows = package.select_rows(select)?;
     match rows.columns() {
         [column, ..] => Ok(String::from_str(alloc, column.name())?),

@@ -31,7 +31,10 @@ pub(crate) fn print_tables(
     for table in package.tables() {
         let count = count_or_note(alloc, file, package, table.name(), notes);
         is_read &= count.is_some();
-        listing.put(table.name(), count.and_then(|count| u64::try_from(count).ok()));
+        listing.put(
+            table.name(),
+            count.and_then(|count| u64::try_from(count).ok()),
+        );
     }
     listing.print(output);
     is_read
