@@ -88,8 +88,8 @@ impl<F: Source> Package<F> {
         self.kind
     }
 
-    /// Returns the database: the tables, and the streams of the root. A stream that `write_stream` gave last has the
-    /// bytes that were written to it only after another call that changes streams, a transform or a flush.
+    /// Returns the database: the tables, and the streams of the root. What was written to the stream that
+    /// `write_stream` gave last stands in it once another call has changed the package or written it.
     pub fn database(&self) -> &Database
         ensures database { result.now.database ≡ self.now.state.kept.database }
         ensures streams { IsButForOpen result.now self.now.state.kept }
