@@ -18,6 +18,7 @@ use Rattle.msi.proofs.reading.HeldStreamsLemmas.{held_small}
 use Rattle.msi_view.specs.Looking.{table_steps}
 use Rattle.msi_view.specs.Laws.{AllPass, LooksShowPackages, PartsRefuseAsOpening, ShowsPackage, kind_steps, summary_steps}
 use Rattle.msi_view.proofs.query_lemmas.OpenedLemmas.{rows_opened, tables_opened}
+use Rattle.msi_view.proofs.query_lemmas.WholeLemmas.{whole_opened}
 
 -- THE REFUSALS
 
@@ -60,6 +61,7 @@ module _ (bytes : List ℕ) (small : AreBytes bytes) (c : Contents) (held : Hold
     summary = λ summary p. one_summary (stream_at summary_key (entries c.streams)) summary s.summary (held_small bytes small c held summary_key) p means.summary;
     page = λ pool p. sym (ap (λ (q : Pool). q.page) (shown pool p));
     tables = λ pool tables k. sym (tables_opened (entries c.streams) (parts_of s).database pool tables k means.database (shown pool k.pools));
+    database = λ d seen. seen.database ∙ whole_opened (entries c.streams) (parts_of s).database seen.raw seen.whole means.database seen.pools (shown seen.raw seen.pools) seen.read;
     rows = λ pool tables k q. sym (rows_opened (entries c.streams) (parts_of s).database pool tables k means.database (shown pool k.pools) q);
   }
 

@@ -1,5 +1,5 @@
 -- What stays of a view while more of it is read, and single streams.
-use Rattle.std.proofs.Common.{◌≡◌, ℕ, ◌⊎◌, Bool, true, option_map, Result, Ok, Err, IfErr, IfOk, inl, inr, List, [], ◌∷◌, Option, Some, None, is_some, unwrap_or, arith, sym, ap, ◌∙◌, refl}
+use Rattle.std.proofs.Common.{◌≡◌, ℕ, ◌⊎◌, Bool, true, false, ◌&&◌, subst, option_map, Result, Ok, Err, IfErr, IfOk, inl, inr, List, [], ◌∷◌, Option, Some, None, is_some, unwrap_or, arith, sym, ap, ◌∙◌, refl}
 use Rattle.std.specs.Prelude.{IsSome, IsSomeAnd, MatchOption}
 use Rattle.std.proofs.lemmas.Bool.{false≢true}
 use Rattle.msi_container_view.proofs.ViewLemmas.{bytes_are}
@@ -18,7 +18,11 @@ use Rattle.msi_container_format.specs.declared.contents.Contents.{Contents}
 use Rattle.msi.specs.Meaning.{OpenStep, FailsFirst, Passes, step_kind}
 use Rattle.msi.specs.Opening.{StopsAmong}
 use Rattle.msi.proofs.reading.OpenStepLemmas.{at_bytes, not_memory}
-use Rattle.msi_view.specs.Looking.{Catalogued, IsCatalog, AreStreamsOf, IsLook, IsPartRefusal, ReadsStreams, root_in, size_at}
+use Rattle.msi_pool.specs.Pool.{Pool}
+use Rattle.msi_table.specs.Tables.{TableDef}
+use Rattle.std.specs.Prelude.{OnOk, if◌then◌else◌}
+use Rattle.std.proofs.lemmas.Option.{none-some, same_Some}
+use Rattle.msi_view.specs.Looking.{Catalogued, IsCatalog, AreStreamsOf, IsLook, IsPartRefusal, IsSchemaLoaded, ReadsStreams, root_in, size_at}
 
 -- what was read of the tables stays what they are
 pub look_kept : (old new : View) (catalog : Option Catalogued) (n : ℕ) → ReadsMore old new n → IsLook old catalog → IsLook new catalog
@@ -87,13 +91,42 @@ copied_part file v name P there p =
 
 -- what is known of the tables, in the view as it was before they were read
 pub looked : (old new : View) (catalog : Option Catalogued) (c : Catalogued) (n : ℕ) → ReadsMore old new n → IsLook new catalog → catalog ≡ Some c
-    → (file : List ℕ) → Tells old.held file → IsCatalog (root_in file old) c.pool c.tables × AreStreamsOf (root_in file old) c.streams
+    → (file : List ℕ) → Tells old.held file → IsCatalog (root_in file old) c.pool c.tables × AreStreamsOf (root_in file old) c.streams × IsSchemaLoaded (root_in file old) c.streams
 looked old new catalog c n reads look some file told = rw reads.streams at (rw some at (look file (reads.told ∙ told)))
 
 pub look_found : (v : View) (catalog : Option Catalogued) (c : Catalogued) → IsLook v catalog → catalog ≡ Some c
-    → (file : List ℕ) → Tells v.held file → IsCatalog (root_in file v) c.pool c.tables × AreStreamsOf (root_in file v) c.streams
+    → (file : List ℕ) → Tells v.held file → IsCatalog (root_in file v) c.pool c.tables × AreStreamsOf (root_in file v) c.streams × IsSchemaLoaded (root_in file v) c.streams
 look_found v catalog c look some file told = rw some at (look file told)
 
 -- an error for the bytes is one of what was called
 pub refused : {X Y : Type 0} (r : Result X ErrorKind) (e f : ErrorKind) → r ≡ Err e → e ≡ f → r ≡ Err InvalidData → ◌≡◌ {A = Result Y ErrorKind} (Err f) (Err InvalidData)
 refused r e f a b h = let same : f ≡ InvalidData = cc in ap Err same
+
+-- so there are tables, where looking succeeded
+pub known_on : {A E : Type 0} (r : Result A E) (old new : View) (catalog : Option Catalogued) (n : ℕ) → ReadsMore old new n → IsLook new catalog → OnOk r (IsSome catalog)
+    → OnOk r ((file : List ℕ) → Tells old.held file → (pool : Pool) × (tables : List TableDef) × IsCatalog (root_in file old) pool tables)
+known_on (Err e) old new catalog n reads look there = tt
+known_on (Ok x) old new None n reads look there = absurd (false≢true there)
+known_on (Ok x) old new (Some c) n reads look there = λ file told. (c.pool, c.tables, (looked old new (Some c) c n reads look refl file told).0)
+
+-- STREAMS BY THEIR NAMES
+
+-- any stream that was copied
+pub copied_any : {A E : Type 0} (r : Result A E) (v : View) (name : List ℕ) (P : List ℕ → Type 0)
+    → IfOk r (λ _. (file : List ℕ) → Tells v.held file → P (unwrap_or (get (streams_at file v.streams) name) []))
+    → OnOk r ((file : List ℕ) → Tells v.held file → P (unwrap_or (stream_at name (root_in file v)) []))
+copied_any (Err e) v name P copied = tt
+copied_any (Ok x) v name P copied = λ file told. subst (λ (o : Option (List ℕ)). P (unwrap_or o [])) (sym (stream_found file v name)) (copied file told)
+
+-- the pieces of a name that a stream may have
+pub named_told : {X : Type 0} (b : Bool) (key stream : List ℕ) (at : List ℕ → Option X) → Some key ≡ (if b then Some stream else None) → at key ≡ (if b then at stream else None)
+named_told true key stream at is = ap at (same_Some key stream is)
+named_told false key stream at is = absurd (none-some key (sym is))
+
+pub named_missing : {X : Type 0} (b : Bool) (stream : List ℕ) (at : List ℕ → Option X) → None ≡ (if b then Some stream else None) → None ≡ (if b then at stream else None)
+named_missing true stream at is = absurd (none-some stream is)
+named_missing false stream at is = refl
+
+pub some_named : {X : Type 0} (b : Bool) (o : Option X) → is_some (if b then o else None) ≡ (b && is_some o)
+some_named true o = refl
+some_named false o = refl

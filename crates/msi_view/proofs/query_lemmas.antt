@@ -3,3 +3,5 @@ pub mod RelationLemmas
 pub mod SeenLemmas
 pub mod NamedTextLemmas
 pub mod OpenedLemmas
+pub mod WholeLemmas
+pub mod TakenLemmas

@@ -1,13 +1,13 @@
 -- What a look at a package says of the contents of its file.
-use Rattle.std.specs.Prelude.{◌≡◌, ◌-◌, ◌^◌, min, ℕ, Bool, true, List, [], ◌∷◌, ◌++◌, map, sum_by, Option, Some, All}
-use Rattle.std.specs.Prelude.{IfSome, ◌⊎◌}
+use Rattle.std.specs.Prelude.{◌≡◌, ◌-◌, ◌^◌, min, ℕ, Bool, true, List, [], ◌∷◌, ◌++◌, map, sum_by, Option, Some, None}
+use Rattle.std.specs.Prelude.{All, IfSome, ◌⊎◌, if◌then◌else◌}
 use Rattle.std.specs.FinMap.{entries}
 use Rattle.msi_base.specs.declared.errors.ErrorKind.{ErrorKind}
 use Rattle.msi_container_view.specs.Reading.{Tells, IsReadRefusal}
 use Rattle.std.specs.Option.{option_map_or}
 use Rattle.msi_container_view.specs.Extents.{Extent, size_of}
 use Rattle.msi_container_view.specs.Views.{View, ReadsMore, contents_in, extents_at, streams_at}
-use Rattle.msi_database_schema.specs.Keys.{table_key, string_pool_name, string_data_name}
+use Rattle.msi_database_schema.specs.Keys.{is_stream_name, stream_key, table_key, string_pool_name, string_data_name}
 use Rattle.msi_database_schema.specs.System.{tables_name, columns_name, validation_name}
 use Rattle.msi_database.specs.Database.{Database}
 use Rattle.msi_database.specs.Transforming.{database_read}
@@ -52,6 +52,10 @@ pub record Catalogued : Type 0 where
 -- how many bytes the stream of a name has
 abbrev pub size_at : List ℕ → View → ℕ
 size_at name v = option_map_or size_of (extents_at name v.streams) 0
+
+-- the pieces of the stream of this name, where a stream may have it
+abbrev pub extents_named : List ℕ → List (List ℕ × List Extent) → Option (List Extent)
+extents_named name located = if is_stream_name name then extents_at (stream_key name) located else None
 
 -- how many bytes pieces have, as far as the type of the number tells
 abbrev pub bytes_counted : List Extent → ℕ

@@ -230,14 +230,12 @@ pub(crate) fn look_at_all<S: Seekable + Drop>(
 {
     look(alloc, container, catalog)?;
     match catalog {
-        Some(catalog) => {
-            let Catalog {
-                pool: _,
-                tables,
-                streams,
-            } = catalog;
-            load_tables_of(alloc, container, streams, tables.as_slice())
-        }
+        Some(catalog) => load_tables_of(
+            alloc,
+            container,
+            &mut catalog.streams,
+            catalog.tables.as_slice(),
+        ),
         None => unreachable!(),
     }
 }

@@ -7,8 +7,7 @@ ghost use Rattle.msi_database_schema.specs.Keys.{table_key as key_of};
 ghost use Rattle.msi_database_schema.specs.System.{columns_name, tables_name, validation_name};
 ghost use Rattle.msi_query.specs.QueryTrees.{query_of};
 ghost use Rattle.msi_view.specs.Looking.{AreStreamsOf, AreTablesLoaded, IsLoaded, IsSchemaLoaded, ReadsStreams};
-ghost use Rattle.msi_view.specs.Looking.{root_in};
-ghost use Rattle.msi_view.specs.Looking.{table_keys, tables_read};
+ghost use Rattle.msi_view.specs.Looking.{root_in, table_keys, tables_read};
 
 use msi_base::Error;
 use msi_container_device::Seekable;

@@ -1,8 +1,8 @@
 //! A package that is looked at.
 
 ghost use Rattle.std.specs.Prelude.{◌≡◌, ℕ, List, [], ◌∷◌, ◌++◌, ◌⊎◌, Err, IfErr, IfOk, IsErrOf, Ok, OnOk, Some, not};
-ghost use Rattle.std.specs.Prelude.{MatchOption, None, is_none, is_some, map, option_map, unwrap_or, ◌&&◌};
-ghost use Rattle.std.specs.Prelude.{if◌then◌else◌};
+ghost use Rattle.std.specs.Prelude.{MatchOption, is_none, is_some, map, option_map, unwrap_or, ◌&&◌};
+ghost use Rattle.std.specs.Option.{option_copied};
 ghost use Rattle.std.specs.FinMap.{entries};
 ghost use Rattle.std.specs.Io.KnownBytes.{Appends};
 ghost use Rattle.msi_base.specs.declared.errors.ErrorKind.TheVariants.{InvalidData, InvalidInput, Io, NotFound};
@@ -21,8 +21,8 @@ ghost use Rattle.msi_pool.specs.Pool.{Pool};
 ghost use Rattle.msi_query.specs.Selected.{Selects};
 ghost use Rattle.msi_query.specs.Selection.{relation_of};
 ghost use Rattle.msi_table.specs.Tables.{TableDef};
-ghost use Rattle.msi_view.specs.Looking.{IsCatalog, IsPartRefusal, ReadsStreams, bytes_counted};
-ghost use Rattle.msi_view.specs.Looking.{catalog_names, database_seen, pool_names, root_in, table_steps, tables_read};
+ghost use Rattle.msi_view.specs.Looking.{IsCatalog, IsPartRefusal, ReadsStreams, bytes_counted, catalog_names};
+ghost use Rattle.msi_view.specs.Looking.{database_seen, extents_named, pool_names, root_in, table_steps, tables_read};
 ghost use Rattle.msi.specs.Kinds.{clsid_of};
 ghost use Rattle.msi.specs.Meaning.{RawPoolIs, SummaryIs, has_pool, has_summary, has_texts, reads_pool, reads_summary};
 ghost use Rattle.msi.specs.Meaning.{reads_texts};
@@ -31,8 +31,8 @@ use crate::catalog::{Catalog, look, look_for, read_pool};
 use msi::compound::Name;
 use msi::parts::{accepted_key, checked_key};
 use msi::{CodePage, PackageType, Rows, Seekable, Select, Source, SummaryInfo, Table, reasons};
-use msi_base::{Error, ErrorKind};
-use msi_container_view::{ContainerView, Located, byte_count};
+use msi_base::{Error, ErrorKind, Items};
+use msi_container_view::{ContainerView, Extent, Located, byte_count};
 use msi_database_schema::names::{signature_key, summary_key};
 use msi_query_rows::select_rows;
 use msi_summary::parts::summary_of;
@@ -124,25 +124,29 @@ impl<S: Source> View<S> {
         self.container.streams()
     }
 
+    fn extents_of_stream(&self, name: &str) -> Option<&Items<Extent>>
+        ensures { option_copied result ≡ extents_named name.now self.now.streams }
+    {
+        match accepted_key(name) {
+            Some(key) => self.container.streams().get(&key),
+            None => None,
+        }
+    }
+
     /// Returns whether there is a stream of this name, as [`Package::has_stream`](msi::Package::has_stream) does. It
     /// takes no memory.
     pub fn has_stream(&self, name: &str) -> bool
         ensures { result ≡ (is_stream_name name.now && is_some (extents_at (stream_key name.now) self.now.streams)) }
     {
-        match accepted_key(name) {
-            Some(key) => self.container.streams().get(&key).is_some(),
-            None => false,
-        }
+        self.extents_of_stream(name).is_some()
     }
 
     /// Returns how many bytes the stream of this name has, or nothing where there is none or no stream may have the
     /// name. It takes no memory.
     pub fn stream_size(&self, name: &str) -> Option<u64>
-        ensures { result ≡ (if is_stream_name name.now
-            then option_map bytes_counted (extents_at (stream_key name.now) self.now.streams) else None) }
+        ensures { result ≡ option_map bytes_counted (extents_named name.now self.now.streams) }
     {
-        let key = accepted_key(name)?;
-        match self.container.streams().get(&key) {
+        match self.extents_of_stream(name) {
             Some(extents) => Some(byte_count(extents.as_slice())),
             None => None,
         }
@@ -236,6 +240,8 @@ impl<S: Seekable + Drop> View<S> {
     /// if a system table can't be read, or if they describe no tables; with `Io` if a call of the source fails, or with
     /// `OutOfMemory`.
     pub fn load_tables(&mut self) -> Result<(), Error>
+        ensures ok { OnOk result ((file : List ℕ) → Tells self.old.held file
+            → (pool : Pool) × (tables : List TableDef) × IsCatalog (root_in file self.old) pool tables) }
         ensures reads { ReadsStreams self.old self.new catalog_names }
         ensures kind { IfErr result (IsPartRefusal S.can_fail self.old table_steps) }
     {
@@ -247,6 +253,8 @@ impl<S: Seekable + Drop> View<S> {
     /// # Errors
     /// Fails as `load_tables` does.
     pub fn load_rows(&mut self, query: &Select) -> Result<(), Error>
+        ensures ok { OnOk result ((file : List ℕ) → Tells self.old.held file
+            → (pool : Pool) × (tables : List TableDef) × IsCatalog (root_in file self.old) pool tables) }
         ensures reads { ReadsStreams self.old self.new
             (catalog_names ++ map key_of (tables_read query.now)) }
         ensures kind { IfErr result (IsPartRefusal S.can_fail self.old table_steps) }

@@ -21,8 +21,10 @@ use Rattle.msi_table_values.specs.Columns.{ColumnDef}
 use Rattle.msi.specs.Meaning.{Passes, RawPoolIs, has_pool, has_texts, reads_pool, reads_schema, reads_texts}
 use Rattle.msi.proofs.meaning.AgreementLemmas.{schema_same, stored_same}
 use Rattle.msi.proofs.reading.OpenStepLemmas.{schema_stops, stops_after}
-use Rattle.msi_view.specs.Looking.{AreStreamsOf, Catalogued, IsCatalog, IsLoaded, IsLook, IsPartRefusal, root_in, table_steps}
+use Rattle.msi_container_device.specs.Held.{bytes_told}
+use Rattle.msi_view.specs.Looking.{AreStreamsOf, Catalogued, IsCatalog, IsLoaded, IsLook, IsPartRefusal, IsSchemaLoaded, root_in, table_steps}
 use Rattle.msi_view.proofs.catalog_lemmas.PartLemmas.{refused_by_steps}
+use Rattle.msi_view.proofs.loading_lemmas.LoadedLemmas.{root_on}
 
 -- no stream was read yet
 none_read : (name : List ℕ) → stream_at name (entries (empty {X = List ℕ} {R = name_cmp})) ≡ None
@@ -38,8 +40,7 @@ described_loaded : (root loaded : Streams) (pool : Pool) (columns : List ColumnD
 described_loaded root loaded pool columns name is = ap (option_map (map (row_values pool.places))) (stored_same root loaded pool.long columns name is)
 
 pub schema_loaded : (root loaded : Streams) (pool : Pool)
-    → IsLoaded root loaded (table_key validation_name) × IsLoaded root loaded (table_key tables_name) × IsLoaded root loaded (table_key columns_name)
-    → schema_in loaded pool ≡ schema_in root pool
+    → IsSchemaLoaded root loaded → schema_in loaded pool ≡ schema_in root pool
 schema_loaded root loaded pool are = schema_same root loaded pool pool (record {
   tables = described_loaded root loaded pool tables_columns tables_name are.1;
   columns = described_loaded root loaded pool columns_columns columns_name are.2;
@@ -70,6 +71,18 @@ schema_refused can_fail v loaded raw kind held one same refused = refused_by_ste
 
 -- what was looked at before
 pub looked_at : (v : View) (catalog : Option Catalogued) (c : Catalogued) → catalog ≡ Some c → IsLook v catalog
-    → (file : List ℕ) → Tells v.held file → IsCatalog (root_in file v) c.pool c.tables × AreStreamsOf (root_in file v) c.streams
+    → (file : List ℕ) → Tells v.held file → IsCatalog (root_in file v) c.pool c.tables × AreStreamsOf (root_in file v) c.streams × IsSchemaLoaded (root_in file v) c.streams
 looked_at v catalog c is look file told =
-    subst (λ (o : Option Catalogued). IfSome o (λ c. IsCatalog (root_in file v) c.pool c.tables × AreStreamsOf (root_in file v) c.streams)) is (look file told)
+    subst (λ (o : Option Catalogued). IfSome o (λ c. IsCatalog (root_in file v) c.pool c.tables × AreStreamsOf (root_in file v) c.streams × IsSchemaLoaded (root_in file v) c.streams)) is (look file told)
+
+-- it stays so while more streams are read
+pub still_looked : (mid new : View) (catalog : Option Catalogued) (c : Catalogued) (after : Streams) → bytes_told new.held ≡ bytes_told mid.held → new.streams ≡ mid.streams
+    → catalog ≡ Some c → IsLook mid catalog
+    → ((file : List ℕ) → Tells mid.held file → AreStreamsOf (root_in file mid) c.streams → AreStreamsOf (root_in file mid) after)
+    → ((file : List ℕ) → Tells mid.held file → (other : List ℕ) → IsLoaded (root_in file mid) c.streams other → IsLoaded (root_in file mid) after other)
+    → IsLook new (Some (record { pool = c.pool; tables = c.tables; streams = after }))
+still_looked mid new catalog c after tells same is look streams others =
+    root_on new mid (sym tells) (sym same) (λ root. IsCatalog root c.pool c.tables × AreStreamsOf root after × IsSchemaLoaded root after)
+    (λ file told.
+    let h = looked_at mid catalog c is look file told in
+    (h.0, streams file told h.1, (others file told (table_key validation_name) h.2.0, others file told (table_key tables_name) h.2.1, others file told (table_key columns_name) h.2.2)))

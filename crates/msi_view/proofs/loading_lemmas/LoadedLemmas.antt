@@ -80,7 +80,7 @@ module _ (key : List ℕ → List ℕ) (old mid : View) (start before after : St
       → ((file : List ℕ) → Tells old.held file → AreStreamsOf (root_in file old) start → AreStreamsOf (root_in file old) before)
       → ((file : List ℕ) → Tells old.held file → AreStreamsOf (root_in file old) start → AreLoaded old before ts file)
       → OnOk r ((file : List ℕ) → Tells mid.held file → AreStreamsOf (root_in file mid) before → AreLoaded mid after us file)
-      → OnOk r ((file : List ℕ) → Tells mid.held file → (other : List ℕ) → IsLoaded (root_in file mid) before other → IsLoaded (root_in file mid) after other)
+      → ((file : List ℕ) → Tells mid.held file → (other : List ℕ) → IsLoaded (root_in file mid) before other → IsLoaded (root_in file mid) after other)
       → OnOk r ((file : List ℕ) → Tells old.held file → AreStreamsOf (root_in file old) start → AreLoaded old after tables file)
   joined_loaded (Err e) tells same are streams first second others = tt
   joined_loaded (Ok x) tells same are streams first second others = λ file told known.
@@ -88,15 +88,6 @@ module _ (key : List ℕ → List ℕ) (old mid : View) (start before after : St
       (λ table is. root_on old mid tells same (λ root. IsLoaded root before (key table) → IsLoaded root after (key table)) (λ file told. others file told (key table)) file told is)
       (first file told known)
       (root_on old mid tells same (λ root. AreStreamsOf root before → All (λ table. IsLoaded root after (key table)) us) second file told (streams file told known))
-
-module _ (old mid : View) (start before after : Streams) where
-  pub still_loaded : {A E : Type 0} (r : Result A E) → bytes_told mid.held ≡ bytes_told old.held → mid.streams ≡ old.streams
-      → ((file : List ℕ) → Tells old.held file → (other : List ℕ) → IsLoaded (root_in file old) start other → IsLoaded (root_in file old) before other)
-      → OnOk r ((file : List ℕ) → Tells mid.held file → (other : List ℕ) → IsLoaded (root_in file mid) before other → IsLoaded (root_in file mid) after other)
-      → OnOk r ((file : List ℕ) → Tells old.held file → (other : List ℕ) → IsLoaded (root_in file old) start other → IsLoaded (root_in file old) after other)
-  still_loaded (Err e) tells same first second = tt
-  still_loaded (Ok x) tells same first second = λ file told other is.
-      root_on old mid tells same (λ root. IsLoaded root before other → IsLoaded root after other) (λ file told. second file told other) file told (first file told other is)
 
 -- the tables of several sides
 pub sides_loaded : {X A E : Type 0} (r : Result A E) (key : List ℕ → List ℕ) (table : X → List ℕ) (v : View) (start after : Streams) (tables : List (List ℕ)) (xs : List X) → tables ≡ map table xs

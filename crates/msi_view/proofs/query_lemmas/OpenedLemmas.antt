@@ -36,7 +36,7 @@ use Rattle.msi_view.proofs.query_lemmas.RelationLemmas.{relation_reads}
 
 -- STREAMS DESCRIBE ONE CATALOG
 
-listed_again : (long : Bool) (tables : List TableDef) → AreAsLong long tables → map (table_with long) (schema_listed tables) ≡ tables
+pub listed_again : (long : Bool) (tables : List TableDef) → AreAsLong long tables → map (table_with long) (schema_listed tables) ≡ tables
 listed_again long [] h = refl
 listed_again long (t ∷ ts) h = λ i. record { name = t.name; columns = t.columns; long = sym h.0 i } ∷ listed_again long ts h.1 i
 

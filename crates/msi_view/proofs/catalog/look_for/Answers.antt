@@ -6,23 +6,17 @@ use Rattle.msi_container_view.specs.Views.{View}
 use Rattle.msi_database_schema.specs.Keys.{table_key as key_of}
 use Rattle.msi_database_storage.specs.Streams.{Streams}
 use Rattle.msi_query.specs.Queries.{Query}
-use Rattle.msi_view.specs.Looking.{AreStreamsOf, Catalogued, IsCatalog, IsLoaded, ReadsStreams, catalog_names, root_in, tables_read}
-use Rattle.msi_view.proofs.catalog_lemmas.SchemaLemmas.{looked_at}
+use Rattle.msi_view.specs.Looking.{Catalogued, IsLoaded, ReadsStreams, catalog_names, root_in, tables_read}
+use Rattle.msi_view.proofs.catalog_lemmas.SchemaLemmas.{looked_at, still_looked}
 use Rattle.msi_view.proofs.loading_lemmas.CountedLemmas.{reads_both}
 use Rattle.msi_view.proofs.loading_lemmas.LoadedLemmas.{root_on}
 use Rattle.msi_view.proofs.catalog.look_for.Goals as goal
 
 pub returns-clause-look : goal.returns-clause-look
-returns-clause-look g c = λ file told.
-    let mid : View = c.look.new.container in
-    let new : View = c.load_query.new.container in
+returns-clause-look g c =
     let before : Catalogued = record { pool = c.catalog.inside.pool; tables = c.catalog.inside.tables; streams = entries c.catalog.inside.streams } in
-    let after : Streams = entries c.load_query.new.streams in
-    root_on new mid (sym c.load_query.ensures.reads.told) (sym c.load_query.ensures.reads.streams)
-    (λ root. IsCatalog root before.pool before.tables × AreStreamsOf root after)
-    (λ file told.
-    let h = looked_at mid c.look.new.catalog before (c.in-Some.is ∙ ap Some (sym c.catalog.view_is)) c.look.ensures.look file told in
-    (h.0, c.load_query.ensures.streams file told h.1)) file told
+    still_looked c.look.new.container c.load_query.new.container c.look.new.catalog before (entries c.load_query.new.streams) c.load_query.ensures.reads.told c.load_query.ensures.reads.streams
+    (c.in-Some.is ∙ ap Some (sym c.catalog.view_is)) c.look.ensures.look c.load_query.ensures.streams c.load_query.ensures.others
 
 pub returns-clause-loaded : goal.returns-clause-loaded
 returns-clause-loaded g c =

@@ -3,13 +3,11 @@ use Rattle.std.specs.FinMap.{entries}
 use Rattle.msi_container_format.specs.Streams as maps
 use Rattle.msi_container_view.specs.Reading.{Tells}
 use Rattle.msi_container_view.specs.Views.{View}
-use Rattle.msi_database_schema.specs.Keys.{table_key}
-use Rattle.msi_database_schema.specs.System.{columns_name, tables_name, validation_name}
 use Rattle.msi_database_storage.specs.Agreement.{schema_in}
 use Rattle.msi_database_storage.specs.Streams.{Streams}
 use Rattle.msi_pool.specs.Pool.{Pool}
 use Rattle.msi.proofs.reading.OpenStepLemmas.{passed_on}
-use Rattle.msi_view.specs.Looking.{AreStreamsOf, IsLoaded, IsPartRefusal, root_in, table_steps}
+use Rattle.msi_view.specs.Looking.{AreStreamsOf, IsPartRefusal, IsSchemaLoaded, root_in, table_steps}
 use Rattle.msi_view.proofs.catalog_lemmas.SchemaLemmas.{no_streams_of, schema_loaded, schema_refused}
 use Rattle.msi_view.proofs.loading_lemmas.LoadedLemmas.{root_on}
 use Rattle.msi_view.proofs.catalog.read_catalog.Goals as goal
@@ -23,8 +21,7 @@ returns-in_err-tables-clause-kind g c =
     let same : (file : List ℕ) → Tells v.held file → schema_in loaded pool ≡ schema_in (root_in file v) pool =
     λ file told. schema_loaded (root_in file v) loaded pool
     (root_on v mid c.read_pool.ensures.reads.told c.read_pool.ensures.reads.streams
-    (λ root. AreStreamsOf root (entries c.new-streams.result)
-    → IsLoaded root loaded (table_key validation_name) × IsLoaded root loaded (table_key tables_name) × IsLoaded root loaded (table_key columns_name))
+    (λ root. AreStreamsOf root (entries c.new-streams.result) → IsSchemaLoaded root loaded)
     c.in_ok-load_schema.ensures.loaded file told
     (subst (λ (m : maps.Streams). AreStreamsOf (root_in file v) (entries m)) (sym c.new-streams.ensures) (no_streams_of (root_in file v)))) in
     passed_on (IsPartRefusal g.S.Source.can_fail v table_steps) c.from_residual-in_err-tables.result c.in_err-tables.field-0.0 c.from_residual-in_err-tables.ensures.1
@@ -38,13 +35,13 @@ returns-clause-ok g c = λ file told.
     let pool : Pool = c.in_ok-pool.pool in
     let none : AreStreamsOf (root_in file v) (entries c.new-streams.result) =
     subst (λ (m : maps.Streams). AreStreamsOf (root_in file v) (entries m)) (sym c.new-streams.ensures) (no_streams_of (root_in file v)) in
-    let same : schema_in loaded pool ≡ schema_in (root_in file v) pool =
-    schema_loaded (root_in file v) loaded pool
-    (root_on v mid c.read_pool.ensures.reads.told c.read_pool.ensures.reads.streams
-    (λ root. AreStreamsOf root (entries c.new-streams.result)
-    → IsLoaded root loaded (table_key validation_name) × IsLoaded root loaded (table_key tables_name) × IsLoaded root loaded (table_key columns_name))
-    c.in_ok-load_schema.ensures.loaded file told none) in (
+    let schema : IsSchemaLoaded (root_in file v) loaded =
+    root_on v mid c.read_pool.ensures.reads.told c.read_pool.ensures.reads.streams
+    (λ root. AreStreamsOf root (entries c.new-streams.result) → IsSchemaLoaded root loaded)
+    c.in_ok-load_schema.ensures.loaded file told none in
+    let same : schema_in loaded pool ≡ schema_in (root_in file v) pool = schema_loaded (root_in file v) loaded pool schema in (
       record { pools = c.in_ok-pool.ensures.ok file told; schema = sym same ∙ c.in_ok-tables.ensures.ok; long = c.in_ok-tables.ensures.long },
       root_on v mid c.read_pool.ensures.reads.told c.read_pool.ensures.reads.streams (λ root. AreStreamsOf root (entries c.new-streams.result) → AreStreamsOf root loaded)
           c.in_ok-load_schema.ensures.streams file told none,
+      schema,
     )

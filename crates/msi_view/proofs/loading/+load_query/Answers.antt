@@ -3,9 +3,9 @@ use Rattle.std.specs.FinMap.{entries}
 use Rattle.msi_database_schema.specs.Keys.{table_key as key_of}
 use Rattle.msi_database_storage.specs.Streams.{Streams}
 use Rattle.msi_query.specs.QueryTrees.{query_of}
-use Rattle.msi_view.specs.Looking.{AreStreamsOf, tables_read}
+use Rattle.msi_view.specs.Looking.{AreStreamsOf, IsLoaded, tables_read}
 use Rattle.msi_view.proofs.loading_lemmas.CountedLemmas.{reads_joined}
-use Rattle.msi_view.proofs.loading_lemmas.LoadedLemmas.{joined_loaded, root_on, sides_loaded, still_loaded}
+use Rattle.msi_view.proofs.loading_lemmas.LoadedLemmas.{joined_loaded, root_on, sides_loaded}
 use Rattle.msi_view.proofs.loading.+load_query.Goals as goal
 
 pub returns-in_ok-load_query-in-Join-clause-reads : goal.returns-in_ok-load_query-in-Join-clause-reads
@@ -33,9 +33,12 @@ returns-in_ok-load_query-in-Join-clause-loaded g t c =
     c.load_query.ensures.streams c.in_ok-load_query-in-Join.ensures.loaded c.load_query-in-Join.ensures.loaded c.load_query-in-Join.ensures.others
 
 pub returns-in_ok-load_query-in-Join-clause-others : goal.returns-in_ok-load_query-in-Join-clause-others
-returns-in_ok-load_query-in-Join-clause-others g t c =
-    still_loaded c.args.container.now c.load_query.new.container (entries c.args.streams.now) (entries c.load_query.new.streams) (entries c.load_query-in-Join.new.streams)
-    c.load_query-in-Join.result c.load_query.ensures.reads.told c.load_query.ensures.reads.streams c.in_ok-load_query-in-Join.ensures.others c.load_query-in-Join.ensures.others
+returns-in_ok-load_query-in-Join-clause-others g t c = λ file told other is.
+    let before : Streams = entries c.load_query.new.streams in
+    let after : Streams = entries c.load_query-in-Join.new.streams in
+    root_on c.args.container.now c.load_query.new.container c.load_query.ensures.reads.told c.load_query.ensures.reads.streams
+    (λ root. IsLoaded root before other → IsLoaded root after other) (λ file told. c.load_query-in-Join.ensures.others file told other) file told
+    (c.load_query.ensures.others file told other is)
 
 pub returns-in-Product-clause-loaded : goal.returns-in-Product-clause-loaded
 returns-in-Product-clause-loaded g t c =

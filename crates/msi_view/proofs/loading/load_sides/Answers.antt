@@ -48,3 +48,11 @@ loop-side-preserved g c =
           root_on old mid c.loop-side.invariant.reads.told c.loop-side.invariant.reads.streams (λ root. IsLoaded root before other → IsLoaded root after other) (λ file told. c.in_ok-load_table.ensures.others file told other) file told
           (c.loop-side.invariant.others file told other is);
     }
+
+pub returns-in_err-load_table-clause-others : goal.returns-in_err-load_table-clause-others
+returns-in_err-load_table-clause-others g c = λ file told other is.
+    let before : Streams = entries c.loop-side.streams in
+    let after : Streams = entries c.load_table.new.streams in
+    root_on c.args.container.now c.loop-side.container c.loop-side.invariant.reads.told c.loop-side.invariant.reads.streams
+    (λ root. IsLoaded root before other → IsLoaded root after other) (λ file told. c.load_table.ensures.others file told other) file told
+    (c.loop-side.invariant.others file told other is)
