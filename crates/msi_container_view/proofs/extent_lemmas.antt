@@ -2,3 +2,4 @@
 pub mod ExtentLemmas
 pub mod MiniRunLemmas
 pub mod SectorRunLemmas
+pub mod PartLemmas

@@ -1,7 +1,8 @@
 //! Reading the pieces that a stream is, one behind the other.
 
-ghost use Rattle.std.specs.Prelude.{◌≡◌, ℕ, List, ◌+◌, ◌-◌, ◌≤◌, ◌^◌, ◌⊎◌, min, IfErr, IfOk, OnOk};
+ghost use Rattle.std.specs.Prelude.{◌≡◌, ℕ, List, ◌+◌, ◌-◌, ◌≤◌, ◌^◌, ◌⊎◌, min, IfErr, IfOk, OnErr, OnOk};
 ghost use Rattle.std.specs.Io.KnownBytes.{Appends};
+ghost use Rattle.msi_base.specs.Faults.{AppendsPart};
 ghost use Rattle.msi_base.specs.declared.errors.ErrorKind.TheVariants.{Io, OutOfMemory};
 ghost use Rattle.msi_container_device.specs.Held.{bytes_told};
 ghost use Rattle.msi_container_view.specs.Extents.{bytes_of, size_of};
@@ -54,6 +55,8 @@ pub(crate) fn copy_extents<S: Seekable, W: Write>(
 ) -> Result<(), Error>
     ensures ok { OnOk result ((file : List ℕ) → Tells reading.old.held file
         → Appends (W.contents to.old) (W.contents to.new) (bytes_of file extents.now)) }
+    ensures part { OnErr result ((file : List ℕ) → Tells reading.old.held file
+        → AppendsPart (W.contents to.old) (W.contents to.new) (bytes_of file extents.now)) }
     ensures told { bytes_told reading.new.held ≡ bytes_told reading.old.held }
     ensures count { reading.new.bytes_read ≤ reading.old.bytes_read + size_of extents.now }
     ensures kinds { IfErr result (λ kind. (kind ≡ Io) ⊎ (kind ≡ OutOfMemory)) }

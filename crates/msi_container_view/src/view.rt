@@ -1,10 +1,11 @@
 //! A container over a source, whose streams are read when they are asked for.
 
-ghost use Rattle.std.specs.Prelude.{◌≡◌, ℕ, List, [], ◌⊎◌, IfErr, IfOk, IsErrOf, is_some, unwrap_or};
-ghost use Rattle.std.specs.Prelude.{option_map};
+ghost use Rattle.std.specs.Prelude.{◌≡◌, ℕ, List, [], ◌⊎◌, IfErr, IfOk, IsErrOf, IsOk, OnErr};
+ghost use Rattle.std.specs.Prelude.{is_none, is_some, option_map, true, unwrap_or};
 ghost use Rattle.std.specs.Option.{option_map_or};
 ghost use Rattle.std.specs.FinMap as finite;
 ghost use Rattle.std.specs.Io.KnownBytes.{Appends};
+ghost use Rattle.msi_base.specs.Faults.{AppendsPart};
 ghost use Rattle.msi_base.specs.declared.errors.ErrorKind.TheVariants.{InvalidData, Io, OutOfMemory};
 ghost use Rattle.msi_container_device.specs.Held.{bytes_told};
 ghost use Rattle.msi_container_format.specs.declared.contents.Contents as held;
@@ -157,11 +158,12 @@ impl<S: Seekable + Drop> ContainerView<S> {
     /// Returns the bytes of the stream of a name, if there is one.
     ///
     /// # Errors
-    /// Fails with `Io` if a call of the source fails, or with `OutOfMemory`. Then nothing has changed but for the
-    /// source's position.
+    /// Fails with `Io` if a call of the source fails, or with `OutOfMemory`; never where there is no such stream. Then
+    /// nothing has changed but for the source's position.
     pub fn read(&mut self, alloc: Global, name: &Name) -> Result<Option<Vec<u8>>, Error>
         ensures ok { IfOk result (λ found. (file : List ℕ) → Tells self.old.held file
             → option_map (λ v. v.items) found ≡ finite.get (streams_at file self.old.streams) name.now) }
+        ensures missing { is_none (extents_at name.now self.old.streams) ≡ true → IsOk result }
         ensures same { ReadsMore self.old self.new
             (option_map_or size_of (extents_at name.now self.old.streams) 0) }
         ensures kinds { IfErr result (IsReadRefusal S.can_fail) }
@@ -179,13 +181,17 @@ impl<S: Seekable + Drop> ContainerView<S> {
     /// such a stream.
     ///
     /// # Errors
-    /// Fails with `Io` if a call of the source or the writer fails, or with `OutOfMemory`. Then some of the bytes may
-    /// have been written.
+    /// Fails with `Io` if a call of the source or the writer fails, or with `OutOfMemory`; never where there is no such
+    /// stream. Then a prefix of the bytes may have been written.
     pub fn copy<W: Write>(&mut self, alloc: Global, name: &Name, to: &mut W) -> Result<bool, Error>
         ensures there { IfOk result (λ there. there ≡ is_some (extents_at name.now self.old.streams)) }
         ensures ok { IfOk result (λ _. (file : List ℕ) → Tells self.old.held file
             → Appends (W.contents to.old) (W.contents to.new)
             (unwrap_or (finite.get (streams_at file self.old.streams) name.now) [])) }
+        ensures part { OnErr result ((file : List ℕ) → Tells self.old.held file
+            → AppendsPart (W.contents to.old) (W.contents to.new)
+            (unwrap_or (finite.get (streams_at file self.old.streams) name.now) [])) }
+        ensures missing { is_none (extents_at name.now self.old.streams) ≡ true → IsOk result }
         ensures same { ReadsMore self.old self.new
             (option_map_or size_of (extents_at name.now self.old.streams) 0) }
         ensures kinds { IfErr result (λ kind. (kind ≡ Io) ⊎ (kind ≡ OutOfMemory)) }

@@ -1,5 +1,5 @@
 -- What stays of a view while more of it is read, and single streams.
-use Rattle.std.proofs.Common.{◌≡◌, ℕ, ◌⊎◌, Bool, true, false, ◌&&◌, subst, option_map, Result, Ok, Err, IfErr, IfOk, inl, inr, List, [], ◌∷◌, Option, Some, None, is_some, unwrap_or, arith, sym, ap, ◌∙◌, refl}
+use Rattle.std.proofs.Common.{◌≡◌, ℕ, ◌⊎◌, Bool, length, true, false, ◌&&◌, subst, option_map, Result, Ok, Err, IfErr, IfOk, inl, inr, List, [], ◌∷◌, Option, Some, None, is_some, unwrap_or, arith, sym, ap, ◌∙◌, refl}
 use Rattle.std.specs.Prelude.{IsSome, IsSomeAnd, MatchOption}
 use Rattle.std.proofs.lemmas.Bool.{false≢true}
 use Rattle.msi_container_view.proofs.ViewLemmas.{bytes_are}
@@ -20,7 +20,11 @@ use Rattle.msi.specs.Opening.{StopsAmong}
 use Rattle.msi.proofs.reading.OpenStepLemmas.{at_bytes, not_memory}
 use Rattle.msi_pool.specs.Pool.{Pool}
 use Rattle.msi_table.specs.Tables.{TableDef}
-use Rattle.std.specs.Prelude.{OnOk, if◌then◌else◌}
+use Rattle.std.specs.Io.KnownBytes.{Appends}
+use Rattle.std.specs.Prelude.{OnErr, OnOk, if◌then◌else◌}
+use Rattle.std.proofs.KnownBytes.{Appends-nil}
+use Rattle.std.proofs.Math.Seq.{take-length}
+use Rattle.msi_base.specs.Faults.{AppendsPart}
 use Rattle.std.proofs.lemmas.Option.{none-some, same_Some}
 use Rattle.msi_view.specs.Looking.{Catalogued, IsCatalog, AreStreamsOf, IsLook, IsPartRefusal, IsSchemaLoaded, ReadsStreams, root_in, size_at}
 
@@ -117,6 +121,24 @@ pub copied_any : {A E : Type 0} (r : Result A E) (v : View) (name : List ℕ) (P
     → OnOk r ((file : List ℕ) → Tells v.held file → P (unwrap_or (stream_at name (root_in file v)) []))
 copied_any (Err e) v name P copied = tt
 copied_any (Ok x) v name P copied = λ file told. subst (λ (o : Option (List ℕ)). P (unwrap_or o [])) (sym (stream_found file v name)) (copied file told)
+
+-- and one whose copying failed
+pub part_any : {A E : Type 0} (r : Result A E) (v : View) (name : List ℕ) (P : List ℕ → Type 0)
+    → OnErr r ((file : List ℕ) → Tells v.held file → P (unwrap_or (get (streams_at file v.streams) name) []))
+    → OnErr r ((file : List ℕ) → Tells v.held file → P (unwrap_or (stream_at name (root_in file v)) []))
+part_any (Ok x) v name P copied = tt
+part_any (Err e) v name P copied = λ file told. subst (λ (o : Option (List ℕ)). P (unwrap_or o [])) (sym (stream_found file v name)) (copied file told)
+
+pub on_failed : {A E P : Type 0} (r : Result A E) → P → OnErr r P
+on_failed (Ok x) p = tt
+on_failed (Err e) p = p
+
+-- a prefix was written where nothing was, and where all was
+pub part_none : (a : Option (List ℕ)) (bytes : List ℕ) → AppendsPart a a bytes
+part_none a bytes = (0, omega arith, Appends-nil a)
+
+pub part_all : (a b : Option (List ℕ)) (bytes : List ℕ) → Appends a b bytes → AppendsPart a b bytes
+part_all a b bytes given = (length bytes, omega arith, subst (Appends a b) (sym (take-length bytes)) given)
 
 -- the pieces of a name that a stream may have
 pub named_told : {X : Type 0} (b : Bool) (key stream : List ℕ) (at : List ℕ → Option X) → Some key ≡ (if b then Some stream else None) → at key ≡ (if b then at stream else None)

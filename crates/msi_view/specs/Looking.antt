@@ -5,7 +5,8 @@ use Rattle.std.specs.FinMap.{entries}
 use Rattle.msi_base.specs.declared.errors.ErrorKind.{ErrorKind}
 use Rattle.msi_container_view.specs.Reading.{Tells, IsReadRefusal}
 use Rattle.std.specs.Option.{option_map_or}
-use Rattle.msi_container_view.specs.Extents.{Extent, size_of}
+use Rattle.msi_container_view.specs.declared.extents.Extent.{Extent}
+use Rattle.msi_container_view.specs.Extents.{size_of}
 use Rattle.msi_container_view.specs.Views.{View, ReadsMore, contents_in, extents_at, streams_at}
 use Rattle.msi_database_schema.specs.Keys.{is_stream_name, stream_key, table_key, string_pool_name, string_data_name}
 use Rattle.msi_database_schema.specs.System.{tables_name, columns_name, validation_name}

@@ -1,13 +1,14 @@
 //! A package that is looked at.
 
-ghost use Rattle.std.specs.Prelude.{◌≡◌, ℕ, List, [], ◌∷◌, ◌++◌, ◌⊎◌, Err, IfErr, IfOk, IsErrOf, Ok, OnOk, Some, not};
-ghost use Rattle.std.specs.Prelude.{MatchOption, is_none, is_some, map, option_map, unwrap_or, ◌&&◌};
+ghost use Rattle.std.specs.Prelude.{◌≡◌, ℕ, List, [], ◌∷◌, ◌++◌, ◌⊎◌, Err, IfErr, IfOk, IsErrOf, Ok, OnErr, OnOk, Some};
+ghost use Rattle.std.specs.Prelude.{IsOk, MatchOption, not, true, is_none, is_some, map, option_map, unwrap_or, ◌&&◌};
 ghost use Rattle.std.specs.Option.{option_copied};
 ghost use Rattle.std.specs.FinMap.{entries};
 ghost use Rattle.std.specs.Io.KnownBytes.{Appends};
 ghost use Rattle.msi_base.specs.declared.errors.ErrorKind.TheVariants.{InvalidData, InvalidInput, Io, NotFound};
 ghost use Rattle.msi_base.specs.declared.errors.ErrorKind.TheVariants.{OutOfMemory};
-ghost use Rattle.msi_base.specs.Refusals.{IsRefusal, first_refusal, unless_refused};
+ghost use Rattle.msi_base.specs.Faults.{AppendsPart};
+ghost use Rattle.msi_base.specs.Refusals.{AnswersFirst, IsRefusal, first_refusal, unless_refused};
 ghost use Rattle.msi_container_device.specs.Held.{bytes_told};
 ghost use Rattle.msi_container_format.specs.declared.contents.Contents as held;
 ghost use Rattle.msi_container_format.specs.Container.{Holds};
@@ -206,6 +207,7 @@ impl<S: Seekable + Drop> View<S> {
         ensures ok { IfOk result (λ summary. (file : List ℕ) → Tells self.old.held file
             → SummaryIs (root_in file self.old) summary) }
         ensures kind { IfErr result (IsPartRefusal S.can_fail self.old (has_summary ∷ reads_summary ∷ [])) }
+        ensures early { AnswersFirst ((is_none (extents_at summary_name self.old.streams), NotFound) ∷ []) result }
     {
         let Some(bytes) = self.container.read(self.alloc, &summary_key())? else {
             return Err(Error::new(ErrorKind::NotFound, reasons::NO_SUMMARY));
@@ -302,14 +304,18 @@ impl<S: Seekable + Drop> View<S> {
     /// Writes the bytes of the stream of this name to a writer, in pieces of at most 1 MiB. Only that stream is read.
     ///
     /// # Errors
-    /// Fails with `InvalidInput` if no stream may have this name, and otherwise with `NotFound` if there is none; with
-    /// `Io` if a call of the source or the writer fails, or with `OutOfMemory`. Then some of the bytes may have been
-    /// written.
+    /// Fails with `InvalidInput` if no stream may have this name, and otherwise with `NotFound` if there is none; if
+    /// neither applies, with `Io` if a call of the source or the writer fails, or with `OutOfMemory`. Then a prefix of
+    /// the bytes may have been written.
     pub fn read_stream<W: Write>(&mut self, name: &str, to: &mut W) -> Result<(), Error>
         ensures reads { ReadsStreams self.old self.new (stream_key name.now ∷ []) }
         ensures ok { OnOk result ((file : List ℕ) → Tells self.old.held file
             → MatchOption (stream_at (stream_key name.now) (root_in file self.old)) ⊥
             (λ bytes. Appends (W.contents to.old) (W.contents to.new) bytes)) }
+        ensures part { OnErr result ((file : List ℕ) → Tells self.old.held file → AppendsPart (W.contents to.old)
+            (W.contents to.new) (unwrap_or (stream_at (stream_key name.now) (root_in file self.old)) [])) }
+        ensures early { AnswersFirst ((not (is_stream_name name.now), InvalidInput)
+            ∷ (is_none (extents_at (stream_key name.now) self.old.streams), NotFound) ∷ []) result }
         ensures kind { IfErr result (λ kind. (kind ≡ Io) ⊎ (kind ≡ OutOfMemory)
             ⊎ (first_refusal ((not (is_stream_name name.now), InvalidInput)
             ∷ (is_none (extents_at (stream_key name.now) self.old.streams), NotFound) ∷ []) ≡ Some kind)) }
@@ -326,13 +332,16 @@ impl<S: Seekable + Drop> View<S> {
     /// Only that stream is read.
     ///
     /// # Errors
-    /// Fails with `Io` if a call of the source or the writer fails, or with `OutOfMemory`. Then some of the bytes may
-    /// have been written.
+    /// Fails with `Io` if a call of the source or the writer fails, or with `OutOfMemory`; never where there is no such
+    /// stream. Then a prefix of the bytes may have been written.
     pub fn copy_stream<W: Write>(&mut self, name: &Name, to: &mut W) -> Result<bool, Error>
         ensures reads { ReadsStreams self.old self.new (name.now ∷ []) }
         ensures there { IfOk result (λ there. there ≡ is_some (extents_at name.now self.old.streams)) }
         ensures ok { OnOk result ((file : List ℕ) → Tells self.old.held file → Appends (W.contents to.old)
             (W.contents to.new) (unwrap_or (stream_at name.now (root_in file self.old)) [])) }
+        ensures part { OnErr result ((file : List ℕ) → Tells self.old.held file → AppendsPart (W.contents to.old)
+            (W.contents to.new) (unwrap_or (stream_at name.now (root_in file self.old)) [])) }
+        ensures missing { is_none (extents_at name.now self.old.streams) ≡ true → IsOk result }
         ensures kinds { IfErr result (λ kind. (kind ≡ Io) ⊎ (kind ≡ OutOfMemory)) }
     {
         self.container.copy(self.alloc, name, to)

@@ -1,4 +1,5 @@
-use Rattle.std.proofs.Common.{rules, ◌≡◌, Some, None}
+use Rattle.std.proofs.Common.{rules, ◌≡◌, ◌∙◌, Some, None, is_none, ap, sym}
+use Rattle.std.proofs.lemmas.Bool.{false≢true}
 use Rattle.std.specs.FinMap.{entries, get}
 use Rattle.msi_container_view.specs.Views.{extents_at}
 use Rattle.msi_container_view.proofs.ViewLemmas.{found_some, found_none, counted_some, bytes_found, bytes_missing}
@@ -43,3 +44,10 @@ returns-in-None-clause-ok g c = λ file told.
     let listed : entries c.self.inside.streams ≡ c.args.self.now.streams = search rules in
     let none : None ≡ get c.self.inside.streams c.args.name.now = search rules in
     bytes_missing file c.args.self.now.streams c.args.name.now (found_none c.self.inside.streams c.args.self.now.streams c.args.name.now listed none)
+
+pub returns-in_err-bytes-in-Some-clause-missing : goal.returns-in_err-bytes-in-Some-clause-missing
+returns-in_err-bytes-in-Some-clause-missing g c = λ none.
+    let listed : entries c.self.inside.streams ≡ c.args.self.now.streams = search rules in
+    let found : Some c.as_slice.result.now ≡ get c.self.inside.streams c.args.name.now = search rules in
+    let there : extents_at c.args.name.now c.args.self.now.streams ≡ Some c.as_slice.result.now = found_some c.self.inside.streams c.args.self.now.streams c.args.name.now c.as_slice.result.now listed found in
+    absurd (false≢true (ap is_none (sym there) ∙ none))
