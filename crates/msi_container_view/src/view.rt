@@ -161,6 +161,7 @@ impl<S: Seekable + Drop> ContainerView<S> {
     /// Fails with `Io` if a call of the source fails, or with `OutOfMemory`; never where there is no such stream. Then
     /// nothing has changed but for the source's position.
     pub fn read(&mut self, alloc: Global, name: &Name) -> Result<Option<Vec<u8>>, Error>
+        ensures there { IfOk result (λ found. is_some found ≡ is_some (extents_at name.now self.old.streams)) }
         ensures ok { IfOk result (λ found. (file : List ℕ) → Tells self.old.held file
             → option_map (λ v. v.items) found ≡ finite.get (streams_at file self.old.streams) name.now) }
         ensures missing { is_none (extents_at name.now self.old.streams) ≡ true → IsOk result }

@@ -208,6 +208,7 @@ impl<S: Seekable + Drop> View<S> {
             → SummaryIs (root_in file self.old) summary) }
         ensures kind { IfErr result (IsPartRefusal S.can_fail self.old (has_summary ∷ reads_summary ∷ [])) }
         ensures early { AnswersFirst ((is_none (extents_at summary_name self.old.streams), NotFound) ∷ []) result }
+        ensures missing { IsErrOf result NotFound → is_none (extents_at summary_name self.old.streams) ≡ true }
     {
         let Some(bytes) = self.container.read(self.alloc, &summary_key())? else {
             return Err(Error::new(ErrorKind::NotFound, reasons::NO_SUMMARY));

@@ -12,7 +12,7 @@ use Rattle.msi_table_values.specs.Columns.{ColumnDef}
 use Rattle.msi_database_schema.specs.Keys.{table_key}
 use Rattle.msi_database_schema.specs.Schema.{table_with}
 use Rattle.msi_database_schema.specs.System.{validation_columns, validation_name}
-use Rattle.msi_database.specs.Database.{Database, columns_by_name, named_numbers}
+use Rattle.msi_database.specs.Database.{Database, named_numbers}
 use Rattle.msi_database.specs.Transforming.{database_read, read_with, shown_with}
 use Rattle.msi_database.proofs.keeping.KeptPartsLemmas.{parts_make}
 use Rattle.msi_database_storage.specs.Agreement.{DatabaseIs, is_shown, schema_in}

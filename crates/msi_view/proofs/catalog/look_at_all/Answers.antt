@@ -1,4 +1,4 @@
-use Rattle.std.proofs.Common.{◌≡◌, ◌∙◌, ℕ, List, Some, ap, subst, sym}
+use Rattle.std.proofs.Common.{◌∙◌, List, Some, ap, subst, sym}
 use Rattle.std.specs.FinMap.{entries}
 use Rattle.std.proofs.lemmas.Result.{on_ok_weaker}
 use Rattle.msi_container_view.specs.Views.{View}

@@ -1,4 +1,4 @@
-use Rattle.std.proofs.Common.{rules, ◌≡◌, ◌∙◌, Some, None, is_none, ap, sym}
+use Rattle.std.proofs.Common.{rules, ◌≡◌, ◌∙◌, Some, None, is_none, is_some, ap, sym}
 use Rattle.std.proofs.lemmas.Bool.{false≢true}
 use Rattle.std.specs.FinMap.{entries, get}
 use Rattle.msi_container_view.specs.Views.{extents_at}
@@ -51,3 +51,15 @@ returns-in_err-bytes-in-Some-clause-missing g c = λ none.
     let found : Some c.as_slice.result.now ≡ get c.self.inside.streams c.args.name.now = search rules in
     let there : extents_at c.args.name.now c.args.self.now.streams ≡ Some c.as_slice.result.now = found_some c.self.inside.streams c.args.self.now.streams c.args.name.now c.as_slice.result.now listed found in
     absurd (false≢true (ap is_none (sym there) ∙ none))
+
+pub returns-in_ok-bytes-in-Some-clause-there : goal.returns-in_ok-bytes-in-Some-clause-there
+returns-in_ok-bytes-in-Some-clause-there g c =
+    let listed : entries c.self.inside.streams ≡ c.args.self.now.streams = search rules in
+    let found : Some c.as_slice.result.now ≡ get c.self.inside.streams c.args.name.now = search rules in
+    sym (ap is_some (found_some c.self.inside.streams c.args.self.now.streams c.args.name.now c.as_slice.result.now listed found))
+
+pub returns-in-None-clause-there : goal.returns-in-None-clause-there
+returns-in-None-clause-there g c =
+    let listed : entries c.self.inside.streams ≡ c.args.self.now.streams = search rules in
+    let none : None ≡ get c.self.inside.streams c.args.name.now = search rules in
+    sym (ap is_some (found_none c.self.inside.streams c.args.self.now.streams c.args.name.now listed none))

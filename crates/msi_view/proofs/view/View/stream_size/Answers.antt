@@ -1,4 +1,4 @@
-use Rattle.std.proofs.Common.{rules, ◌≡◌, ◌∙◌, Some, None, ap, sym, option_map}
+use Rattle.std.proofs.Common.{rules, ◌≡◌, ◌∙◌, Some, ap, sym, option_map}
 use Rattle.std.specs.Option.{option_copied}
 use Rattle.msi_view.specs.Looking.{bytes_counted}
 use Rattle.msi_view.proofs.view.View.stream_size.Goals as goal
