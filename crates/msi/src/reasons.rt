@@ -2,9 +2,7 @@
 
 use msi_base::errors::Reason;
 
-pub const STORAGES: Reason = Reason(
-    "the package has storages below its root, and is only read",
-);
+pub const STORAGES: Reason = Reason("the package has storages below its root, and is only read");
 
 pub const NO_STREAM: Reason = Reason("there is no stream of this name");
 
