@@ -1,6 +1,6 @@
 //! A package that is looked at.
 
-use crate::stored_tables::tables_among;
+use crate::held_tables::tables_among;
 use msi::compound::Name;
 use msi::names::is_listed;
 use msi::{
