@@ -9,7 +9,6 @@ pub mod stream_files;
 mod writing;
 
 pub use held_tables::stored_tables;
-pub use msipkg_packages as packages;
 pub use opening::{look_at, open_to_look};
 pub use package_view::PackageView;
 pub use stored::StoredNames;
